@@ -1,4 +1,5 @@
-# Installs what is built. Each target proves and builds first where it has to; the program needs the C library alone.
+# Installs what is built. Each target proves and builds first where it has to; the program needs the
+# C library alone.
 #   make install PREFIX=/usr/local DESTDIR=
 #   make install-program          (the program, its clients and scripts without the library)
 #   make install-lib              (the library for C, C++ and Python without the program)

@@ -41,7 +41,8 @@ SIDE = 4096
 
 
 def rust_of(source):
-    """A source without its clauses, imports and module comments. A clause may take several lines."""
+    """A source without its clauses, imports and module comments. A clause may take several lines.
+    """
     kept = []
     open_braces = 0
     for line in source.splitlines():

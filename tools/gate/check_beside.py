@@ -34,7 +34,8 @@ def half_a_stamp(server):
 
 
 def pins_left_before_bye(server):
-    """Each turn: a planner pins and leaves, and a painter's collect after that keeps one version."""
+    """Each turn: a planner pins and leaves, and a painter's collect after that keeps one version.
+    """
     painter = Line(server.port)
     good = 0
     for turn in range(TURNS):

@@ -44,7 +44,8 @@ def code_of(line):
 
 
 def makes_memory(code, above):
-    """Whether a line makes a value that says that there is no memory, though nothing before it did."""
+    """Whether a line makes a value that says that there is no memory, though nothing before it did.
+    """
     for match in MADE.finditer(code):
         before, behind = code[: match.start()], code[match.end() :]
         if PATTERN.match(behind) or "matches!(" in before or before.rstrip().endswith(("==", "!=")):

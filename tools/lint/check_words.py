@@ -62,7 +62,8 @@ def plainer(text):
 
 
 def sentences(page):
-    """The sentences of a page, each with its line; code and quotes are left out, and so are tables."""
+    """The sentences of a page, each with its line; code and quotes are left out, and so are tables.
+    """
     paragraph, start = "", 0
     for number, line in [*lines_of_text(page), (0, "")]:
         is_text = line.strip() and not line.startswith(("|", "#", "<!--", "!["))

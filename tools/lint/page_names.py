@@ -74,7 +74,8 @@ def has_path(name):
 
 
 def is_there(span):
-    """Whether what a page has in backticks names something that there is, if it is a name at all."""
+    """Whether what a page has in backticks names something that there is, if it is a name at all.
+    """
     path = span.split(" ")[0]
     if is_path(path):
         return has_path(path)

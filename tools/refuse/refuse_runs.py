@@ -181,7 +181,8 @@ class Runs:
 
 
 def refuse_runs(refuser, program, only=""):
-    """Sweeps each kind of run, prints how many requests were refused, and answers what was wrong."""
+    """Sweeps each kind of run, prints how many requests were refused, and answers what was wrong.
+    """
     runs = Runs(refuser, program)
     query = ["dist", "--query", "PATH city 2 1 1 1 1 0"]
     one = ["--workers", "1", "--blocks"]

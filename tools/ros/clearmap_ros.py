@@ -40,7 +40,8 @@ class RosError(Exception):
 
 
 def exact(number: Number) -> Fraction:
-    """A number as the fraction that its decimals say: 0.05 is 1/20, and not the double next to it."""
+    """A number as the fraction that its decimals say: 0.05 is 1/20, and not the double next to it.
+    """
     if isinstance(number, Fraction):
         return number
     word = str(number).strip()

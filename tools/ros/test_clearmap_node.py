@@ -137,7 +137,8 @@ class Running(unittest.TestCase):
         return {"/clearmap/clearance", "/clearmap/tightest", "/rosout"} <= listened
 
     def line(self, part):
-        """Waits for a line of the node's log with these words, and says how many seconds that took."""
+        """Waits for a line of the node's log with these words, and says how many seconds that took.
+        """
         start = time.monotonic()
         while True:
             said = self.said.get(timeout=PATIENCE)

@@ -8,7 +8,8 @@ use denote.RawPtr.{Ptr, block_ptr, null_ptr, lies_at}
 use denote.Builtin.{RawPtr, u32}
 use denote.Struct.Struct.{exits_of}
 use denote.Struct.Owning.{shape, fields, to}
-use denote.Param.Send.{IsSend, Quiet, Frees, AllSend, part_keyless, owning_send, struct_send, sendable}
+use denote.Param.Send.{IsSend, Quiet, Frees, AllSend, part_keyless, owning_send, struct_send}
+use denote.Param.Send.{sendable}
 use Rattle.arena.specs.Blocks.{Content, out, bare, held}
 use Rattle.arena.specs.Ownership.{block_row, block_at, blocks_from, region_ty}
 use Rattle.arena.specs.contracts.region.Tile as Tile
@@ -16,7 +17,8 @@ use Rattle.arena.specs.contracts.region.Region as Region
 use Rattle.arena.specs.contracts.region.Lease as Lease
 use Rattle.core.specs.declared.alloc.Allocator.{Ghosts}
 
--- an exit that holds no thread's token holds none where it is hidden and taken at values that map to its own
+-- an exit that holds no thread's token holds none where it is hidden and taken at values that map
+-- to its own
 quiet : {D X : Type 0} (to : D → X) (e : Exit X) → Quiet e → Quiet (hidden (under to e))
 quiet to unchanged q = λ x w. tt
 quiet to (leaves L l S s r₀) q = λ d. q (to d)
@@ -51,14 +53,23 @@ each_block b o (c ∷ cs) = (one_block b o c, each_block b (o + 512) cs)
 
 -- a tile may go to another thread
 pub Tile-send : IsSend Tile.the_row
-Tile-send = let O = Tile.the_type in owning_send O (ptr, (half, tt)) (λ d. lies d.at d.words) (λ k. quiet (to O) (exits_of k (fields O)) ((struct_send (shape O) (ptr, (half, tt))).leaving k))
+Tile-send = let O = Tile.the_type in
+    owning_send O (ptr, (half, tt)) (λ d. lies d.at d.words)
+    (λ k. quiet (to O) (exits_of k (fields O))
+    ((struct_send (shape O) (ptr, (half, tt))).leaving k))
 
 -- a region may go to another thread
 pub Region-send : IsSend Region.the_row
-Region-send = let O = Region.the_type in owning_send O (ptr, tt) (λ d. each_block d.home.block d.home.start d.blocks) (λ k. quiet (to O) (exits_of k (fields O)) ((struct_send (shape O) (ptr, tt)).leaving k))
+Region-send = let O = Region.the_type in
+    owning_send O (ptr, tt) (λ d. each_block d.home.block d.home.start d.blocks)
+    (λ k. quiet (to O) (exits_of k (fields O)) ((struct_send (shape O) (ptr, tt)).leaving k))
 
 module _ (A : RattleType) (g : Ghosts A.Denot) where
-  -- a lease may go to another thread where its allocator may, and what gives its region back holds no thread's token
+  -- a lease may go to another thread where its allocator may, and what gives its region back holds
+  -- no thread's token
   pub Lease-send : IsSend A → Frees g g.dealloc_token → IsSend (Lease.the_row A g)
-  Lease-send sa f = let O = Lease.the_type A g in let marker : AllSend (fields O) = (search sendable, tt) in
-      owning_send O marker (λ d. f.frees d.alloc (region_ty d.home) (block_ptr d.home.block d.home.start)) (λ k. quiet (to O) (exits_of k (fields O)) ((struct_send (shape O) marker).leaving k))
+  Lease-send sa f = let O = Lease.the_type A g in
+      let marker : AllSend (fields O) = (search sendable, tt) in
+      owning_send O marker (λ d. f.frees d.alloc (region_ty d.home)
+      (block_ptr d.home.block d.home.start))
+      (λ k. quiet (to O) (exits_of k (fields O)) ((struct_send (shape O) marker).leaving k))

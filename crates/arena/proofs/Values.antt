@@ -1,4 +1,5 @@
--- The machine values of a region, a tile and a lease: what their fields own tells each, and is made of nothing.
+-- The machine values of a region, a tile and a lease: what their fields own tells each, and is made
+-- of nothing.
 use Rattle.std.proofs.Common.{◌≡◌, ℕ, ◌^◌, ◌<◌, List, [], ◌∷◌, ◌++◌, refl, ◌∙◌, w32}
 use seplogic.Ra.Ura.{Ura}
 use mir.Val.{Val, vint, vstruct, vcons, vnil, of_list}
@@ -24,12 +25,16 @@ abbrev pub region_own : Ptr → List Val → Fml
 region_own p0 = (plainly (RawPtr ∷ [])).own_val (p0, tt)
 
 -- what a region's fields own tells its machine value
-pub region_told : (p0 : Ptr) (vs : List Val) → shadow (region_own p0 vs) → (vs ≡ region_val p0 ∷ []) × Unit {0}
+pub region_told : (p0 : Ptr) (vs : List Val) → shadow (region_own p0 vs) → (vs ≡ region_val p0 ∷ [])
+    × Unit {0}
 region_told p0 vs s = (s.1.0 ∙ (λ i. vstruct (of_list (s.1.1.0 i ++ [])) ∷ []), tt)
 
 -- what a region's fields own at its machine value is made of nothing
-pub region_made : {M : Type 1} {𝓤 : Ura M} (𝓛 : Logic 𝓤) (p0 : Ptr) → ent 𝓤 (emp 𝓤) (sem 𝓛 (region_own p0 (region_val p0 ∷ [])))
-region_made 𝓛 p0 = makes_shadow 𝓛 (region_own p0 (region_val p0 ∷ [])) (λ _. (tt, (tt, tt))) ((ptr_val p0 ∷ [], tt), (refl, (refl, tt)))
+pub region_made : {M : Type 1} {𝓤 : Ura M} (𝓛 : Logic 𝓤) (p0 : Ptr)
+    → ent 𝓤 (emp 𝓤) (sem 𝓛 (region_own p0 (region_val p0 ∷ [])))
+region_made 𝓛 p0 =
+    makes_shadow 𝓛 (region_own p0 (region_val p0 ∷ [])) (λ _. (tt, (tt, tt)))
+    ((ptr_val p0 ∷ [], tt), (refl, (refl, tt)))
 
 -- a tile's machine value is its pointer and its number
 abbrev pub tile_val : Ptr → ℕ → Val
@@ -40,12 +45,18 @@ abbrev pub tile_own : Ptr → ℕ → List Val → Fml
 tile_own p0 n1 = (plainly (RawPtr ∷ u32 ∷ [])).own_val (p0, (n1, tt))
 
 -- what a tile's fields own tells its machine value, and that its number fits in 32 bits
-pub tile_told : (p0 : Ptr) (n1 : ℕ) (vs : List Val) → shadow (tile_own p0 n1 vs) → (vs ≡ tile_val p0 n1 ∷ []) × (n1 < 2 ^ 32)
-tile_told p0 n1 vs s = (s.1.0 ∙ (λ i. vstruct (of_list (s.1.1.0 i ++ (s.1.1.1.0.0 i ++ []))) ∷ []), s.1.1.1.0.1)
+pub tile_told : (p0 : Ptr) (n1 : ℕ) (vs : List Val) → shadow (tile_own p0 n1 vs)
+    → (vs ≡ tile_val p0 n1 ∷ []) × (n1 < 2 ^ 32)
+tile_told p0 n1 vs s =
+    (s.1.0 ∙ (λ i. vstruct (of_list (s.1.1.0 i ++ (s.1.1.1.0.0 i ++ []))) ∷ []), s.1.1.1.0.1)
 
--- what a tile's fields own at its machine value is made of nothing, where its number fits in 32 bits
-pub tile_made : {M : Type 1} {𝓤 : Ura M} (𝓛 : Logic 𝓤) (p0 : Ptr) (n1 : ℕ) → (n1 < 2 ^ 32) → ent 𝓤 (emp 𝓤) (sem 𝓛 (tile_own p0 n1 (tile_val p0 n1 ∷ [])))
-tile_made 𝓛 p0 n1 f = makes_shadow 𝓛 (tile_own p0 n1 (tile_val p0 n1 ∷ [])) (λ _. (tt, (tt, ((tt, tt), tt)))) ((ptr_val p0 ∷ [], (vint w32 n1 ∷ [], tt)), (refl, (refl, ((refl, f), tt))))
+-- what a tile's fields own at its machine value is made of nothing, where its number fits in 32
+-- bits
+pub tile_made : {M : Type 1} {𝓤 : Ura M} (𝓛 : Logic 𝓤) (p0 : Ptr) (n1 : ℕ) → (n1 < 2 ^ 32)
+    → ent 𝓤 (emp 𝓤) (sem 𝓛 (tile_own p0 n1 (tile_val p0 n1 ∷ [])))
+tile_made 𝓛 p0 n1 f =
+    makes_shadow 𝓛 (tile_own p0 n1 (tile_val p0 n1 ∷ [])) (λ _. (tt, (tt, ((tt, tt), tt))))
+    ((ptr_val p0 ∷ [], (vint w32 n1 ∷ [], tt)), (refl, (refl, ((refl, f), tt))))
 
 -- a lease's machine value is an empty marker
 abbrev pub lease_val : Val
@@ -60,5 +71,8 @@ pub lease_told : (vs : List Val) → shadow (lease_own vs) → (vs ≡ lease_val
 lease_told vs s = (s.1.0 ∙ (λ i. vstruct (of_list (s.1.1.0.1.0 i ++ [])) ∷ []), tt)
 
 -- what a lease's fields own at its machine value is made of nothing
-pub lease_made : {M : Type 1} {𝓤 : Ura M} (𝓛 : Logic 𝓤) → Unit {0} → ent 𝓤 (emp 𝓤) (sem 𝓛 (lease_own (lease_val ∷ [])))
-lease_made 𝓛 f = makes_shadow 𝓛 (lease_own (lease_val ∷ [])) (λ _. (tt, ((λ _. (tt, tt)), tt))) ((vstruct vnil ∷ [], tt), (refl, ((tt, (refl, tt)), tt)))
+pub lease_made : {M : Type 1} {𝓤 : Ura M} (𝓛 : Logic 𝓤) → Unit {0}
+    → ent 𝓤 (emp 𝓤) (sem 𝓛 (lease_own (lease_val ∷ [])))
+lease_made 𝓛 f =
+    makes_shadow 𝓛 (lease_own (lease_val ∷ [])) (λ _. (tt, ((λ _. (tt, tt)), tt)))
+    ((vstruct vnil ∷ [], tt), (refl, ((tt, (refl, tt)), tt)))

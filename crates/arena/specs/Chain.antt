@@ -1,5 +1,6 @@
 -- The free list: it starts at a block, and each free block's first word is the number of the next.
-use Rattle.std.specs.Prelude.{◌≡◌, ◌≢◌, ℕ, zero, suc, ◌<◌, ◌≤◌, Bool, true, false, List, [], ◌∷◌, length, slice_index_or, ⊤}
+use Rattle.std.specs.Prelude.{◌≡◌, ◌≢◌, ℕ, zero, suc, ◌<◌, ◌≤◌, Bool, true, false, List, [], ◌∷◌}
+use Rattle.std.specs.Prelude.{length, slice_index_or, ⊤}
 use Rattle.arena.specs.Blocks.{Home, Content, out, bare, held}
 
 -- an arena, as a caller sees it
@@ -36,7 +37,8 @@ NotIn k (x ∷ xs) = (k ≢ x) × NotIn k xs
 -- these n blocks are in, and none twice
 abbrev pub Linked : List Content → ℕ → ℕ → Type 0
 Linked bs f zero = f ≤ 16384
-Linked bs f (suc n) = (here (slice_index_or bs f out) ≡ true) × NotIn f (chain bs (next bs f) n) × Linked bs (next bs f) n
+Linked bs f (suc n) = (here (slice_index_or bs f out) ≡ true) × NotIn f (chain bs (next bs f) n)
+    × Linked bs (next bs f) n
 
 -- how many blocks are in
 abbrev pub in_count : List Content → ℕ
@@ -58,5 +60,6 @@ IsLeased home count leased = (leased ≡ home) × (count ≡ home.count)
 -- the blocks below `done` have words that link each to the next, and the others none yet
 pub record Filled (bs : List Content) (done count : ℕ) : Type 0 where
   pub long : length bs ≡ count
-  pub below : (k : ℕ) → k < done → (ws : List ℕ) × (slice_index_or bs k out ≡ held ws) × (slice_index_or ws 0 0 ≡ suc k)
+  pub below : (k : ℕ) → k < done → (ws : List ℕ) × (slice_index_or bs k out ≡ held ws)
+      × (slice_index_or ws 0 0 ≡ suc k)
   pub above : (k : ℕ) → done ≤ k → k < count → slice_index_or bs k out ≡ bare

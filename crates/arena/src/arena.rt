@@ -3,7 +3,8 @@
 //! The free blocks hold the list themselves: the first word of a free block is the number of the
 //! next.
 
-ghost use Rattle.std.specs.Prelude.{◌≡◌, ℕ, ◌<◌, ◌≤◌, List, [], ◌∷◌, length, MatchOption, IfOk, IfErr};
+ghost use Rattle.std.specs.Prelude.{◌≡◌, ℕ, ◌<◌, ◌≤◌, List, [], ◌∷◌, length, MatchOption, IfOk};
+ghost use Rattle.std.specs.Prelude.{IfErr};
 ghost use Rattle.metric.specs.declared.refusal.Refusal.TheVariants.{Memory};
 ghost use Rattle.std.specs.List.{range_with_len};
 ghost use Rattle.arena.specs.Chain.{Pool, chain, IsArena, IsLeased, Filled};
@@ -32,9 +33,13 @@ pub struct Arena {
 impl Model for Arena {
     ghost Value = { Pool };
 
-    ghost view = { λ a. record { home = a.region.home; free = chain a.region.blocks a.front a.free } };
+    ghost view = { λ a. record {
+      home = a.region.home;
+      free = chain a.region.blocks a.front a.free;
+    } };
 
-    ghost invariant = { λ a. IsArena a.region.blocks a.front a.free × IsLeased a.region.home a.count a.lease.home × (a.lease.alloc ≡ a.alloc) };
+    ghost invariant = { λ a. IsArena a.region.blocks a.front a.free
+        × IsLeased a.region.home a.count a.lease.home × (a.lease.alloc ≡ a.alloc) };
 }
 
 impl Arena {
@@ -87,7 +92,8 @@ impl Arena {
     /// allocates no memory.
     pub fn take(&mut self) -> Option<Tile>
         ensures { MatchOption result ((self.old.free ≡ []) × (self.new ≡ self.old))
-            (λ t. (t.home ≡ self.old.home) × (self.new.home ≡ self.old.home) × (self.old.free ≡ t.number ∷ self.new.free)) }
+            (λ t. (t.home ≡ self.old.home) × (self.new.home ≡ self.old.home)
+            × (self.old.free ≡ t.number ∷ self.new.free)) }
     {
         if self.free == 0 {
             return None;

@@ -3,7 +3,8 @@
 //! A region knows nothing of a free list: it owns the blocks that are in, and a tile owns the one
 //! that is out.
 
-ghost use Rattle.std.specs.Prelude.{◌≡◌, ℕ, ◌<◌, List, length, slice_index_or, slice_set, replicate, IfSome, ◌≤◌};
+ghost use Rattle.std.specs.Prelude.{◌≡◌, ℕ, ◌<◌, List, length, slice_index_or, slice_set};
+ghost use Rattle.std.specs.Prelude.{replicate, IfSome, ◌≤◌};
 ghost use Rattle.std.specs.Borrow.{full_share, lent_at, sem};
 ghost use Rattle.std.specs.List.{All};
 ghost use Rattle.std.specs.Ptr.{lies_at};
@@ -69,7 +70,8 @@ pub struct Lease<A: Allocator> {
 }
 
 impl<A: Allocator> Model for Lease<A> {
-    ghost also_owns = { λ l. A.dealloc_token l.alloc (region_ty l.home) (block_ptr l.home.block l.home.start) };
+    ghost also_owns = { λ l. A.dealloc_token l.alloc (region_ty l.home)
+        (block_ptr l.home.block l.home.start) };
 }
 
 /// The blocks that are in, each with its words.
@@ -93,7 +95,8 @@ impl Region {
     /// Takes a block out.
     pub fn cut(self, number: u32) -> (Region, Tile)
         requires inside { (ws : List ℕ) × (slice_index_or self.blocks number out ≡ held ws) }
-        ensures region { (result.0.home ≡ self.home) × (result.0.blocks ≡ slice_set self.blocks number out) }
+        ensures region { (result.0.home ≡ self.home)
+            × (result.0.blocks ≡ slice_set self.blocks number out) }
         ensures tile { (result.1.home ≡ self.home) × (result.1.number ≡ number) }
         ensures words { slice_index_or self.blocks number out ≡ held result.1.words }
     {
@@ -105,7 +108,8 @@ impl Region {
     /// Puts a block back, with its words.
     pub fn join(self, tile: Tile) -> Region
         requires { tile.home ≡ self.home }
-        ensures region { (result.home ≡ self.home) × (result.blocks ≡ slice_set self.blocks tile.number (held tile.words)) }
+        ensures region { (result.home ≡ self.home)
+            × (result.blocks ≡ slice_set self.blocks tile.number (held tile.words)) }
         ensures was_out { slice_index_or self.blocks tile.number out ≡ out }
     {
         let Tile { at: _, number: _ } = tile;
@@ -116,7 +120,8 @@ impl Region {
     /// Puts a block back, for a call that replaces the region and returns nothing else.
     pub fn put(self, tile: Tile) -> (Region, ())
         requires { tile.home ≡ self.home }
-        ensures region { (result.0.home ≡ self.home) × (result.0.blocks ≡ slice_set self.blocks tile.number (held tile.words)) }
+        ensures region { (result.0.home ≡ self.home)
+            × (result.0.blocks ≡ slice_set self.blocks tile.number (held tile.words)) }
         ensures was_out { slice_index_or self.blocks tile.number out ≡ out }
     {
         (self.join(tile), ())
@@ -125,7 +130,8 @@ impl Region {
     /// Writes the words of a block that has none yet.
     pub fn fill(self, number: u32, words: Block) -> Region
         requires { slice_index_or self.blocks number out ≡ bare }
-        ensures region { (result.home ≡ self.home) × (result.blocks ≡ slice_set self.blocks number (held words)) }
+        ensures region { (result.home ≡ self.home)
+            × (result.blocks ≡ slice_set self.blocks number (held words)) }
     {
         let Region { base } = self;
         unsafe {
@@ -137,7 +143,8 @@ impl Region {
     /// A region of this many blocks without words yet; `None` when out of memory.
     pub fn new<A: Allocator>(alloc: &A, count: u32) -> Option<(Region, Lease<A>)>
         requires { count ≤ 16384 }
-        ensures { IfSome result (λ m. (m.0.blocks ≡ replicate count bare) × (m.0.home.count ≡ count) × (m.1.alloc ≡ alloc.now)
+        ensures { IfSome result (λ m. (m.0.blocks ≡ replicate count bare) × (m.0.home.count ≡ count)
+            × (m.1.alloc ≡ alloc.now)
             × (m.1.home ≡ m.0.home)) }
     {
         match alloc.allocate(count as usize * 512, 8) {
@@ -152,7 +159,8 @@ impl Region {
 
     /// Frees the memory of a region whose blocks are all in.
     pub fn free<A: Allocator>(self, lease: Lease<A>, alloc: &A, count: u32)
-        requires same { (lease.alloc ≡ alloc.now) × (lease.home ≡ self.home) × (count ≡ self.home.count) }
+        requires same { (lease.alloc ≡ alloc.now) × (lease.home ≡ self.home)
+            × (count ≡ self.home.count) }
         requires all { All IsHeld self.blocks }
     {
         let Region { base } = self;

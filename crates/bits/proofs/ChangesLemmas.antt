@@ -1,5 +1,6 @@
 -- How many cells become another when one cell is written.
-use Rattle.std.proofs.Common.{◌≡◌, ◌≢◌, ℕ, zero, suc, ◌+◌, ◌*◌, ◌<◌, ◌≤◌, Bool, true, false, cond, refl, ap, sym, ◌∙◌, arith}
+use Rattle.std.proofs.Common.{◌≡◌, ◌≢◌, ℕ, zero, suc, ◌+◌, ◌*◌, ◌<◌, ◌≤◌, Bool, true, false, cond}
+use Rattle.std.proofs.Common.{refl, ap, sym, ◌∙◌, arith}
 use Rattle.std.specs.List.{range_with_len, sum_by}
 use Rattle.std.proofs.lemmas.List.Sums.{sum_by-cons, count_by-le-length}
 use Rattle.std.proofs.lemmas.List.FromFn.{length-range_with_len}
@@ -22,14 +23,21 @@ sum_by-same f g a (suc n) same =
     ∙ sym (sum_by-cons g a (range_with_len (a + 1) n))
 
 -- a sum of zeros is zero
-pub sum_by-zero : (f : ℕ → ℕ) (a n : ℕ) → ((j : ℕ) → a ≤ j → j < a + n → f j ≡ 0) → sum_by f (range_with_len a n) ≡ 0
+pub sum_by-zero : (f : ℕ → ℕ) (a n : ℕ) → ((j : ℕ) → a ≤ j → j < a + n → f j ≡ 0)
+    → sum_by f (range_with_len a n) ≡ 0
 sum_by-zero f a zero none = refl
 sum_by-zero f a (suc n) none =
     let rest = sum_by-zero f (a + 1) n (λ j low high. none j (omega arith) (omega arith)) in
-    omega (arith, sum_by-cons f a (range_with_len (a + 1) n), none a (omega arith) (omega arith), rest)
+    omega (
+      arith,
+      sum_by-cons f a (range_with_len (a + 1) n),
+      none a (omega arith) (omega arith),
+      rest,
+    )
 
 -- two sums whose terms differ at one place alone differ by those two terms
-pub sum_but_one : (f g : ℕ → ℕ) (a n k : ℕ) → a ≤ k → k < a + n → ((j : ℕ) → a ≤ j → j < a + n → j ≢ k → f j ≡ g j)
+pub sum_but_one : (f g : ℕ → ℕ) (a n k : ℕ) → a ≤ k → k < a + n
+    → ((j : ℕ) → a ≤ j → j < a + n → j ≢ k → f j ≡ g j)
     → sum_by f (range_with_len a n) + g k ≡ sum_by g (range_with_len a n) + f k
 sum_but_one f g a zero k low high same = absurd (omega arith)
 sum_but_one f g a (suc n) k low high same =
@@ -37,13 +45,15 @@ sum_but_one f g a (suc n) k low high same =
     let g_parts = sum_by-cons g a (range_with_len (a + 1) n) in
     elim (cases_eq a k) [
       | inl here ↦
-          let rest = sum_by-same f g (a + 1) n (λ j lo hi. same j (omega arith) (omega arith) (omega arith)) in
+          let rest = sum_by-same f g (a + 1) n
+          (λ j lo hi. same j (omega arith) (omega arith) (omega arith)) in
           let f_here = ap f here in
           let g_here = ap g here in
           omega (arith, f_parts, g_parts, rest, f_here, g_here)
       | inr later ↦
           let first = same a (omega arith) (omega arith) later in
-          let rest = sum_but_one f g (a + 1) n k (omega arith) (omega arith) (λ j lo hi ne. same j (omega arith) (omega arith) ne) in
+          let rest = sum_but_one f g (a + 1) n k (omega arith) (omega arith)
+          (λ j lo hi ne. same j (omega arith) (omega arith) ne) in
           omega (arith, f_parts, g_parts, first, rest)
     ]
 
@@ -72,26 +82,44 @@ changes-self cells =
     ap one (differs-self (has cells x y))))
 
 -- a sum of this many terms, each with a bound
-sum_by-le_range : (f : ℕ → ℕ) (most a n : ℕ) → ((j : ℕ) → f j ≤ most) → sum_by f (range_with_len a n) ≤ n * most
+sum_by-le_range : (f : ℕ → ℕ) (most a n : ℕ) → ((j : ℕ) → f j ≤ most)
+    → sum_by f (range_with_len a n) ≤ n * most
 sum_by-le_range f most a zero few = omega arith
 sum_by-le_range f most a (suc n) few =
-    omega (arith, sum_by-cons f a (range_with_len (a + 1) n), few a, sum_by-le_range f most (a + 1) n few)
+    omega (
+      arith,
+      sum_by-cons f a (range_with_len (a + 1) n),
+      few a,
+      sum_by-le_range f most (a + 1) n few,
+    )
 
 -- a row has at most as many changes as columns
 changes_in_row-le : (old now : Cells) (y : ℕ) → changes_in_row old now y ≤ old.width
 changes_in_row-le old now y =
-    omega (arith, count_by-le-length (λ x. differs (has old x y) (has now x y)) (range_with_len 0 old.width), length-range_with_len 0 old.width)
+    omega (
+      arith,
+      count_by-le-length (λ x. differs (has old x y) (has now x y))
+          (range_with_len 0 old.width),
+      length-range_with_len 0 old.width,
+    )
 
 -- the number of changes is at most the number of cells
 pub changes-le : (old now : Cells) → changes old now ≤ old.height * old.width
 unfolding changes
 changes-le old now =
-    omega (arith, sum_by-le_range (changes_in_row old now) old.width 0 old.height (λ y. changes_in_row-le old now y))
+    omega (
+      arith,
+      sum_by-le_range (changes_in_row old now) old.width 0 old.height
+          (λ y. changes_in_row-le old now y),
+    )
 
--- after one cell is written: the changes and what that cell counted before are the changes before and what it counts now
-changes-with_cell : (old now : Cells) (x y : ℕ) (black : Bool) → now.width ≡ old.width → now.height ≡ old.height
+-- after one cell is written: the changes and what that cell counted before are the changes before
+-- and what it counts now
+changes-with_cell : (old now : Cells) (x y : ℕ) (black : Bool) → now.width ≡ old.width
+    → now.height ≡ old.height
     → x < old.width → y < old.height
-    → changes old (with_cell now x y black) + one (differs (has old x y) (has now x y)) ≡ changes old now + one (differs (has old x y) black)
+    → changes old (with_cell now x y black) + one (differs (has old x y) (has now x y))
+    ≡ changes old now + one (differs (has old x y) black)
 unfolding changes
 changes-with_cell old now x y black width_same height_same hx hy =
     let new : Cells = with_cell now x y black in
@@ -100,20 +128,30 @@ changes-with_cell old now x y black width_same height_same hx hy =
     let here : has new x y ≡ black = has-with_cell_same now x y black (omega arith) (omega arith) in
     let row_parts = sum_but_one (λ a. one (differs (has old a y) (has new a y)))
     (λ a. one (differs (has old a y) (has now a y))) 0 old.width x (omega arith) (omega arith)
-    (λ a low ha apart. ap (λ (now_there : Bool). one (differs (has old a y) now_there)) (there a y (omega arith) hy (λ same. absurd (apart same)))) in
-    let row : changes_in_row old new y + one (differs (has old x y) (has now x y)) ≡ changes_in_row old now y + one (differs (has old x y) black) =
-    row_parts ∙ ap (λ (now_here : Bool). changes_in_row old now y + one (differs (has old x y) now_here)) here in
-    let rows = sum_but_one (changes_in_row old new) (changes_in_row old now) 0 old.height y (omega arith) (omega arith)
-    (λ b low hb apart. sum_by-same (λ a. one (differs (has old a b) (has new a b))) (λ a. one (differs (has old a b) (has now a b))) 0 old.width
-    (λ a lo ha. ap (λ (now_there : Bool). one (differs (has old a b) now_there)) (there a b (omega arith) (omega arith) (λ same. apart)))) in
+    (λ a low ha apart. ap (λ (now_there : Bool). one (differs (has old a y) now_there))
+    (there a y (omega arith) hy (λ same. absurd (apart same)))) in
+    let row : changes_in_row old new y + one (differs (has old x y) (has now x y))
+    ≡ changes_in_row old now y + one (differs (has old x y) black) =
+    row_parts
+    ∙ ap (λ (now_here : Bool). changes_in_row old now y + one (differs (has old x y) now_here))
+    here in
+    let rows = sum_but_one (changes_in_row old new) (changes_in_row old now) 0 old.height y
+    (omega arith) (omega arith)
+    (λ b low hb apart. sum_by-same (λ a. one (differs (has old a b) (has new a b)))
+    (λ a. one (differs (has old a b) (has now a b))) 0 old.width
+    (λ a lo ha. ap (λ (now_there : Bool). one (differs (has old a b) now_there))
+    (there a b (omega arith) (omega arith) (λ same. apart)))) in
     omega (arith, row, rows)
 
 -- a cell that had its first value, and gets another, is one more change
 pub changes-with_cell_more : (old now : Cells) (x y : ℕ) (black : Bool) → now.width ≡ old.width
     → now.height ≡ old.height → x < old.width → y < old.height
-    → has now x y ≡ has old x y → has now x y ≢ black → changes old (with_cell now x y black) ≡ changes old now + 1
+    → has now x y ≡ has old x y → has now x y ≢ black
+    → changes old (with_cell now x y black) ≡ changes old now + 1
 changes-with_cell_more old now x y black width_same height_same hx hy same other =
     let parts = changes-with_cell old now x y black width_same height_same hx hy in
-    let none : one (differs (has old x y) (has now x y)) ≡ 0 = ap (λ (b : Bool). one (differs (has old x y) b)) same ∙ ap one (differs-self (has old x y)) in
-    let some : one (differs (has old x y) black) ≡ 1 = ap one (differs-other (has old x y) black (λ e. other (same ∙ e))) in
+    let none : one (differs (has old x y) (has now x y)) ≡ 0 =
+    ap (λ (b : Bool). one (differs (has old x y) b)) same ∙ ap one (differs-self (has old x y)) in
+    let some : one (differs (has old x y) black) ≡ 1 =
+    ap one (differs-other (has old x y) black (λ e. other (same ∙ e))) in
     omega (arith, parts, none, some)

@@ -10,7 +10,8 @@ differs false b = b
 
 -- how many cells of row y differ between two bitmaps
 abbrev pub changes_in_row : Cells → Cells → ℕ → ℕ
-changes_in_row old new y = count_by (λ x. differs (has old x y) (has new x y)) (range_with_len 0 old.width)
+changes_in_row old new y =
+    count_by (λ x. differs (has old x y) (has new x y)) (range_with_len 0 old.width)
 
 -- how many cells differ between two bitmaps of the same size
 unfoldable pub changes : Cells → Cells → ℕ

@@ -29,7 +29,10 @@ IsBlocked cells Wall a b = IsBlack cells a b ⊎ IsFrame cells a b
 -- a map with its frame: with a wall it has two more columns and rows, whose cells are obstacles
 abbrev pub framed : Edge → Cells → Cells
 framed Open cells = cells
-framed Wall cells = cells_where (cells.width + 2) (cells.height + 2) (λ x y. ((x == 0 || y == 0) || (x == cells.width + 1 || y == cells.height + 1)) || has cells (x - 1) (y - 1))
+framed Wall cells =
+    cells_where (cells.width + 2) (cells.height + 2)
+    (λ x y. ((x == 0 || y == 0) || (x == cells.width + 1 || y == cells.height + 1))
+    || has cells (x - 1) (y - 1))
 
 -- a cell in the first or last column or row, of which the last are given
 pub record IsFrameCell (right bottom a b : ℕ) : Type 0 where
@@ -39,7 +42,8 @@ pub record IsFrameCell (right bottom a b : ℕ) : Type 0 where
 
 -- a cell of a map with its frame that is an obstacle
 abbrev pub IsFramed : Cells → ℕ → ℕ → Type 0
-IsFramed cells a b = IsFrameCell (cells.width + 1) (cells.height + 1) a b ⊎ ((0 < a) × (0 < b) × IsObstacle cells (a - 1) (b - 1))
+IsFramed cells a b = IsFrameCell (cells.width + 1) (cells.height + 1) a b
+    ⊎ ((0 < a) × (0 < b) × IsObstacle cells (a - 1) (b - 1))
 
 -- a map, framed or not, as searches know it: at most as large as the largest framed one
 pub record IsMap (cells : Cells) : Type 0 where

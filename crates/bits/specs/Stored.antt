@@ -1,6 +1,7 @@
 -- A bitmap in words: this project's own rule. The rows lie one after another, each in as many words
 -- as it needs.
-use Rattle.std.specs.Prelude.{◌≡◌, ℕ, ◌+◌, ◌*◌, ◌/◌, ◌%◌, ◌<◌, ◌≤◌, ◌==◌, Bool, false, List, length, slice_index}
+use Rattle.std.specs.Prelude.{◌≡◌, ℕ, ◌+◌, ◌*◌, ◌/◌, ◌%◌, ◌<◌, ◌≤◌, ◌==◌, Bool, false, List, length}
+use Rattle.std.specs.Prelude.{slice_index}
 use Rattle.std.specs.Int.{bit_at}
 use Rattle.bits.specs.Cells.{Cells, cells_where, IsSide}
 use Rattle.bits.specs.Words.{words_across}
@@ -18,4 +19,5 @@ pub record IsStored (width height : ℕ) (words : List ℕ) : Type 0 where
   pub width_is : IsSide width
   pub height_is : IsSide height
   pub as_many : length words ≡ height * words_across width
-  pub edge : (x y : ℕ) → width ≤ x → x < 64 * words_across width → y < height → is_stored (words_across width) words x y ≡ false
+  pub edge : (x y : ℕ) → width ≤ x → x < 64 * words_across width → y < height
+      → is_stored (words_across width) words x y ≡ false

@@ -18,7 +18,8 @@ tile_of cells x y = y / 64 * words_across cells.width + x / 64
 
 -- whether the cell in column j and row i of the tile at position k is an obstacle
 abbrev pub tile_has : Cells → ℕ → ℕ → ℕ → Bool
-tile_has cells k i j = has cells (64 * (k % words_across cells.width) + j) (64 * (k / words_across cells.width) + i)
+tile_has cells k i j =
+    has cells (64 * (k % words_across cells.width) + j) (64 * (k / words_across cells.width) + i)
 
 -- the number whose bits are the first results of a test, as many as asked for
 unfoldable pub word_where : (ℕ → Bool) → ℕ → ℕ

@@ -11,4 +11,5 @@ words_across width = (width + 63) / 64
 -- these words are row y of the bitmap
 pub record IsRowOf (cells : Cells) (y : ℕ) (words : List ℕ) : Type 0 where
   pub as_many : length words ≡ words_across cells.width
-  pub bits : (k i : ℕ) → k < words_across cells.width → i < 64 → bit_at (slice_index words k) i ≡ cond (has cells (64 * k + i) y) 1 0
+  pub bits : (k i : ℕ) → k < words_across cells.width → i < 64
+      → bit_at (slice_index words k) i ≡ cond (has cells (64 * k + i) y) 1 0

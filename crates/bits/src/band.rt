@@ -35,7 +35,8 @@ pub fn with_mark(bits: u64, index: u16, word: u64) -> u64
 /// The bands after these words are written to row `y`, or to the rows of its band.
 pub fn marked_by(bands: u64, y: u16, words: &[u64]) -> u64
     requires { y < MOST_SIDE }
-    ensures here { (k i : ℕ) → k < length words.now → bit_at (slice_index words.now k) i ≡ 1 → bit_at result (y / BAND_ROWS) ≡ 1 }
+    ensures here { (k i : ℕ) → k < length words.now → bit_at (slice_index words.now k) i ≡ 1
+        → bit_at result (y / BAND_ROWS) ≡ 1 }
     ensures kept { (band : ℕ) → band < BAND_ROWS → bit_at bands band ≡ 1 → bit_at result band ≡ 1 }
 {
     if has_bit(bands, u32::from(y / BAND_ROWS)) {
@@ -48,7 +49,8 @@ pub fn marked_by(bands: u64, y: u16, words: &[u64]) -> u64
 /// obstacle.
 pub fn with_marks(tiles: u64, row: &[u64; 64], across: u16) -> u64
     requires { across ≤ 64 }
-    ensures here { (k i : ℕ) → k < across → bit_at (slice_index row.now k) i ≡ 1 → bit_at result k ≡ 1 }
+    ensures here { (k i : ℕ) → k < across → bit_at (slice_index row.now k) i ≡ 1
+        → bit_at result k ≡ 1 }
     ensures kept { (k : ℕ) → k < 64 → bit_at tiles k ≡ 1 → bit_at result k ≡ 1 }
 {
     if low_bits(tiles, across) == low_bits(u64::MAX, across) {
@@ -63,7 +65,8 @@ pub fn with_marks(tiles: u64, row: &[u64; 64], across: u16) -> u64
 
 /// The bits that are 1 in any of the words.
 pub fn all_bits(words: &[u64]) -> u64
-    ensures { (k i : ℕ) → k < length words.now → bit_at (slice_index words.now k) i ≡ 1 → bit_at result i ≡ 1 }
+    ensures { (k i : ℕ) → k < length words.now → bit_at (slice_index words.now k) i ≡ 1
+        → bit_at result i ≡ 1 }
 {
     let mut all = 0;
     'words: for word in words {

@@ -1,6 +1,7 @@
 //! A bitmap of 1 to 4096 cells a side.
 
-ghost use Rattle.std.specs.Prelude.{◌≡◌, ℕ, ◌+◌, ◌*◌, ◌/◌, ◌%◌, ◌<◌, ◌≤◌, ◌↔◌, IsTrue, IfOk, IfErr, false};
+ghost use Rattle.std.specs.Prelude.{◌≡◌, ℕ, ◌+◌, ◌*◌, ◌/◌, ◌%◌, ◌<◌, ◌≤◌, ◌↔◌, IsTrue, IfOk, IfErr};
+ghost use Rattle.std.specs.Prelude.{false};
 ghost use Rattle.bits.specs.Cells.{has, cells_where, with_cell, IsSide, IsBitmap, IsInside};
 ghost use Rattle.bits.specs.Bands.{IsBanded, IsTiled};
 ghost use Rattle.bits.specs.Words.{words_across, IsRowOf};

@@ -1,9 +1,11 @@
 //! Lays a part of a bitmap on a tile, row by row as words.
 
-ghost use Rattle.std.specs.Prelude.{◌≡◌, ℕ, ◌≤◌, ◌<◌, ◌+◌, ◌-◌, ◌/◌, ◌%◌, nat_lt, length, slice_index, cond, if◌then◌else◌};
+ghost use Rattle.std.specs.Prelude.{◌≡◌, ℕ, ◌≤◌, ◌<◌, ◌+◌, ◌-◌, ◌/◌, ◌%◌, nat_lt, length};
+ghost use Rattle.std.specs.Prelude.{slice_index, cond, if◌then◌else◌};
 ghost use Rattle.std.specs.Int.{bit_at};
 ghost use Rattle.bits.specs.Cells.{has};
-ghost use Rattle.bits.specs.TileWords.{is_bit, laid, filled_word, filled_words, words_changed, words_differ};
+ghost use Rattle.bits.specs.TileWords.{is_bit, laid, filled_word, filled_words, words_changed};
+ghost use Rattle.bits.specs.TileWords.{words_differ};
 
 use crate::bitmap::Bitmap;
 use crate::tile_bits::{TileBits, changes, columns};
@@ -36,7 +38,8 @@ impl TileBits {
         requires columns { rect.x1 ≤ TILE_SIDE }
         requires rows { rect.y1 ≤ TILE_SIDE }
         requires from { from.y ≤ MOST_SIDE }
-        ensures { result ≡ words_differ words.now (filled_words words.now rect.x0 rect.y0 rect.x1 rect.y1
+        ensures { result ≡ words_differ words.now
+            (filled_words words.now rect.x0 rect.y0 rect.x1 rect.y1
             (laid (has stamp.now) from.x from.y rect.x0 rect.y0)) }
     {
         'rows: for y in rect.y0..rect.y1 {
@@ -55,7 +58,8 @@ fn laid_row(old: u64, y: u16, rect: Rect, stamp: &Bitmap, from: Cell) -> u64
     requires above { rect.y0 ≤ y }
     requires row { y < TILE_SIDE }
     requires from { from.y ≤ MOST_SIDE }
-    ensures { result ≡ filled_word old rect.x0 rect.x1 (λ j. laid (has stamp.now) from.x from.y rect.x0 rect.y0 j y) }
+    ensures { result ≡ filled_word old rect.x0 rect.x1
+        (λ j. laid (has stamp.now) from.x from.y rect.x0 rect.y0 j y) }
 {
     let cells = row_from(stamp, from.x, from.y + (y - rect.y0));
     let (first, end) = (u32::from(rect.x0), u32::from(rect.x1));
@@ -89,7 +93,8 @@ fn word_at(row: &[u64], place: usize) -> u64
 /// The 64 columns from `shift` on of two adjacent words.
 fn joined(left: u64, right: u64, shift: u32) -> u64
     requires { shift < 64 }
-    ensures { (j : ℕ) → j < 64 → bit_at result j ≡ (if nat_lt (shift + j) 64 then bit_at left (shift + j)
+    ensures { (j : ℕ) → j < 64
+        → bit_at result j ≡ (if nat_lt (shift + j) 64 then bit_at left (shift + j)
         else bit_at right (shift + j - 64)) }
 {
     if shift == 0 {

@@ -1,8 +1,10 @@
 //! Tiles as 64 words, one per row, filled in place.
 
-ghost use Rattle.std.specs.Prelude.{◌≡◌, ℕ, ◌≤◌, ◌<◌, ◌==◌, ◌&&◌, nat_le, nat_lt, Bool, cond, length};
+ghost use Rattle.std.specs.Prelude.{◌≡◌, ℕ, ◌≤◌, ◌<◌, ◌==◌, ◌&&◌, nat_le, nat_lt, Bool, cond};
+ghost use Rattle.std.specs.Prelude.{length};
 ghost use Rattle.std.specs.Int.{bit_at};
-ghost use Rattle.bits.specs.TileWords.{filled_word, filled_words, bits_changed, words_changed, words_differ, every};
+ghost use Rattle.bits.specs.TileWords.{filled_word, filled_words, bits_changed, words_changed};
+ghost use Rattle.bits.specs.TileWords.{words_differ, every};
 
 use metric::Rect;
 
@@ -14,7 +16,8 @@ impl TileBits {
     pub fn fill(words: &mut [u64; 64], rect: Rect, black: bool) -> u32
         requires columns { rect.x1 ≤ 64 }
         requires rows { rect.y1 ≤ 64 }
-        ensures filled { words.new ≡ filled_words words.old rect.x0 rect.y0 rect.x1 rect.y1 (every black) }
+        ensures filled { words.new ≡ filled_words words.old rect.x0 rect.y0 rect.x1 rect.y1
+            (every black) }
         ensures changed { result ≡ words_changed words.old words.new }
     {
         let (from, to) = (u32::from(rect.x0), u32::from(rect.x1));
@@ -33,7 +36,8 @@ impl TileBits {
     pub fn would_change(words: &[u64; 64], rect: Rect, black: bool) -> bool
         requires columns { rect.x1 ≤ 64 }
         requires rows { rect.y1 ≤ 64 }
-        ensures { result ≡ words_differ words.now (filled_words words.now rect.x0 rect.y0 rect.x1 rect.y1 (every black)) }
+        ensures { result ≡ words_differ words.now
+            (filled_words words.now rect.x0 rect.y0 rect.x1 rect.y1 (every black)) }
     {
         let (from, to) = (u32::from(rect.x0), u32::from(rect.x1));
         'rows: for y in rect.y0..rect.y1 {

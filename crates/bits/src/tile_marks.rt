@@ -72,8 +72,10 @@ impl TileMarks {
     pub fn mark(&mut self, y: u16, index: u16, word: u64)
         requires row { y < MOST_SIDE }
         requires index { index < 64 }
-        ensures here { (i : ℕ) → bit_at word i ≡ 1 → bit_at (slice_index self.new (y / BAND_ROWS)) index ≡ 1 }
-        ensures kept { (band k : ℕ) → k < 64 → bit_at (slice_index self.old band) k ≡ 1 → bit_at (slice_index self.new band) k ≡ 1 }
+        ensures here { (i : ℕ) → bit_at word i ≡ 1
+            → bit_at (slice_index self.new (y / BAND_ROWS)) index ≡ 1 }
+        ensures kept { (band k : ℕ) → k < 64 → bit_at (slice_index self.old band) k ≡ 1
+            → bit_at (slice_index self.new band) k ≡ 1 }
     {
         let band = usize::from(y / BAND_ROWS);
         self.bands[band] = with_mark(self.bands[band], index, word);
@@ -84,8 +86,10 @@ impl TileMarks {
     pub fn mark_row(&mut self, y: u16, row: &[u64; 64], across: u16)
         requires row { y < MOST_SIDE }
         requires across { across ≤ 64 }
-        ensures here { (k i : ℕ) → k < across → bit_at (slice_index row.now k) i ≡ 1 → bit_at (slice_index self.new (y / BAND_ROWS)) k ≡ 1 }
-        ensures kept { (band k : ℕ) → k < 64 → bit_at (slice_index self.old band) k ≡ 1 → bit_at (slice_index self.new band) k ≡ 1 }
+        ensures here { (k i : ℕ) → k < across → bit_at (slice_index row.now k) i ≡ 1
+            → bit_at (slice_index self.new (y / BAND_ROWS)) k ≡ 1 }
+        ensures kept { (band k : ℕ) → k < 64 → bit_at (slice_index self.old band) k ≡ 1
+            → bit_at (slice_index self.new band) k ≡ 1 }
     {
         let band = usize::from(y / BAND_ROWS);
         self.bands[band] = with_marks(self.bands[band], row, across);

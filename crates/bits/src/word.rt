@@ -17,7 +17,8 @@ pub fn has_bit(word: u64, place: u32) -> bool
 pub fn with_bit(word: u64, place: u32, bit: bool) -> u64
     requires { place < WORD_BITS }
     ensures here { bit_at result place ≡ cond bit 1 0 }
-    ensures others { (other : ℕ) → other < WORD_BITS → other ≢ place → bit_at result other ≡ bit_at word other }
+    ensures others { (other : ℕ) → other < WORD_BITS → other ≢ place
+        → bit_at result other ≡ bit_at word other }
 {
     if bit {
         word | (1 << place)

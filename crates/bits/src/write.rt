@@ -17,7 +17,8 @@ pub fn write_word(words: &mut [u64], width: u16, height: u16, y: u16, index: u16
     requires row { y < height }
     requires index { index < words_across width }
     ensures stored { IsStored width height words.new }
-    ensures written { cells_stored width height words.new ≡ with_word (cells_stored width height words.old) y index word }
+    ensures written { cells_stored width height words.new
+        ≡ with_word (cells_stored width height words.old) y index word }
 {
     let place = usize::from(y) * usize::from(width).div_ceil(WORD_BITS) + usize::from(index);
     words[place] = low_bits(word, width - 64 * index);
@@ -28,7 +29,8 @@ pub fn write_row(words: &mut [u64], width: u16, height: u16, y: u16, row: &[u64;
     requires stored { IsStored width height words.old }
     requires row { y < height }
     ensures stored { IsStored width height words.new }
-    ensures written { cells_stored width height words.new ≡ with_row (cells_stored width height words.old) y row.now }
+    ensures written { cells_stored width height words.new
+        ≡ with_row (cells_stored width height words.old) y row.now }
 {
     let last = (width - 1) / 64;
     let start = usize::from(y) * (usize::from(last) + 1);
@@ -43,7 +45,8 @@ pub fn write_tile(words: &mut [u64], width: u16, height: u16, position: u16, til
     requires stored { IsStored width height words.old }
     requires position { position < tile_count (cells_stored width height words.old) }
     ensures stored { IsStored width height words.new }
-    ensures written { cells_stored width height words.new ≡ with_tile (cells_stored width height words.old) position tile.now }
+    ensures written { cells_stored width height words.new
+        ≡ with_tile (cells_stored width height words.old) position tile.now }
 {
     let across = width.div_ceil(64);
     let top = 64 * (position / across);

@@ -1,5 +1,6 @@
 -- The rows that a search passes over, by their bands.
-use Rattle.std.proofs.Common.{◌≡◌, ℕ, ◌+◌, ◌-◌, ◌*◌, ◌<◌, inl, inr, Bool, true, false, not, cond, Option, refl, sym, ◌∙◌, arith}
+use Rattle.std.proofs.Common.{◌≡◌, ℕ, ◌+◌, ◌-◌, ◌*◌, ◌<◌, inl, inr, Bool, true, false, not, cond}
+use Rattle.std.proofs.Common.{Option, refl, sym, ◌∙◌, arith}
 use Rattle.std.proofs.lemmas.Bool.{cases_lt}
 use Rattle.std.proofs.lemmas.Nat.Bits.{bit_at-zero}
 use Rattle.metric.specs.declared.rect.Rect.{Rect}
@@ -29,14 +30,18 @@ not_true true is = absurd (cc)
 not_true false is = refl
 
 -- a row without an obstacle is blank
-pub IsBlankRow-none : (cells : Cells) (y : ℕ) → ((x : ℕ) → IsObstacle cells x y → ⊥) → IsBlankRow cells y
+pub IsBlankRow-none : (cells : Cells) (y : ℕ) → ((x : ℕ) → IsObstacle cells x y → ⊥)
+    → IsBlankRow cells y
 IsBlankRow-none cells y none = λ k within.
     word_in_row cells y k within
-    ∙ same_from_bits_below 64 (word_where (λ i. has cells (64 * k + i) y) 64) 0 (word_where-lt (λ i. has cells (64 * k + i) y) 64) (omega arith)
-    (λ i bit. bit_at-word_where (λ j. has cells (64 * k + j) y) 64 i bit ∙ (no_obstacle (has cells (64 * k + i) y) (none (64 * k + i)) ∙ sym (bit_at-zero i)))
+    ∙ same_from_bits_below 64 (word_where (λ i. has cells (64 * k + i) y) 64) 0
+    (word_where-lt (λ i. has cells (64 * k + i) y) 64) (omega arith)
+    (λ i bit. bit_at-word_where (λ j. has cells (64 * k + j) y) 64 i bit
+    ∙ (no_obstacle (has cells (64 * k + i) y) (none (64 * k + i)) ∙ sym (bit_at-zero i)))
 
 -- the rows that may have an obstacle are skipped by no gap that the bands give
-pub IsNextGap-banded : (cells : Cells) (bands top bottom gap next : ℕ) → IsBanded cells bands → IsNextGap (IsMarkedRow bands) top bottom gap next
+pub IsNextGap-banded : (cells : Cells) (bands top bottom gap next : ℕ) → IsBanded cells bands
+    → IsNextGap (IsMarkedRow bands) top bottom gap next
     → IsNextGap (λ b. (a : ℕ) × IsObstacle cells a b) top bottom gap next
 IsNextGap-banded cells bands top bottom gap next banded is = record {
   from = is.from;
@@ -45,8 +50,10 @@ IsNextGap-banded cells bands top bottom gap next banded is = record {
   below = λ b obstacle. is.below b (banded obstacle.0 b obstacle.1);
 }
 
--- an obstacle's row that comes before the next gap comes before the gap from which rows were skipped
-pub row_gap-passed : (cells : Cells) (rect : Rect) (gap next : ℕ) → IsBitmap cells → 0 < gap → IsNextGap (λ b. (a : ℕ) × IsObstacle cells a b) rect.y0 (rect.y1 - 1) gap next
+-- an obstacle's row that comes before the next gap comes before the gap from which rows were
+-- skipped
+pub row_gap-passed : (cells : Cells) (rect : Rect) (gap next : ℕ) → IsBitmap cells → 0 < gap
+    → IsNextGap (λ b. (a : ℕ) × IsObstacle cells a b) rect.y0 (rect.y1 - 1) gap next
     → (a b : ℕ) → IsObstacle cells a b → row_gap rect b < next → row_gap rect b < gap
 row_gap-passed cells rect gap next bitmap some is a b obstacle near =
     let rows = rect.has_cells.rows in
@@ -56,24 +63,30 @@ row_gap-passed cells rect gap next bitmap some is a b obstacle near =
       | inr far ↦ elim (cases_lt b rect.y0) [
         | inl up ↦ let passed = is.above b (a, obstacle) (omega arith) in absurd (omega arith)
         | inr down ↦ elim (cases_lt (rect.y1 - 1) b) [
-          | inl under ↦ let passed = is.below b (a, obstacle) (omega arith) (omega arith) in absurd (omega arith)
+          | inl under ↦ let passed = is.below b (a, obstacle) (omega arith) (omega arith) in
+              absurd (omega arith)
           | inr own ↦ absurd (omega arith)
         ]
       ]
     ]
 
 -- rows that are skipped have no obstacle that could lower the least
-pub IsLeastWithin-passed : (distance : ℕ → ℕ → ℕ) (cells : Cells) (rect : Rect) (gap next limit least : ℕ) → IsBitmap cells → 0 < gap
+pub IsLeastWithin-passed : (distance : ℕ → ℕ → ℕ) (cells : Cells) (rect : Rect)
+    (gap next limit least : ℕ) → IsBitmap cells → 0 < gap
     → IsNextGap (λ b. (a : ℕ) × IsObstacle cells a b) rect.y0 (rect.y1 - 1) gap next
-    → IsLeastWithin distance (IsObstacle cells) rect gap limit least → IsLeastWithin distance (IsObstacle cells) rect next limit least
+    → IsLeastWithin distance (IsObstacle cells) rect gap limit least
+    → IsLeastWithin distance (IsObstacle cells) rect next limit least
 IsLeastWithin-passed distance cells rect gap next limit least bitmap some is before =
-    IsLeastAmong-same distance (IsObstacle cells) rect (λ b. row_gap rect b < gap) (λ b. row_gap rect b < next) limit least least refl
+    IsLeastAmong-same distance (IsObstacle cells) rect (λ b. row_gap rect b < gap)
+    (λ b. row_gap rect b < next) limit least least refl
     (row_gap-passed cells rect gap next bitmap some is) before
 
 -- nor one that could be nearer than the best
-pub IsNearAmong-passed : (distance : ℕ → ℕ → ℕ) (cells : Cells) (x y gap next : ℕ) (best : Option Found) → IsBitmap cells
+pub IsNearAmong-passed : (distance : ℕ → ℕ → ℕ) (cells : Cells) (x y gap next : ℕ)
+    (best : Option Found) → IsBitmap cells
     → IsNextGap (λ b. (a : ℕ) × IsObstacle cells a b) y y gap next
-    → IsNearAmong distance (IsObstacle cells) (IsWithin y gap) x y best → IsNearAmong distance (IsObstacle cells) (IsWithin y next) x y best
+    → IsNearAmong distance (IsObstacle cells) (IsWithin y gap) x y best
+    → IsNearAmong distance (IsObstacle cells) (IsWithin y next) x y best
 IsNearAmong-passed distance cells x y gap next best bitmap is before =
     let from = is.from in
     IsNearAmong-same distance (IsObstacle cells) (IsWithin y gap) (IsWithin y next) x y best
@@ -84,6 +97,7 @@ IsNearAmong-passed distance cells x y gap next best bitmap is before =
       | inl earlier ↦ earlier
       | inr far ↦ elim (cases_lt b y) [
         | inl up ↦ let passed = is.above b (a, obstacle) (omega arith) in absurd (omega arith)
-        | inr down ↦ let passed = is.below b (a, obstacle) (omega arith) (omega arith) in absurd (omega arith)
+        | inr down ↦ let passed = is.below b (a, obstacle) (omega arith) (omega arith) in
+            absurd (omega arith)
       ]
     ]) before

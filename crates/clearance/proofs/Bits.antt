@@ -5,7 +5,8 @@ use Rattle.std.specs.Int.Count.{count_leading_zeros}
 use lib.Bits.{bit_and}
 use Rattle.std.proofs.Math.Nat.{div-lt_iff_lt-mul, le-div_iff_mul-le}
 use Rattle.std.proofs.lemmas.Nat.{leading_top}
-use Rattle.std.proofs.lemmas.Nat.Bits.{bit_at_and, bit_at_above, bit_at-lt, bit_at_mask_inside, bit_at_mask_below}
+use Rattle.std.proofs.lemmas.Nat.Bits.{bit_at_and, bit_at_above, bit_at-lt, bit_at_mask_inside}
+use Rattle.std.proofs.lemmas.Nat.Bits.{bit_at_mask_below}
 
 -- a number from 2 ^ j to below twice that has the bit j
 top_bit : (n j : ℕ) → 2 ^ j ≤ n → n < 2 ^ suc j → bit_at n j ≡ 1
@@ -19,14 +20,19 @@ top_bit n j low high =
 
 -- the bit that `leading_zeros` leaves on top is the highest
 pub bit_at-leading_zeros : (n : ℕ) → 0 < n → n < 2 ^ 64
-    → (count_leading_zeros 64 n < 64) × (bit_at n (63 - count_leading_zeros 64 n) ≡ 1) × ((i : ℕ) → 63 - count_leading_zeros 64 n < i → bit_at n i ≡ 0)
+    → (count_leading_zeros 64 n < 64) × (bit_at n (63 - count_leading_zeros 64 n) ≡ 1)
+    × ((i : ℕ) → 63 - count_leading_zeros 64 n < i → bit_at n i ≡ 0)
 bit_at-leading_zeros n some fits =
     let (j, sum, low, high) = leading_top 64 n some fits in
-    let place : 63 - count_leading_zeros 64 n ≡ j = omega arith in
-    (omega arith, rw place (top_bit n j low high), λ i above. bit_at_above n (suc j) i high (omega arith))
+    let place : 63 - count_leading_zeros 64 n ≡ j = omega arith in (
+      omega arith,
+      rw place (top_bit n j low high),
+      λ i above. bit_at_above n (suc j) i high (omega arith),
+    )
 
 -- the bits from a place on are kept by a mask of ones from there on
-pub bit_at-and_from : (n k i : ℕ) → k ≤ i → i < 64 → bit_at (bit_and n (2 ^ 64 - 2 ^ k)) i ≡ bit_at n i
+pub bit_at-and_from : (n k i : ℕ) → k ≤ i → i < 64
+    → bit_at (bit_and n (2 ^ 64 - 2 ^ k)) i ≡ bit_at n i
 bit_at-and_from n k i from within =
     let inside = bit_at_mask_inside k 64 i from within in
     let small = bit_at-lt n i in

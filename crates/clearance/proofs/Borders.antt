@@ -1,5 +1,7 @@
--- The nearest of a map with its frame, from that of the frame and that of the map, and the least over a rectangle likewise.
-use Rattle.std.proofs.Common.{◌≡◌, ℕ, zero, suc, ◌+◌, ◌-◌, ◌<◌, ◌≤◌, ℤ, pos, negsuc, Some, None, Option, IfSome, inl, inr, refl, sym, ap, subst, ◌∙◌, arith}
+-- The nearest of a map with its frame, from that of the frame and that of the map, and the least
+-- over a rectangle likewise.
+use Rattle.std.proofs.Common.{◌≡◌, ℕ, zero, suc, ◌+◌, ◌-◌, ◌<◌, ◌≤◌, ℤ, pos, negsuc, Some, None}
+use Rattle.std.proofs.Common.{Option, IfSome, inl, inr, refl, sym, ap, subst, ◌∙◌, arith}
 use Rattle.std.specs.Int.{abs_diff}
 use Rattle.std.proofs.lemmas.Bool.{cases_lt}
 use Rattle.metric.specs.Cellwise.{Key, key_of, IsAtMost}
@@ -13,7 +15,8 @@ use Rattle.metric.proofs.Growing.{of_grows}
 use Rattle.bits.specs.Cells.{Cells, IsBitmap, IsObstacle}
 use Rattle.bits.specs.Edges.{IsBlocked, IsFrame, IsFrameCell, IsFramed, less_one}
 use Rattle.bits.proofs.CellsLemmas.{has-outside}
-use Rattle.bits.proofs.Framing.{count, count_back, distance_less, frame_cell, framed_blocked, same_distance}
+use Rattle.bits.proofs.Framing.{count, count_back, distance_less, frame_cell, framed_blocked}
+use Rattle.bits.proofs.Framing.{same_distance}
 use Rattle.clearance.specs.declared.found.Found.{Found}
 use Rattle.clearance.specs.Nearest.{IsFound}
 use Rattle.clearance.specs.Parts.{IsPart}
@@ -21,33 +24,46 @@ use Rattle.clearance.specs.declared.part.Part.TheVariants.{Frame}
 use Rattle.clearance.specs.Rows.{IsFar}
 use Rattle.clearance.specs.Search.{IsInRect, IsLeastBelow, IsLeastInBits, IsReachedFrom}
 use Rattle.clearance.proofs.Searches.{IsFar-lower}
-use Rattle.clearance.specs.Frames.{IsBetterOfBoth, IsFoundBelow, IsLoweredByFrame, key_found, counted_with_frame}
+use Rattle.clearance.specs.Frames.{IsBetterOfBoth, IsFoundBelow, IsLoweredByFrame, key_found}
+use Rattle.clearance.specs.Frames.{counted_with_frame}
 
 -- a key by its parts
 abbrev key_with : ℕ → ℕ → ℕ → ℕ → Key
-key_with dist column difference row = record { distance = dist; column = column; row_difference = difference; row = row }
+key_with dist column difference row =
+    record { distance = dist; column = column; row_difference = difference; row = row }
 
 -- the order of what is found is that of its keys
-at_most_found : (d : ℕ → ℕ → ℕ) (x y : ℕ) (p q : Found) → p.dist ≡ distance_between d x y p.cell.x p.cell.y → q.dist ≡ distance_between d x y q.cell.x q.cell.y
-    → IsAtMost (key_found y p) (key_found y q) → IsAtMost (key_of d x y p.cell.x p.cell.y) (key_of d x y q.cell.x q.cell.y)
+at_most_found : (d : ℕ → ℕ → ℕ) (x y : ℕ) (p q : Found)
+    → p.dist ≡ distance_between d x y p.cell.x p.cell.y
+    → q.dist ≡ distance_between d x y q.cell.x q.cell.y
+    → IsAtMost (key_found y p) (key_found y q)
+    → IsAtMost (key_of d x y p.cell.x p.cell.y) (key_of d x y q.cell.x q.cell.y)
 at_most_found d x y p q p_is q_is most =
-    subst (λ (n : ℕ). IsAtMost (key_of d x y p.cell.x p.cell.y) (key_with n q.cell.x (abs_diff y q.cell.y) q.cell.y)) q_is
-    (subst (λ (n : ℕ). IsAtMost (key_with n p.cell.x (abs_diff y p.cell.y) p.cell.y) (key_found y q)) p_is most)
+    subst (λ (n : ℕ). IsAtMost (key_of d x y p.cell.x p.cell.y)
+    (key_with n q.cell.x (abs_diff y q.cell.y) q.cell.y)) q_is
+    (subst (λ (n : ℕ). IsAtMost (key_with n p.cell.x (abs_diff y p.cell.y) p.cell.y)
+    (key_found y q)) p_is most)
 
 -- the distance of two cells is the same counted with the frame
-moved_distance : (d : ℕ → ℕ → ℕ) (x y a b : ℕ) → distance_between d x y a b ≡ distance_between d (x + 1) (y + 1) (a + 1) (b + 1)
-moved_distance d x y a b = same_distance d (abs_diff x a) (abs_diff (x + 1) (a + 1)) (abs_diff y b) (abs_diff (y + 1) (b + 1)) (omega arith) (omega arith)
+moved_distance : (d : ℕ → ℕ → ℕ) (x y a b : ℕ)
+    → distance_between d x y a b ≡ distance_between d (x + 1) (y + 1) (a + 1) (b + 1)
+moved_distance d x y a b =
+    same_distance d (abs_diff x a) (abs_diff (x + 1) (a + 1)) (abs_diff y b)
+    (abs_diff (y + 1) (b + 1)) (omega arith) (omega arith)
 
 -- the order of two cells is the same counted with the frame
-moved_at_most : (d : ℕ → ℕ → ℕ) (x y a b c e : ℕ) → IsAtMost (key_of d x y a b) (key_of d x y c e) → IsAtMost (key_of d (x + 1) (y + 1) (a + 1) (b + 1)) (key_of d (x + 1) (y + 1) (c + 1) (e + 1))
+moved_at_most : (d : ℕ → ℕ → ℕ) (x y a b c e : ℕ) → IsAtMost (key_of d x y a b) (key_of d x y c e)
+    → IsAtMost (key_of d (x + 1) (y + 1) (a + 1) (b + 1)) (key_of d (x + 1) (y + 1) (c + 1) (e + 1))
 moved_at_most d x y a b c e most =
     let here = moved_distance d x y a b in
     let there = moved_distance d x y c e in
     elim most.order [
       | inl less ↦ record { order = inl (omega arith) }
       | inr (same, inl left) ↦ record { order = inr (omega arith, inl (omega arith)) }
-      | inr (same, inr (column, inl fewer)) ↦ record { order = inr (omega arith, inr (omega arith, inl (omega arith))) }
-      | inr (same, inr (column, inr (as_many, row))) ↦ record { order = inr (omega arith, inr (omega arith, inr (omega arith, omega arith))) }
+      | inr (same, inr (column, inl fewer)) ↦
+          record { order = inr (omega arith, inr (omega arith, inl (omega arith))) }
+      | inr (same, inr (column, inr (as_many, row))) ↦
+          record { order = inr (omega arith, inr (omega arith, inr (omega arith, omega arith))) }
     ]
 
 -- what is found in a map is there with the frame too
@@ -55,67 +71,98 @@ own_framed : (cells : Cells) (a b : ℕ) → IsObstacle cells a b → IsFramed c
 own_framed cells a b black =
     let columns : a ≡ a + 1 - 1 = omega arith in
     let rows : b ≡ b + 1 - 1 = omega arith in
-    inr (omega arith, omega arith, subst (λ (n : ℕ). IsObstacle cells (a + 1 - 1) n) rows (subst (λ (m : ℕ). IsObstacle cells m b) columns black))
+    inr (
+      omega arith,
+      omega arith,
+      subst (λ (n : ℕ). IsObstacle cells (a + 1 - 1) n) rows
+          (subst (λ (m : ℕ). IsObstacle cells m b) columns black),
+    )
 
--- what has no greater key than the frame's and, if there is any, the map's own nearest is the nearest of both
+-- what has no greater key than the frame's and, if there is any, the map's own nearest is the
+-- nearest of both
 pub record IsBoth (d : ℕ → ℕ → ℕ) (cells : Cells) (x y a b : ℕ) : Type 0 where
-  pub frame : (c e : ℕ) → IsFrameCell (cells.width + 1) (cells.height + 1) c e → IsAtMost (key_of d (x + 1) (y + 1) a b) (key_of d (x + 1) (y + 1) c e)
-  pub own : (c e : ℕ) → IsObstacle cells c e → IsAtMost (key_of d (x + 1) (y + 1) a b) (key_of d (x + 1) (y + 1) (c + 1) (e + 1))
+  pub frame : (c e : ℕ) → IsFrameCell (cells.width + 1) (cells.height + 1) c e
+      → IsAtMost (key_of d (x + 1) (y + 1) a b) (key_of d (x + 1) (y + 1) c e)
+  pub own : (c e : ℕ) → IsObstacle cells c e
+      → IsAtMost (key_of d (x + 1) (y + 1) a b) (key_of d (x + 1) (y + 1) (c + 1) (e + 1))
 
 -- the least of both sets is the least of the map with its frame
-both_framed : (d : ℕ → ℕ → ℕ) (cells : Cells) (x y a b : ℕ) → IsBoth d cells x y a b → (c e : ℕ) → IsFramed cells c e → IsAtMost (key_of d (x + 1) (y + 1) a b) (key_of d (x + 1) (y + 1) c e)
+both_framed : (d : ℕ → ℕ → ℕ) (cells : Cells) (x y a b : ℕ) → IsBoth d cells x y a b → (c e : ℕ)
+    → IsFramed cells c e → IsAtMost (key_of d (x + 1) (y + 1) a b) (key_of d (x + 1) (y + 1) c e)
 both_framed d cells x y a b both c e (inl frame) = both.frame c e frame
 both_framed d cells x y a b both c e (inr (left, top, black)) =
     let columns : c - 1 + 1 ≡ c = omega arith in
     let rows : e - 1 + 1 ≡ e = omega arith in
     subst (λ (n : ℕ). IsAtMost (key_of d (x + 1) (y + 1) a b) (key_of d (x + 1) (y + 1) c n)) rows
-    (subst (λ (m : ℕ). IsAtMost (key_of d (x + 1) (y + 1) a b) (key_of d (x + 1) (y + 1) m (e - 1 + 1))) columns (both.own (c - 1) (e - 1) black))
+    (subst (λ (m : ℕ). IsAtMost (key_of d (x + 1) (y + 1) a b)
+    (key_of d (x + 1) (y + 1) m (e - 1 + 1))) columns (both.own (c - 1) (e - 1) black))
 
 -- the map's own nearest, counted with the frame, comes before each other one of the map
-own_least : (d : ℕ → ℕ → ℕ) (cells : Cells) (x y : ℕ) (own : Found) → IsFound d (IsObstacle cells) x y own
-    → (c e : ℕ) → IsObstacle cells c e → IsAtMost (key_of d (x + 1) (y + 1) (own.cell.x + 1) (own.cell.y + 1)) (key_of d (x + 1) (y + 1) (c + 1) (e + 1))
-own_least d cells x y own found c e black = moved_at_most d x y own.cell.x own.cell.y c e (found.least c e black)
+own_least : (d : ℕ → ℕ → ℕ) (cells : Cells) (x y : ℕ) (own : Found)
+    → IsFound d (IsObstacle cells) x y own
+    → (c e : ℕ) → IsObstacle cells c e
+    → IsAtMost (key_of d (x + 1) (y + 1) (own.cell.x + 1) (own.cell.y + 1))
+    (key_of d (x + 1) (y + 1) (c + 1) (e + 1))
+own_least d cells x y own found c e black =
+    moved_at_most d x y own.cell.x own.cell.y c e (found.least c e black)
 
 -- the better of the frame's and the map's own nearest is the nearest of the map with its frame
-pub best_framed : (d : ℕ → ℕ → ℕ) (cells : Cells) (x y : ℕ) (frame : Found) (own : Option Found) (best : Found) → IsFound d (IsFrameCell (cells.width + 1) (cells.height + 1)) (x + 1) (y + 1) frame
-    → IsFoundBelow d (IsObstacle cells) x y (frame.dist + 1) own → IsBetterOfBoth (y + 1) frame own best → IsFound d (IsFramed cells) (x + 1) (y + 1) best
-best_framed d cells x y frame None best of_frame none is = subst (λ (f : Found). IsFound d (IsFramed cells) (x + 1) (y + 1) f) (sym is) (record {
-  obstacle = inl of_frame.obstacle;
-  distance_is = of_frame.distance_is;
-  least = both_framed d cells x y frame.cell.x frame.cell.y (record {
-    frame = of_frame.least;
-    own = λ c e black.
-        let far = none c e black in
-        let dist = of_frame.distance_is in
-        let there = moved_distance d x y c e in
-        record { order = inl (omega arith) };
-  });
-})
-best_framed d cells x y frame (Some own) best of_frame found (inl (is, most)) =
-    let dist : own.dist ≡ distance_between d (x + 1) (y + 1) (own.cell.x + 1) (own.cell.y + 1) = found.distance_is ∙ moved_distance d x y own.cell.x own.cell.y in
-    let ahead = at_most_found d (x + 1) (y + 1) (counted_with_frame own) frame dist of_frame.distance_is most in
-    subst (λ (f : Found). IsFound d (IsFramed cells) (x + 1) (y + 1) f) (sym is) (record {
-      obstacle = own_framed cells own.cell.x own.cell.y found.obstacle;
-      distance_is = dist;
-      least = both_framed d cells x y (own.cell.x + 1) (own.cell.y + 1) (record {
-        frame = λ c e cell. IsAtMost-transitive (key_of d (x + 1) (y + 1) (own.cell.x + 1) (own.cell.y + 1)) (key_of d (x + 1) (y + 1) frame.cell.x frame.cell.y) (key_of d (x + 1) (y + 1) c e) ahead (of_frame.least c e cell);
-        own = own_least d cells x y own found;
-      });
-    })
-best_framed d cells x y frame (Some own) best of_frame found (inr (is, most)) =
-    let dist : own.dist ≡ distance_between d (x + 1) (y + 1) (own.cell.x + 1) (own.cell.y + 1) = found.distance_is ∙ moved_distance d x y own.cell.x own.cell.y in
-    let ahead = at_most_found d (x + 1) (y + 1) frame (counted_with_frame own) of_frame.distance_is dist most in
+pub best_framed : (d : ℕ → ℕ → ℕ) (cells : Cells) (x y : ℕ) (frame : Found) (own : Option Found)
+    (best : Found) → IsFound d (IsFrameCell (cells.width + 1) (cells.height + 1)) (x + 1)
+    (y + 1) frame
+    → IsFoundBelow d (IsObstacle cells) x y (frame.dist + 1) own
+    → IsBetterOfBoth (y + 1) frame own best → IsFound d (IsFramed cells) (x + 1) (y + 1) best
+best_framed d cells x y frame None best of_frame none is =
     subst (λ (f : Found). IsFound d (IsFramed cells) (x + 1) (y + 1) f) (sym is) (record {
       obstacle = inl of_frame.obstacle;
       distance_is = of_frame.distance_is;
       least = both_framed d cells x y frame.cell.x frame.cell.y (record {
         frame = of_frame.least;
-        own = λ c e black. IsAtMost-transitive (key_of d (x + 1) (y + 1) frame.cell.x frame.cell.y) (key_of d (x + 1) (y + 1) (own.cell.x + 1) (own.cell.y + 1)) (key_of d (x + 1) (y + 1) (c + 1) (e + 1)) ahead (own_least d cells x y own found c e black);
+        own = λ c e black.
+            let far = none c e black in
+            let dist = of_frame.distance_is in
+            let there = moved_distance d x y c e in
+            record { order = inl (omega arith) };
+      });
+    })
+best_framed d cells x y frame (Some own) best of_frame found (inl (is, most)) =
+    let dist : own.dist ≡ distance_between d (x + 1) (y + 1) (own.cell.x + 1) (own.cell.y + 1) =
+    found.distance_is ∙ moved_distance d x y own.cell.x own.cell.y in
+    let ahead = at_most_found d (x + 1) (y + 1) (counted_with_frame own) frame dist
+    of_frame.distance_is most in
+    subst (λ (f : Found). IsFound d (IsFramed cells) (x + 1) (y + 1) f) (sym is) (record {
+      obstacle = own_framed cells own.cell.x own.cell.y found.obstacle;
+      distance_is = dist;
+      least = both_framed d cells x y (own.cell.x + 1) (own.cell.y + 1) (record {
+        frame = λ c e cell. IsAtMost-transitive
+            (key_of d (x + 1) (y + 1) (own.cell.x + 1) (own.cell.y + 1))
+            (key_of d (x + 1) (y + 1) frame.cell.x frame.cell.y)
+            (key_of d (x + 1) (y + 1) c e) ahead
+            (of_frame.least c e cell);
+        own = own_least d cells x y own found;
+      });
+    })
+best_framed d cells x y frame (Some own) best of_frame found (inr (is, most)) =
+    let dist : own.dist ≡ distance_between d (x + 1) (y + 1) (own.cell.x + 1) (own.cell.y + 1) =
+    found.distance_is ∙ moved_distance d x y own.cell.x own.cell.y in
+    let ahead = at_most_found d (x + 1) (y + 1) frame
+    (counted_with_frame own) of_frame.distance_is dist most in
+    subst (λ (f : Found). IsFound d (IsFramed cells) (x + 1) (y + 1) f) (sym is) (record {
+      obstacle = inl of_frame.obstacle;
+      distance_is = of_frame.distance_is;
+      least = both_framed d cells x y frame.cell.x frame.cell.y (record {
+        frame = of_frame.least;
+        own = λ c e black. IsAtMost-transitive (key_of d (x + 1) (y + 1) frame.cell.x frame.cell.y)
+            (key_of d (x + 1) (y + 1) (own.cell.x + 1) (own.cell.y + 1))
+            (key_of d (x + 1) (y + 1) (c + 1) (e + 1)) ahead
+            (own_least d cells x y own found c e black);
       });
     })
 
 -- what is found in a bitmap lies in it
-pub found_small : (d : ℕ → ℕ → ℕ) (cells : Cells) (x y limit : ℕ) (own : Option Found) → IsBitmap cells → IsFoundBelow d (IsObstacle cells) x y limit own → IfSome own (λ found. (found.cell.x < 4096) × (found.cell.y < 4096))
+pub found_small : (d : ℕ → ℕ → ℕ) (cells : Cells) (x y limit : ℕ) (own : Option Found)
+    → IsBitmap cells → IsFoundBelow d (IsObstacle cells) x y limit own
+    → IfSome own (λ found. (found.cell.x < 4096) × (found.cell.y < 4096))
 found_small d cells x y limit None bitmap none = tt
 found_small d cells x y limit (Some own) bitmap found =
     let inside = has-outside cells bitmap own.cell.x own.cell.y found.obstacle in
@@ -126,8 +173,12 @@ found_small d cells x y limit (Some own) bitmap found =
     (omega arith, omega arith)
 
 -- a cell of the frame is no nearer to a rectangle's cell than the lowered limit
-frame_far : (d : ℕ → ℕ → ℕ) → Grows d → StaysNearer d → (cells : Cells) (rect : Rect) (limit least x y a b : ℕ) → IsBitmap cells → rect.x1 ≤ cells.width → rect.y1 ≤ cells.height
-    → IsLoweredByFrame d cells.width cells.height rect limit least → IsInRect rect x y → IsFrameCell (cells.width + 1) (cells.height + 1) a b → least ≤ distance_between d (x + 1) (y + 1) a b
+frame_far : (d : ℕ → ℕ → ℕ) → Grows d → StaysNearer d
+    → (cells : Cells) (rect : Rect) (limit least x y a b : ℕ) → IsBitmap cells
+    → rect.x1 ≤ cells.width → rect.y1 ≤ cells.height
+    → IsLoweredByFrame d cells.width cells.height rect limit least → IsInRect rect x y
+    → IsFrameCell (cells.width + 1) (cells.height + 1) a b
+    → least ≤ distance_between d (x + 1) (y + 1) a b
 frame_far d grows stays cells rect limit least x y a b bitmap columns rows low cell frame =
     let wide = bitmap.width_is.few in
     let high = bitmap.height_is.few in
@@ -138,16 +189,23 @@ frame_far d grows stays cells rect limit least x y a b bitmap columns rows low c
     let column = frame.column in
     let row = frame.row in
     let grown = λ (m g : ℕ) (across : m ≤ abs_diff (x + 1) a) (down : g ≤ abs_diff (y + 1) b).
-    of_grows d grows stays m (abs_diff (x + 1) a) g (abs_diff (y + 1) b) across (omega arith) down (omega arith) in
+    of_grows d grows stays m (abs_diff (x + 1) a) g (abs_diff (y + 1) b) across (omega arith) down
+    (omega arith) in
     elim frame.edge [
-      | inl first ↦ let far = grown (rect.x0 + 1) 0 (omega arith) (omega arith) in let most = low.left in omega arith
-      | inr (inl last) ↦ let far = grown (cells.width - (rect.x1 - 1)) 0 (omega arith) (omega arith) in let most = low.right in omega arith
-      | inr (inr (inl top)) ↦ let far = grown 0 (rect.y0 + 1) (omega arith) (omega arith) in let most = low.top in omega arith
-      | inr (inr (inr end)) ↦ let far = grown 0 (cells.height - (rect.y1 - 1)) (omega arith) (omega arith) in let most = low.bottom in omega arith
+      | inl first ↦ let far = grown (rect.x0 + 1) 0 (omega arith) (omega arith) in
+          let most = low.left in omega arith
+      | inr (inl last) ↦ let far = grown (cells.width - (rect.x1 - 1)) 0 (omega arith)
+          (omega arith) in let most = low.right in omega arith
+      | inr (inr (inl top)) ↦ let far = grown 0 (rect.y0 + 1) (omega arith) (omega arith) in
+          let most = low.top in omega arith
+      | inr (inr (inr end)) ↦ let far = grown 0 (cells.height - (rect.y1 - 1)) (omega arith)
+          (omega arith) in let most = low.bottom in omega arith
     ]
 
 -- a spot of the frame is no obstacle of the map
-frame_only : (cells : Cells) → IsBitmap cells → (a b : ℕ) → IsFrameCell (cells.width + 1) (cells.height + 1) a b → IsBlocked cells Wall (less_one a) (less_one b) → IsFrame cells (less_one a) (less_one b)
+frame_only : (cells : Cells) → IsBitmap cells → (a b : ℕ)
+    → IsFrameCell (cells.width + 1) (cells.height + 1) a b
+    → IsBlocked cells Wall (less_one a) (less_one b) → IsFrame cells (less_one a) (less_one b)
 frame_only cells bitmap a b frame (inr edge) = edge
 frame_only cells bitmap zero b frame (inl black) = absurd black
 frame_only cells bitmap (suc a) zero frame (inl black) = absurd black
@@ -155,11 +213,18 @@ frame_only cells bitmap (suc a) (suc b) frame (inl black) =
     let inside = has-outside cells bitmap a b black in
     let column = inside.column in
     let row = inside.row in
-    elim frame.edge [ inl first ↦ absurd (omega arith) | inr (inl last) ↦ absurd (omega arith) | inr (inr (inl top)) ↦ absurd (omega arith) | inr (inr (inr end)) ↦ absurd (omega arith) ]
+    elim frame.edge [
+      | inl first ↦ absurd (omega arith)
+      | inr (inl last) ↦ absurd (omega arith)
+      | inr (inr (inl top)) ↦ absurd (omega arith)
+      | inr (inr (inr end)) ↦ absurd (omega arith)
+    ]
 
 -- a cell of the frame is reached from a cell of the rectangle
-frame_reached : (d : ℕ → ℕ → ℕ) (cells : Cells) (rect : Rect) (least x y a b m g : ℕ) → IsBitmap cells → IsInRect rect x y → IsFrameCell (cells.width + 1) (cells.height + 1) a b
-    → abs_diff (x + 1) a ≡ m → abs_diff (y + 1) b ≡ g → d m g ≡ least → IsReachedFrom d (IsFrame cells) (IsInRect rect) least
+frame_reached : (d : ℕ → ℕ → ℕ) (cells : Cells) (rect : Rect) (least x y a b m g : ℕ)
+    → IsBitmap cells → IsInRect rect x y → IsFrameCell (cells.width + 1) (cells.height + 1) a b
+    → abs_diff (x + 1) a ≡ m → abs_diff (y + 1) b ≡ g → d m g ≡ least
+    → IsReachedFrom d (IsFrame cells) (IsInRect rect) least
 frame_reached d cells rect least x y a b m g bitmap cell frame across down is = record {
   x = x;
   y = y;
@@ -167,30 +232,58 @@ frame_reached d cells rect least x y a b m g bitmap cell frame across down is = 
   a = less_one a;
   b = less_one b;
   obstacle = frame_only cells bitmap a b frame (framed_blocked cells a b (inl frame));
-  distance_is = distance_less d x y a b ∙ (same_distance d (abs_diff (x + 1) a) m (abs_diff (y + 1) b) g across down ∙ is);
+  distance_is = distance_less d x y a b
+      ∙ (same_distance d (abs_diff (x + 1) a) m (abs_diff (y + 1) b) g across down ∙ is);
 }
 
 -- one of the four sides of the frame is reached
-side_reached : (d : ℕ → ℕ → ℕ) (cells : Cells) (rect : Rect) (limit least : ℕ) → IsBitmap cells → rect.x1 ≤ cells.width → rect.y1 ≤ cells.height → IsLoweredByFrame d cells.width cells.height rect limit least → least < limit
+side_reached : (d : ℕ → ℕ → ℕ) (cells : Cells) (rect : Rect) (limit least : ℕ) → IsBitmap cells
+    → rect.x1 ≤ cells.width → rect.y1 ≤ cells.height
+    → IsLoweredByFrame d cells.width cells.height rect limit least → least < limit
     → IsReachedFrom d (IsFrame cells) (IsInRect rect) least
 side_reached d cells rect limit least bitmap columns rows low less =
     let some_columns = rect.has_cells.columns in
     let some_rows = rect.has_cells.rows in
-    let corner : IsInRect rect rect.x0 rect.y0 = record { left = omega arith; right = omega arith; top = omega arith; bottom = omega arith } in
-    let right_corner : IsInRect rect (rect.x1 - 1) rect.y0 = record { left = omega arith; right = omega arith; top = omega arith; bottom = omega arith } in
-    let lower_corner : IsInRect rect rect.x0 (rect.y1 - 1) = record { left = omega arith; right = omega arith; top = omega arith; bottom = omega arith } in
+    let corner : IsInRect rect rect.x0 rect.y0 =
+    record { left = omega arith; right = omega arith; top = omega arith; bottom = omega arith } in
+    let right_corner : IsInRect rect (rect.x1 - 1) rect.y0 =
+    record { left = omega arith; right = omega arith; top = omega arith; bottom = omega arith } in
+    let lower_corner : IsInRect rect rect.x0 (rect.y1 - 1) =
+    record { left = omega arith; right = omega arith; top = omega arith; bottom = omega arith } in
     elim (low.reached less) [
-      | inl left ↦ frame_reached d cells rect least rect.x0 rect.y0 0 (rect.y0 + 1) (rect.x0 + 1) 0 bitmap corner (record { column = omega arith; row = omega arith; edge = inl refl }) (omega arith) (omega arith) left
-      | inr (inl right) ↦ frame_reached d cells rect least (rect.x1 - 1) rect.y0 (cells.width + 1) (rect.y0 + 1) (cells.width - (rect.x1 - 1)) 0 bitmap right_corner (record { column = omega arith; row = omega arith; edge = inr (inl refl) }) (omega arith) (omega arith) right
-      | inr (inr (inl top)) ↦ frame_reached d cells rect least rect.x0 rect.y0 (rect.x0 + 1) 0 0 (rect.y0 + 1) bitmap corner (record { column = omega arith; row = omega arith; edge = inr (inr (inl refl)) }) (omega arith) (omega arith) top
-      | inr (inr (inr end)) ↦ frame_reached d cells rect least rect.x0 (rect.y1 - 1) (rect.x0 + 1) (cells.height + 1) 0 (cells.height - (rect.y1 - 1)) bitmap lower_corner (record { column = omega arith; row = omega arith; edge = inr (inr (inr refl)) }) (omega arith) (omega arith) end
+      | inl left ↦ frame_reached d cells rect least rect.x0 rect.y0 0 (rect.y0 + 1)
+          (rect.x0 + 1) 0 bitmap corner
+          (record { column = omega arith; row = omega arith; edge = inl refl }) (omega arith)
+          (omega arith) left
+      | inr (inl right) ↦ frame_reached d cells rect least (rect.x1 - 1) rect.y0 (cells.width + 1)
+          (rect.y0 + 1) (cells.width - (rect.x1 - 1)) 0 bitmap right_corner
+          (record { column = omega arith; row = omega arith; edge = inr (inl refl) }) (omega arith)
+          (omega arith) right
+      | inr (inr (inl top)) ↦ frame_reached d cells rect least rect.x0 rect.y0 (rect.x0 + 1) 0 0
+          (rect.y0 + 1) bitmap corner
+          (record { column = omega arith; row = omega arith; edge = inr (inr (inl refl)) })
+          (omega arith) (omega arith) top
+      | inr (inr (inr end)) ↦ frame_reached d cells rect least rect.x0 (rect.y1 - 1) (rect.x0 + 1)
+          (cells.height + 1) 0 (cells.height - (rect.y1 - 1)) bitmap lower_corner
+          (record { column = omega arith; row = omega arith; edge = inr (inr (inr refl)) })
+          (omega arith) (omega arith) end
     ]
 
 -- the least among the obstacles of the bitmap is reached by their spots
-cells_reached : (d : ℕ → ℕ → ℕ) (cells : Cells) (rect : Rect) (limit least : ℕ) → IsLeastInBits d (IsObstacle cells) rect limit least → least < limit → IsReachedFrom d (IsBlocked cells Wall) (IsInRect rect) least
+cells_reached : (d : ℕ → ℕ → ℕ) (cells : Cells) (rect : Rect) (limit least : ℕ)
+    → IsLeastInBits d (IsObstacle cells) rect limit least → least < limit
+    → IsReachedFrom d (IsBlocked cells Wall) (IsInRect rect) least
 cells_reached d cells rect limit least is less =
     let reached = is.reached less in
-    record { x = reached.x; y = reached.y; cell = reached.cell; a = pos reached.a; b = pos reached.b; obstacle = inl reached.obstacle; distance_is = reached.distance_is }
+    record {
+      x = reached.x;
+      y = reached.y;
+      cell = reached.cell;
+      a = pos reached.a;
+      b = pos reached.b;
+      obstacle = inl reached.obstacle;
+      distance_is = reached.distance_is;
+    }
 
 -- a spot of the frame, counted with it
 record IsCountedFrame (cells : Cells) (c e : ℤ) : Type 0 where
@@ -202,21 +295,37 @@ record IsCountedFrame (cells : Cells) (c e : ℤ) : Type 0 where
 
 -- each spot of the frame can be counted with it
 frame_counted : (cells : Cells) (c e : ℤ) → IsFrame cells c e → IsCountedFrame cells c e
-frame_counted cells c e frame = record { a = count c; b = count e; column = count_back c frame.left; row = count_back e frame.top; frame = frame_cell cells c e frame }
+frame_counted cells c e frame =
+    record {
+      a = count c;
+      b = count e;
+      column = count_back c frame.left;
+      row = count_back e frame.top;
+      frame = frame_cell cells c e frame;
+    }
 
 -- a spot of the frame is no nearer to a rectangle's cell than the lowered limit
-frame_spot_far : (d : ℕ → ℕ → ℕ) → Grows d → StaysNearer d → (cells : Cells) (rect : Rect) (limit least : ℕ) → IsBitmap cells → rect.x1 ≤ cells.width → rect.y1 ≤ cells.height
-    → IsLoweredByFrame d cells.width cells.height rect limit least → (x y : ℕ) (a b : ℤ) → IsInRect rect x y → IsFrame cells a b → IsFar (spot_distance d x y a b) least
+frame_spot_far : (d : ℕ → ℕ → ℕ) → Grows d → StaysNearer d
+    → (cells : Cells) (rect : Rect) (limit least : ℕ) → IsBitmap cells → rect.x1 ≤ cells.width
+    → rect.y1 ≤ cells.height
+    → IsLoweredByFrame d cells.width cells.height rect limit least → (x y : ℕ) (a b : ℤ)
+    → IsInRect rect x y → IsFrame cells a b → IsFar (spot_distance d x y a b) least
 frame_spot_far d grows stays cells rect limit least bitmap columns rows low x y a b cell frame =
     let counted = frame_counted cells a b frame in
-    let far = frame_far d grows stays cells rect limit least x y counted.a counted.b bitmap columns rows low cell counted.frame in
+    let far = frame_far d grows stays cells rect limit least x y counted.a counted.b bitmap columns
+    rows low cell counted.frame in
     let there = distance_less d x y counted.a counted.b in
-    let here : spot_distance d x y a b ≡ spot_distance d x y (less_one counted.a) (less_one counted.b) = ap (λ (s : ℤ). spot_distance d x y s b) counted.column ∙ ap (λ (s : ℤ). spot_distance d x y (less_one counted.a) s) counted.row in
+    let here : spot_distance d x y a b ≡ spot_distance d x y (less_one counted.a)
+    (less_one counted.b) = ap (λ (s : ℤ). spot_distance d x y s b) counted.column
+    ∙ ap (λ (s : ℤ). spot_distance d x y (less_one counted.a) s) counted.row in
     record { not_below = omega arith; is_limit = low.small }
 
 -- the limit lowered by the frame is the least of the rectangle's cells and the frame
-pub IsLeastBelow-frame : (d : ℕ → ℕ → ℕ) → Grows d → StaysNearer d → (cells : Cells) (rect : Rect) (limit least : ℕ) → IsBitmap cells → rect.x1 ≤ cells.width → rect.y1 ≤ cells.height
-    → IsLoweredByFrame d cells.width cells.height rect limit least → IsLeastBelow d (IsPart cells Frame) rect limit least
+pub IsLeastBelow-frame : (d : ℕ → ℕ → ℕ) → Grows d → StaysNearer d
+    → (cells : Cells) (rect : Rect) (limit least : ℕ) → IsBitmap cells → rect.x1 ≤ cells.width
+    → rect.y1 ≤ cells.height
+    → IsLoweredByFrame d cells.width cells.height rect limit least
+    → IsLeastBelow d (IsPart cells Frame) rect limit least
 IsLeastBelow-frame d grows stays cells rect limit least bitmap columns rows low = record {
   within = low.within;
   far = frame_spot_far d grows stays cells rect limit least bitmap columns rows low;
@@ -224,18 +333,32 @@ IsLeastBelow-frame d grows stays cells rect limit least bitmap columns rows low 
 }
 
 -- no spot of a walled map is nearer than the least
-walled_far : (d : ℕ → ℕ → ℕ) → Grows d → StaysNearer d → (cells : Cells) (rect : Rect) (limit middle least : ℕ) → IsBitmap cells → rect.x1 ≤ cells.width → rect.y1 ≤ cells.height
-    → IsLoweredByFrame d cells.width cells.height rect limit middle → IsLeastInBits d (IsObstacle cells) rect middle least
-    → (x y : ℕ) (a b : ℤ) → IsInRect rect x y → IsBlocked cells Wall a b → IsFar (spot_distance d x y a b) least
-walled_far d grows stays cells rect limit middle least bitmap columns rows low is x y (pos a) (pos b) cell (inl black) = is.far x y a b cell black
-walled_far d grows stays cells rect limit middle least bitmap columns rows low is x y (pos a) (negsuc b) cell (inl none) = absurd none
-walled_far d grows stays cells rect limit middle least bitmap columns rows low is x y (negsuc a) b cell (inl none) = absurd none
-walled_far d grows stays cells rect limit middle least bitmap columns rows low is x y a b cell (inr frame) =
-    IsFar-lower (spot_distance d x y a b) middle least is.within (frame_spot_far d grows stays cells rect limit middle bitmap columns rows low x y a b cell frame)
+walled_far : (d : ℕ → ℕ → ℕ) → Grows d → StaysNearer d
+    → (cells : Cells) (rect : Rect) (limit middle least : ℕ) → IsBitmap cells
+    → rect.x1 ≤ cells.width → rect.y1 ≤ cells.height
+    → IsLoweredByFrame d cells.width cells.height rect limit middle
+    → IsLeastInBits d (IsObstacle cells) rect middle least
+    → (x y : ℕ) (a b : ℤ) → IsInRect rect x y → IsBlocked cells Wall a b
+    → IsFar (spot_distance d x y a b) least
+walled_far d grows stays cells rect limit middle least bitmap columns rows low is x y (pos a)
+    (pos b) cell (inl black) = is.far x y a b cell black
+walled_far d grows stays cells rect limit middle least bitmap columns rows low is x y (pos a)
+    (negsuc b) cell (inl none) = absurd none
+walled_far d grows stays cells rect limit middle least bitmap columns rows low is x y
+    (negsuc a) b cell (inl none) = absurd none
+walled_far d grows stays cells rect limit middle least bitmap columns rows low is x y a b cell
+    (inr frame) =
+    IsFar-lower (spot_distance d x y a b) middle least is.within
+    (frame_spot_far d grows stays cells rect limit middle bitmap columns rows low x y a b cell
+    frame)
 
 -- the least of the frame and then of the own obstacles of a map is that of the walled map
-pub IsLeastBelow-wall : (d : ℕ → ℕ → ℕ) → Grows d → StaysNearer d → (cells : Cells) (rect : Rect) (limit middle least : ℕ) → IsBitmap cells → rect.x1 ≤ cells.width → rect.y1 ≤ cells.height
-    → IsLoweredByFrame d cells.width cells.height rect limit middle → IsLeastInBits d (IsObstacle cells) rect middle least → IsLeastBelow d (IsBlocked cells Wall) rect limit least
+pub IsLeastBelow-wall : (d : ℕ → ℕ → ℕ) → Grows d → StaysNearer d
+    → (cells : Cells) (rect : Rect) (limit middle least : ℕ) → IsBitmap cells
+    → rect.x1 ≤ cells.width → rect.y1 ≤ cells.height
+    → IsLoweredByFrame d cells.width cells.height rect limit middle
+    → IsLeastInBits d (IsObstacle cells) rect middle least
+    → IsLeastBelow d (IsBlocked cells Wall) rect limit least
 IsLeastBelow-wall d grows stays cells rect limit middle least bitmap columns rows low is = record {
   within = let lower = is.within in let lowered = low.within in omega arith;
   far = walled_far d grows stays cells rect limit middle least bitmap columns rows low is;
@@ -245,23 +368,43 @@ IsLeastBelow-wall d grows stays cells rect limit middle least bitmap columns row
         let most = is.within in
         let equal : middle ≡ least = omega arith in
         let side = side_reached d cells rect limit middle bitmap columns rows low (omega arith) in
-        record { x = side.x; y = side.y; cell = side.cell; a = side.a; b = side.b; obstacle = inr side.obstacle; distance_is = side.distance_is ∙ equal }
+        record {
+          x = side.x;
+          y = side.y;
+          cell = side.cell;
+          a = side.a;
+          b = side.b;
+          obstacle = inr side.obstacle;
+          distance_is = side.distance_is ∙ equal;
+        }
   ];
 }
 
 -- no spot of an open map is nearer than the least of its cells
-open_far : (d : ℕ → ℕ → ℕ) (cells : Cells) (rect : Rect) (limit least : ℕ) → IsLeastInBits d (IsObstacle cells) rect limit least
-    → (x y : ℕ) (a b : ℤ) → IsInRect rect x y → IsBlocked cells Open a b → IsFar (spot_distance d x y a b) least
+open_far : (d : ℕ → ℕ → ℕ) (cells : Cells) (rect : Rect) (limit least : ℕ)
+    → IsLeastInBits d (IsObstacle cells) rect limit least
+    → (x y : ℕ) (a b : ℤ) → IsInRect rect x y → IsBlocked cells Open a b
+    → IsFar (spot_distance d x y a b) least
 open_far d cells rect limit least is x y (pos a) (pos b) cell black = is.far x y a b cell black
 open_far d cells rect limit least is x y (pos a) (negsuc b) cell none = absurd none
 open_far d cells rect limit least is x y (negsuc a) b cell none = absurd none
 
 -- where the border is open, the least of the map's own obstacles
-pub IsLeastBelow-open : (d : ℕ → ℕ → ℕ) (cells : Cells) (rect : Rect) (limit least : ℕ) → IsLeastInBits d (IsObstacle cells) rect limit least → IsLeastBelow d (IsBlocked cells Open) rect limit least
+pub IsLeastBelow-open : (d : ℕ → ℕ → ℕ) (cells : Cells) (rect : Rect) (limit least : ℕ)
+    → IsLeastInBits d (IsObstacle cells) rect limit least
+    → IsLeastBelow d (IsBlocked cells Open) rect limit least
 IsLeastBelow-open d cells rect limit least is = record {
   within = is.within;
   far = open_far d cells rect limit least is;
   reached = λ less.
       let reached = is.reached less in
-      record { x = reached.x; y = reached.y; cell = reached.cell; a = pos reached.a; b = pos reached.b; obstacle = reached.obstacle; distance_is = reached.distance_is };
+      record {
+        x = reached.x;
+        y = reached.y;
+        cell = reached.cell;
+        a = pos reached.a;
+        b = pos reached.b;
+        obstacle = reached.obstacle;
+        distance_is = reached.distance_is;
+      };
 }

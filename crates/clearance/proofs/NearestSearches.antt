@@ -1,5 +1,6 @@
 -- The nearest obstacle of a cell, as more obstacles are searched.
-use Rattle.std.proofs.Common.{◌≡◌, ℕ, ◌+◌, ◌-◌, ◌^◌, ◌<◌, ◌≤◌, ◌⊎◌, inl, inr, List, length, get_or, Option, Some, None, refl, sym, ap, subst, ◌∙◌, arith}
+use Rattle.std.proofs.Common.{◌≡◌, ℕ, ◌+◌, ◌-◌, ◌^◌, ◌<◌, ◌≤◌, ◌⊎◌, inl, inr, List, length, get_or}
+use Rattle.std.proofs.Common.{Option, Some, None, refl, sym, ap, subst, ◌∙◌, arith}
 use Rattle.std.specs.Int.{abs_diff}
 use Rattle.std.proofs.lemmas.Bool.{cases_lt}
 use Rattle.metric.specs.Distance.{Grows, distance_between}
@@ -14,16 +15,22 @@ use Rattle.metric.specs.declared.rect.Rect.{Rect}
 use Rattle.clearance.specs.Bands.{IsMarkedRow, IsNextGap}
 use Rattle.clearance.specs.Search.{column_gap, row_gap}
 use Rattle.clearance.specs.declared.found.Found.{Found}
-use Rattle.clearance.specs.Nearest.{IsFound, IsNearCell, IsNearAmong, limit_of, IsWithin, IsWithinOrAbove, IsRowFirst, IsRowUpTo, IsSeenInRow, IsAhead, IsBetter, IsCellRect}
+use Rattle.clearance.specs.Nearest.{IsFound, IsNearCell, IsNearAmong, limit_of, IsWithin}
+use Rattle.clearance.specs.Nearest.{IsWithinOrAbove, IsRowFirst, IsRowUpTo, IsSeenInRow, IsAhead}
+use Rattle.clearance.specs.Nearest.{IsBetter, IsCellRect}
 use Rattle.clearance.proofs.RowSearches.{mark_within}
 use Rattle.clearance.proofs.TileRows.{AreBandsLive}
-use Rattle.clearance.proofs.Searches.{marked_obstacle, obstacle_marked, obstacle_within, unmarked_row}
+use Rattle.clearance.proofs.Searches.{marked_obstacle, obstacle_marked, obstacle_within}
+use Rattle.clearance.proofs.Searches.{unmarked_row}
 
 -- the obstacles that have been searched, restated
-pub IsNearAmong-same : (distance : ℕ → ℕ → ℕ) (Obstacle IsSeen IsNext : ℕ → ℕ → Type 0) (x y : ℕ) (best : Option Found)
-    → ((a b : ℕ) → Obstacle a b → IsSeen a b → IsNext a b) → ((a b : ℕ) → Obstacle a b → IsNext a b → IsSeen a b)
+pub IsNearAmong-same : (distance : ℕ → ℕ → ℕ) (Obstacle IsSeen IsNext : ℕ → ℕ → Type 0) (x y : ℕ)
+    (best : Option Found)
+    → ((a b : ℕ) → Obstacle a b → IsSeen a b → IsNext a b)
+    → ((a b : ℕ) → Obstacle a b → IsNext a b → IsSeen a b)
     → IsNearAmong distance Obstacle IsSeen x y best → IsNearAmong distance Obstacle IsNext x y best
-IsNearAmong-same distance Obstacle IsSeen IsNext x y None there back none = λ a b both. none a b (both.0, back a b both.0 both.1)
+IsNearAmong-same distance Obstacle IsSeen IsNext x y None there back none =
+    λ a b both. none a b (both.0, back a b both.0 both.1)
 IsNearAmong-same distance Obstacle IsSeen IsNext x y (Some near) there back is = record {
   obstacle = (is.obstacle.0, there near.cell.x near.cell.y is.obstacle.0 is.obstacle.1);
   distance_is = is.distance_is;
@@ -31,27 +38,34 @@ IsNearAmong-same distance Obstacle IsSeen IsNext x y (Some near) there back is =
 }
 
 -- obstacles that are far leave the best as it is
-IsNearAmong-far : (distance : ℕ → ℕ → ℕ) (Obstacle IsSeen IsNext : ℕ → ℕ → Type 0) (x y : ℕ) (best : Option Found)
+IsNearAmong-far : (distance : ℕ → ℕ → ℕ) (Obstacle IsSeen IsNext : ℕ → ℕ → Type 0) (x y : ℕ)
+    (best : Option Found)
     → ((a b : ℕ) → Obstacle a b → IsSeen a b → IsNext a b)
-    → ((a b : ℕ) → Obstacle a b → IsNext a b → IsSeen a b ⊎ IsFar (distance_between distance x y a b) (limit_of best))
+    → ((a b : ℕ) → Obstacle a b → IsNext a b → IsSeen a b
+    ⊎ IsFar (distance_between distance x y a b) (limit_of best))
     → IsNearAmong distance Obstacle IsSeen x y best → IsNearAmong distance Obstacle IsNext x y best
-IsNearAmong-far distance Obstacle IsSeen IsNext x y None there back none = λ a b both. elim (back a b both.0 both.1) [
-  | inl seen ↦ none a b (both.0, seen)
-  | inr far ↦ let small = far.is_limit in absurd (omega arith)
-]
+IsNearAmong-far distance Obstacle IsSeen IsNext x y None there back none =
+    λ a b both. elim (back a b both.0 both.1) [
+      | inl seen ↦ none a b (both.0, seen)
+      | inr far ↦ let small = far.is_limit in absurd (omega arith)
+    ]
 IsNearAmong-far distance Obstacle IsSeen IsNext x y (Some near) there back is = record {
   obstacle = (is.obstacle.0, there near.cell.x near.cell.y is.obstacle.0 is.obstacle.1);
   distance_is = is.distance_is;
   least = λ a b both. elim (back a b both.0 both.1) [
     | inl seen ↦ is.least a b (both.0, seen)
-    | inr far ↦ let low = far.not_below in let dist = is.distance_is in record { order = inl (omega arith) }
+    | inr far ↦ let low = far.not_below in let dist = is.distance_is in
+        record { order = inl (omega arith) }
   ];
 }
 
 -- once all obstacles have been searched, the best is the nearest
-IsNearAmong-all : (distance : ℕ → ℕ → ℕ) (Obstacle IsSeen : ℕ → ℕ → Type 0) (x y : ℕ) (best : Option Found)
-    → ((a b : ℕ) → Obstacle a b → IsSeen a b) → IsNearAmong distance Obstacle IsSeen x y best → IsNearCell distance Obstacle x y best
-IsNearAmong-all distance Obstacle IsSeen x y None all none = λ a b obstacle. none a b (obstacle, all a b obstacle)
+IsNearAmong-all : (distance : ℕ → ℕ → ℕ) (Obstacle IsSeen : ℕ → ℕ → Type 0) (x y : ℕ)
+    (best : Option Found)
+    → ((a b : ℕ) → Obstacle a b → IsSeen a b) → IsNearAmong distance Obstacle IsSeen x y best
+    → IsNearCell distance Obstacle x y best
+IsNearAmong-all distance Obstacle IsSeen x y None all none =
+    λ a b obstacle. none a b (obstacle, all a b obstacle)
 IsNearAmong-all distance Obstacle IsSeen x y (Some near) all is = record {
   obstacle = is.obstacle.0;
   distance_is = is.distance_is;
@@ -67,18 +81,28 @@ abbrev pub IsNoLater : ℕ → ℕ → ℕ → Type 0
 IsNoLater y row b = (abs_diff y b < abs_diff y row) ⊎ ((abs_diff y b ≡ abs_diff y row) × (b ≤ row))
 
 -- an obstacle that is ahead of one in no earlier row has the lesser key
-ahead_at_most : (distance : ℕ → ℕ → ℕ) (x y : ℕ) (one other : Found) → one.dist ≡ distance_between distance x y one.cell.x one.cell.y → other.dist ≡ distance_between distance x y other.cell.x other.cell.y
-    → IsNoLater y other.cell.y one.cell.y → IsAhead one other → IsAtMost (key_at distance x y one) (key_at distance x y other)
-ahead_at_most distance x y one other one_is other_is rows (inl nearer) = record { order = inl (omega arith) }
+ahead_at_most : (distance : ℕ → ℕ → ℕ) (x y : ℕ) (one other : Found)
+    → one.dist ≡ distance_between distance x y one.cell.x one.cell.y
+    → other.dist ≡ distance_between distance x y other.cell.x other.cell.y
+    → IsNoLater y other.cell.y one.cell.y → IsAhead one other
+    → IsAtMost (key_at distance x y one) (key_at distance x y other)
+ahead_at_most distance x y one other one_is other_is rows (inl nearer) =
+    record { order = inl (omega arith) }
 ahead_at_most distance x y one other one_is other_is rows (inr same) =
     let equal = same.0 in
     let columns = same.1 in
     record {
-      order = inr (omega arith, elim (cases_lt one.cell.x other.cell.x) [ inl left ↦ inl left | inr here ↦ inr (omega arith, rows) ]);
+      order = inr (
+        omega arith,
+        elim (cases_lt one.cell.x other.cell.x)
+            [ inl left ↦ inl left | inr here ↦ inr (omega arith, rows) ],
+      );
     }
 
 -- an obstacle that isn't ahead of another has the greater key
-behind_at_most : (distance : ℕ → ℕ → ℕ) (x y : ℕ) (one other : Found) → one.dist ≡ distance_between distance x y one.cell.x one.cell.y → other.dist ≡ distance_between distance x y other.cell.x other.cell.y
+behind_at_most : (distance : ℕ → ℕ → ℕ) (x y : ℕ) (one other : Found)
+    → one.dist ≡ distance_between distance x y one.cell.x one.cell.y
+    → other.dist ≡ distance_between distance x y other.cell.x other.cell.y
     → (IsAhead one other → ⊥) → IsAtMost (key_at distance x y other) (key_at distance x y one)
 behind_at_most distance x y one other one_is other_is behind = elim (cases_lt other.dist one.dist) [
   | inl nearer ↦ record { order = inl (omega arith) }
@@ -92,92 +116,130 @@ behind_at_most distance x y one other one_is other_is behind = elim (cases_lt ot
 ]
 
 -- one obstacle more, in a row that isn't before those that have been searched
-IsNearAmong-more : (distance : ℕ → ℕ → ℕ) (Obstacle IsSeen IsNext : ℕ → ℕ → Type 0) (x y : ℕ) (best : Option Found) (next better : Found)
-    → Obstacle next.cell.x next.cell.y → IsNext next.cell.x next.cell.y → next.dist ≡ distance_between distance x y next.cell.x next.cell.y
+IsNearAmong-more : (distance : ℕ → ℕ → ℕ) (Obstacle IsSeen IsNext : ℕ → ℕ → Type 0) (x y : ℕ)
+    (best : Option Found) (next better : Found)
+    → Obstacle next.cell.x next.cell.y → IsNext next.cell.x next.cell.y
+    → next.dist ≡ distance_between distance x y next.cell.x next.cell.y
     → ((a b : ℕ) → IsSeen a b → IsNext a b)
-    → ((a b : ℕ) → Obstacle a b → IsNext a b → IsSeen a b ⊎ IsAtMost (key_of distance x y next.cell.x next.cell.y) (key_of distance x y a b))
+    → ((a b : ℕ) → Obstacle a b → IsNext a b → IsSeen a b
+    ⊎ IsAtMost (key_of distance x y next.cell.x next.cell.y) (key_of distance x y a b))
     → ((a b : ℕ) → IsSeen a b → IsNoLater y next.cell.y b)
     → IsBetter best next better → IsNearAmong distance Obstacle IsSeen x y best
     → IsFound distance (λ a b. Obstacle a b × IsNext a b) x y better
-IsNearAmong-more distance Obstacle IsSeen IsNext x y None next better obstacle is_next dist there back rows is none = rw is (record {
-  obstacle = (obstacle, is_next);
-  distance_is = dist;
-  least = λ a b both. elim (back a b both.0 both.1) [ inl seen ↦ absurd (none a b (both.0, seen)) | inr most ↦ most ];
-})
-IsNearAmong-more distance Obstacle IsSeen IsNext x y (Some best) next better obstacle is_next dist there back rows (inl kept) before =
-    let ahead = ahead_at_most distance x y best next before.distance_is dist (rows best.cell.x best.cell.y before.obstacle.1) kept.1 in
+IsNearAmong-more distance Obstacle IsSeen IsNext x y None next better obstacle is_next dist there
+    back rows is none = rw is (record {
+      obstacle = (obstacle, is_next);
+      distance_is = dist;
+      least = λ a b both. elim (back a b both.0 both.1)
+          [ inl seen ↦ absurd (none a b (both.0, seen)) | inr most ↦ most ];
+    })
+IsNearAmong-more distance Obstacle IsSeen IsNext x y
+    (Some best) next better obstacle is_next dist there back rows (inl kept) before =
+    let ahead = ahead_at_most distance x y best next before.distance_is dist
+    (rows best.cell.x best.cell.y before.obstacle.1) kept.1 in
     rw (kept.0) (record {
       obstacle = (before.obstacle.0, there best.cell.x best.cell.y before.obstacle.1);
       distance_is = before.distance_is;
       least = λ a b both. elim (back a b both.0 both.1) [
         | inl seen ↦ before.least a b (both.0, seen)
-        | inr most ↦ IsAtMost-transitive (key_at distance x y best) (key_at distance x y next) (key_of distance x y a b) ahead most
+        | inr most ↦ IsAtMost-transitive (key_at distance x y best) (key_at distance x y next)
+            (key_of distance x y a b) ahead most
       ];
     })
-IsNearAmong-more distance Obstacle IsSeen IsNext x y (Some best) next better obstacle is_next dist there back rows (inr taken) before =
+IsNearAmong-more distance Obstacle IsSeen IsNext x y
+    (Some best) next better obstacle is_next dist there back rows (inr taken) before =
     let ahead = behind_at_most distance x y best next before.distance_is dist taken.1 in
     rw (taken.0) (record {
       obstacle = (obstacle, is_next);
       distance_is = dist;
       least = λ a b both. elim (back a b both.0 both.1) [
-        | inl seen ↦ IsAtMost-transitive (key_at distance x y next) (key_at distance x y best) (key_of distance x y a b) ahead (before.least a b (both.0, seen))
+        | inl seen ↦ IsAtMost-transitive (key_at distance x y next) (key_at distance x y best)
+            (key_of distance x y a b) ahead (before.least a b (both.0, seen))
         | inr most ↦ most
       ];
     })
 
 -- of two obstacles of a row the one that is no farther, and not to the right, has the lesser key
-row_at_most : (distance : ℕ → ℕ → ℕ) (x y a c row : ℕ) → distance_between distance x y a row ≤ distance_between distance x y c row → a ≤ c
+row_at_most : (distance : ℕ → ℕ → ℕ) (x y a c row : ℕ)
+    → distance_between distance x y a row ≤ distance_between distance x y c row → a ≤ c
     → IsAtMost (key_of distance x y a row) (key_of distance x y c row)
-row_at_most distance x y a c row nearer left = elim (cases_lt (distance_between distance x y a row) (distance_between distance x y c row)) [
-  | inl less ↦ record { order = inl less }
-  | inr same ↦ record {
-    order = inr (omega arith, elim (cases_lt a c) [ inl less ↦ inl less | inr here ↦ inr (omega arith, inr (refl, omega arith)) ]);
-  }
-]
+row_at_most distance x y a c row nearer left =
+    elim (cases_lt (distance_between distance x y a row) (distance_between distance x y c row)) [
+      | inl less ↦ record { order = inl less }
+      | inr same ↦ record {
+        order = inr (
+          omega arith,
+          elim (cases_lt a c) [
+            | inl less ↦ inl less
+            | inr here ↦ inr (omega arith, inr (refl, omega arith))
+          ],
+        );
+      }
+    ]
 
 -- the first obstacle of the row from the cell's column on is the nearest of them
-pub IsNearAmong-right : (distance : ℕ → ℕ → ℕ) → StaysNearer distance → (cells : Cells) (x y row gap limit dist column : ℕ) (words : List ℕ) (best : Option Found) (better : Found)
-    → IsBitmap cells → x < cells.width → y < cells.height → row < cells.height → IsRowOf cells row words → length words ≤ 64 → gap ≡ abs_diff y row
+pub IsNearAmong-right : (distance : ℕ → ℕ → ℕ) → StaysNearer distance
+    → (cells : Cells) (x y row gap limit dist column : ℕ) (words : List ℕ) (best : Option Found)
+    (better : Found)
+    → IsBitmap cells → x < cells.width → y < cells.height → row < cells.height
+    → IsRowOf cells row words → length words ≤ 64 → gap ≡ abs_diff y row
     → IsFirstMark distance words x x gap limit column → dist ≡ distance (column - x) gap
     → IsBetter best (record { dist = dist; cell = record { x = column; y = row } }) better
     → IsNearAmong distance (IsObstacle cells) (λ a b. IsRowFirst y row b) x y best
-    → IsFound distance (λ a b. IsObstacle cells a b × IsSeenInRow y row (λ a'. x ≤ a') a b) x y better
-IsNearAmong-right distance stays cells x y row gap limit dist column words best better bitmap inside_x inside_y inside_row is_row few gap_is mark dist_is is before =
+    → IsFound distance (λ a b. IsObstacle cells a b × IsSeenInRow y row (λ a'. x ≤ a') a b) x y
+    better
+IsNearAmong-right distance stays cells x y row gap limit dist column words best better bitmap
+    inside_x inside_y inside_row is_row few gap_is mark dist_is is before =
     let order = mark.order in
     let across : column - x ≡ abs_diff x column = omega arith in
-    let between : dist ≡ distance_between distance x y column row = dist_is ∙ (ap (λ (n : ℕ). distance n gap) across ∙ ap (distance (abs_diff x column)) gap_is) in
+    let between : dist ≡ distance_between distance x y column row = dist_is
+    ∙ (ap (λ (n : ℕ). distance n gap) across ∙ ap (distance (abs_diff x column)) gap_is) in
     let high = bitmap.height_is.few in
-    IsNearAmong-more distance (IsObstacle cells) (λ a b. IsRowFirst y row b) (IsSeenInRow y row (λ a'. x ≤ a')) x y best (record { dist = dist; cell = record { x = column; y = row } }) better
-    (marked_obstacle cells row words column is_row mark.marked) (inr (refl, order)) between (λ a b seen. inl seen)
+    IsNearAmong-more distance (IsObstacle cells) (λ a b. IsRowFirst y row b)
+    (IsSeenInRow y row (λ a'. x ≤ a')) x y best
+    (record { dist = dist; cell = record { x = column; y = row } }) better
+    (marked_obstacle cells row words column is_row mark.marked) (inr (refl, order)) between
+    (λ a b seen. inl seen)
     (λ a b obstacle next. elim next [
       | inl seen ↦ inl seen
       | inr here ↦
-          let obstacle_here : IsObstacle cells a row = subst (λ (n : ℕ). IsObstacle cells a n) here.0 obstacle in
+          let obstacle_here : IsObstacle cells a row =
+          subst (λ (n : ℕ). IsObstacle cells a n) here.0 obstacle in
           let marked = obstacle_marked cells row words a bitmap is_row obstacle_here in
           let from = here.1 in
           elim (cases_lt a column) [
             | inl earlier ↦ absurd (mark.first a from earlier marked)
             | inr later ↦
                 let last = mark_within words a few marked in
-                let grown = of_grows_with_dx distance stays (abs_diff x column) (abs_diff x a) (abs_diff y row) (omega arith) (omega arith) (omega arith) in
-                inr (subst (λ (n : ℕ). IsAtMost (key_of distance x y column row) (key_of distance x y a n)) (sym here.0) (row_at_most distance x y column a row grown later))
+                let grown = of_grows_with_dx distance stays (abs_diff x column) (abs_diff x a)
+                (abs_diff y row) (omega arith) (omega arith) (omega arith) in
+                inr (subst (λ (n : ℕ). IsAtMost (key_of distance x y column row)
+                (key_of distance x y a n)) (sym here.0)
+                (row_at_most distance x y column a row grown later))
           ]
     ])
-    (λ a b seen. elim seen [ inl earlier ↦ inl earlier | inr same ↦ inr (same.0, let less = same.1 in omega arith) ])
+    (λ a b seen. elim seen [
+      | inl earlier ↦ inl earlier
+      | inr same ↦ inr (same.0, let less = same.1 in omega arith)
+    ])
     is before
 
 -- where no obstacle from the cell's column on is near, the best stays
-pub IsNearAmong-right_none : (distance : ℕ → ℕ → ℕ) (cells : Cells) (x y row gap limit : ℕ) (words : List ℕ) (best : Option Found)
+pub IsNearAmong-right_none : (distance : ℕ → ℕ → ℕ) (cells : Cells) (x y row gap limit : ℕ)
+    (words : List ℕ) (best : Option Found)
     → IsBitmap cells → IsRowOf cells row words → gap ≡ abs_diff y row → limit ≡ limit_of best
     → IsNextNearer distance words x x gap limit None
     → IsNearAmong distance (IsObstacle cells) (λ a b. IsRowFirst y row b) x y best
     → IsNearAmong distance (IsObstacle cells) (IsSeenInRow y row (λ a. x ≤ a)) x y best
-IsNearAmong-right_none distance cells x y row gap limit words best bitmap is_row gap_is limit_is none before =
-    IsNearAmong-far distance (IsObstacle cells) (λ a b. IsRowFirst y row b) (IsSeenInRow y row (λ a. x ≤ a)) x y best (λ a b obstacle seen. inl seen)
+IsNearAmong-right_none distance cells x y row gap limit words best bitmap is_row gap_is limit_is
+    none before =
+    IsNearAmong-far distance (IsObstacle cells) (λ a b. IsRowFirst y row b)
+    (IsSeenInRow y row (λ a. x ≤ a)) x y best (λ a b obstacle seen. inl seen)
     (λ a b obstacle next. elim next [
       | inl seen ↦ inl seen
       | inr here ↦
-          let obstacle_here : IsObstacle cells a row = subst (λ (n : ℕ). IsObstacle cells a n) here.0 obstacle in
+          let obstacle_here : IsObstacle cells a row =
+          subst (λ (n : ℕ). IsObstacle cells a n) here.0 obstacle in
           let marked = obstacle_marked cells row words a bitmap is_row obstacle_here in
           let from = here.1 in
           let row_is = here.0 in
@@ -185,88 +247,120 @@ IsNearAmong-right_none distance cells x y row gap limit words best bitmap is_row
           let down : gap ≡ abs_diff y b = omega arith in
           let far = none a from marked in
           inr (subst (λ (n : ℕ). IsFar (distance_between distance x y a b) n) limit_is
-          (subst (λ (n : ℕ). IsFar (distance (abs_diff x a) n) limit) down (subst (λ (n : ℕ). IsFar (distance n gap) limit) across far)))
+          (subst (λ (n : ℕ). IsFar (distance (abs_diff x a) n) limit) down
+          (subst (λ (n : ℕ). IsFar (distance n gap) limit) across far)))
     ])
     before
 
 -- the last obstacle of the row before those that have been searched
-pub IsNearAmong-left : (distance : ℕ → ℕ → ℕ) (cells : Cells) (x y row gap limit dist column end : ℕ) (words : List ℕ) (best : Option Found) (better : Found)
+pub IsNearAmong-left : (distance : ℕ → ℕ → ℕ) (cells : Cells)
+    (x y row gap limit dist column end : ℕ) (words : List ℕ) (best : Option Found) (better : Found)
     → IsBitmap cells → end ≤ x → IsRowOf cells row words → gap ≡ abs_diff y row
     → IsLastMark distance words end x gap limit column → dist ≡ distance (x - column) gap
     → IsBetter best (record { dist = dist; cell = record { x = column; y = row } }) better
     → IsNearAmong distance (IsObstacle cells) (IsSeenInRow y row (λ a. end ≤ a)) x y best
-    → IsFound distance (λ a b. IsObstacle cells a b × IsSeenInRow y row (λ a'. column ≤ a') a b) x y better
-IsNearAmong-left distance cells x y row gap limit dist column end words best better bitmap left is_row gap_is mark dist_is is before =
+    → IsFound distance (λ a b. IsObstacle cells a b × IsSeenInRow y row (λ a'. column ≤ a') a b) x y
+    better
+IsNearAmong-left distance cells x y row gap limit dist column end words best better bitmap left
+    is_row gap_is mark dist_is is before =
     let order = mark.order in
     let across : x - column ≡ abs_diff x column = omega arith in
-    let between : dist ≡ distance_between distance x y column row = dist_is ∙ (ap (λ (n : ℕ). distance n gap) across ∙ ap (distance (abs_diff x column)) gap_is) in
-    IsNearAmong-more distance (IsObstacle cells) (IsSeenInRow y row (λ a. end ≤ a)) (IsSeenInRow y row (λ a'. column ≤ a')) x y best (record { dist = dist; cell = record { x = column; y = row } }) better
+    let between : dist ≡ distance_between distance x y column row = dist_is
+    ∙ (ap (λ (n : ℕ). distance n gap) across ∙ ap (distance (abs_diff x column)) gap_is) in
+    IsNearAmong-more distance (IsObstacle cells) (IsSeenInRow y row (λ a. end ≤ a))
+    (IsSeenInRow y row (λ a'. column ≤ a')) x y best
+    (record { dist = dist; cell = record { x = column; y = row } }) better
     (marked_obstacle cells row words column is_row mark.marked) (inr (refl, omega arith)) between
-    (λ a b seen. elim seen [ inl earlier ↦ inl earlier | inr here ↦ inr (here.0, let behind = here.1 in omega arith) ])
+    (λ a b seen. elim seen [
+      | inl earlier ↦ inl earlier
+      | inr here ↦ inr (here.0, let behind = here.1 in omega arith)
+    ])
     (λ a b obstacle next. elim next [
       | inl seen ↦ inl (inl seen)
       | inr here ↦ elim (cases_lt a end) [
         | inr behind ↦ inl (inr (here.0, behind))
         | inl ahead ↦ elim (cases_lt column a) [
           | inl later ↦
-              let obstacle_here : IsObstacle cells a row = subst (λ (n : ℕ). IsObstacle cells a n) here.0 obstacle in
-              absurd (mark.last a later ahead (obstacle_marked cells row words a bitmap is_row obstacle_here))
+              let obstacle_here : IsObstacle cells a row =
+              subst (λ (n : ℕ). IsObstacle cells a n) here.0 obstacle in
+              absurd (mark.last a later ahead
+              (obstacle_marked cells row words a bitmap is_row obstacle_here))
           | inr same ↦
               let from = here.1 in
               let equal : column ≡ a = omega arith in
-              inr (subst (λ (n : ℕ). IsAtMost (key_of distance x y column row) (key_of distance x y a n)) (sym here.0) (rw equal (row_at_most distance x y a a row (omega arith) (omega arith))))
+              inr (subst (λ (n : ℕ). IsAtMost (key_of distance x y column row)
+              (key_of distance x y a n)) (sym here.0)
+              (rw equal (row_at_most distance x y a a row (omega arith) (omega arith))))
         ]
       ]
     ])
     (λ a b seen. elim seen [
-      | inl earlier ↦ elim earlier [ inl nearer ↦ inl nearer | inr same ↦ inr (same.0, let less = same.1 in omega arith) ]
+      | inl earlier ↦ elim earlier [
+        | inl nearer ↦ inl nearer
+        | inr same ↦ inr (same.0, let less = same.1 in omega arith)
+      ]
       | inr here ↦ inr (ap (abs_diff y) here.0, let equal = here.0 in omega arith)
     ])
     is before
 
--- where no obstacle before those that have been searched is near, the best stays, and the row is done
-pub IsNearAmong-left_none : (distance : ℕ → ℕ → ℕ) (cells : Cells) (x y row gap limit end : ℕ) (words : List ℕ) (best : Option Found)
-    → IsBitmap cells → end ≤ x → IsRowOf cells row words → gap ≡ abs_diff y row → limit ≡ limit_of best
+-- where no obstacle before those that have been searched is near, the best stays, and the row is
+-- done
+pub IsNearAmong-left_none : (distance : ℕ → ℕ → ℕ) (cells : Cells) (x y row gap limit end : ℕ)
+    (words : List ℕ) (best : Option Found)
+    → IsBitmap cells → end ≤ x → IsRowOf cells row words → gap ≡ abs_diff y row
+    → limit ≡ limit_of best
     → IsLastNearer distance words end x gap limit None
     → IsNearAmong distance (IsObstacle cells) (IsSeenInRow y row (λ a. end ≤ a)) x y best
     → IsNearAmong distance (IsObstacle cells) (IsRowUpTo y row) x y best
-IsNearAmong-left_none distance cells x y row gap limit end words best bitmap left is_row gap_is limit_is none before =
-    IsNearAmong-far distance (IsObstacle cells) (IsSeenInRow y row (λ a. end ≤ a)) (IsRowUpTo y row) x y best
+IsNearAmong-left_none distance cells x y row gap limit end words best bitmap left is_row gap_is
+    limit_is none before =
+    IsNearAmong-far distance (IsObstacle cells) (IsSeenInRow y row (λ a. end ≤ a))
+    (IsRowUpTo y row) x y best
     (λ a b obstacle seen. elim seen [ inl earlier ↦ inl earlier | inr here ↦ inr here.0 ])
     (λ a b obstacle next. elim next [
       | inl seen ↦ inl (inl seen)
       | inr here ↦ elim (cases_lt a end) [
         | inr behind ↦ inl (inr (here, behind))
         | inl ahead ↦
-            let obstacle_here : IsObstacle cells a row = subst (λ (n : ℕ). IsObstacle cells a n) here obstacle in
+            let obstacle_here : IsObstacle cells a row =
+            subst (λ (n : ℕ). IsObstacle cells a n) here obstacle in
             let marked = obstacle_marked cells row words a bitmap is_row obstacle_here in
             let across : x - a ≡ abs_diff x a = omega arith in
             let down : gap ≡ abs_diff y b = omega arith in
             let far = none a ahead marked in
             inr (subst (λ (n : ℕ). IsFar (distance_between distance x y a b) n) limit_is
-            (subst (λ (n : ℕ). IsFar (distance (abs_diff x a) n) limit) down (subst (λ (n : ℕ). IsFar (distance n gap) limit) across far)))
+            (subst (λ (n : ℕ). IsFar (distance (abs_diff x a) n) limit) down
+            (subst (λ (n : ℕ). IsFar (distance n gap) limit) across far)))
       ]
     ])
     before
 
 -- a row without an obstacle is done
-pub IsNearAmong-blank : (distance : ℕ → ℕ → ℕ) (cells : Cells) (x y row : ℕ) (words : List ℕ) (best : Option Found) → IsBitmap cells → IsRowOf cells row words
+pub IsNearAmong-blank : (distance : ℕ → ℕ → ℕ) (cells : Cells) (x y row : ℕ) (words : List ℕ)
+    (best : Option Found) → IsBitmap cells → IsRowOf cells row words
     → ((k : ℕ) → k < length words → get_or words k 0 ≡ 0)
-    → IsNearAmong distance (IsObstacle cells) (λ a b. IsRowFirst y row b) x y best → IsNearAmong distance (IsObstacle cells) (IsRowUpTo y row) x y best
+    → IsNearAmong distance (IsObstacle cells) (λ a b. IsRowFirst y row b) x y best
+    → IsNearAmong distance (IsObstacle cells) (IsRowUpTo y row) x y best
 IsNearAmong-blank distance cells x y row words best bitmap is_row blank =
-    IsNearAmong-same distance (IsObstacle cells) (λ a b. IsRowFirst y row b) (IsRowUpTo y row) x y best (λ a b obstacle seen. inl seen)
+    IsNearAmong-same distance (IsObstacle cells) (λ a b. IsRowFirst y row b)
+    (IsRowUpTo y row) x y best (λ a b obstacle seen. inl seen)
     (λ a b obstacle next. elim next [
       | inl seen ↦ seen
       | inr here ↦
-          let obstacle_here : IsObstacle cells a row = subst (λ (n : ℕ). IsObstacle cells a n) here obstacle in
-          absurd (unmarked_row words a blank (obstacle_marked cells row words a bitmap is_row obstacle_here))
+          let obstacle_here : IsObstacle cells a row =
+          subst (λ (n : ℕ). IsObstacle cells a n) here obstacle in
+          absurd (unmarked_row words a blank
+          (obstacle_marked cells row words a bitmap is_row obstacle_here))
     ])
 
 -- where no other row is this many rows away, those up to this many rows away have been searched
-pub IsNearAmong-no_below : (distance : ℕ → ℕ → ℕ) (cells : Cells) (x y gap : ℕ) (best : Option Found) → IsBitmap cells → (gap ≡ 0) ⊎ (cells.height ≤ y + gap)
-    → IsNearAmong distance (IsObstacle cells) (IsWithinOrAbove y gap) x y best → IsNearAmong distance (IsObstacle cells) (IsWithin y (gap + 1)) x y best
+pub IsNearAmong-no_below : (distance : ℕ → ℕ → ℕ) (cells : Cells) (x y gap : ℕ)
+    (best : Option Found) → IsBitmap cells → (gap ≡ 0) ⊎ (cells.height ≤ y + gap)
+    → IsNearAmong distance (IsObstacle cells) (IsWithinOrAbove y gap) x y best
+    → IsNearAmong distance (IsObstacle cells) (IsWithin y (gap + 1)) x y best
 IsNearAmong-no_below distance cells x y gap best bitmap none =
-    IsNearAmong-same distance (IsObstacle cells) (IsWithinOrAbove y gap) (IsWithin y (gap + 1)) x y best
+    IsNearAmong-same distance (IsObstacle cells) (IsWithinOrAbove y gap)
+    (IsWithin y (gap + 1)) x y best
     (λ a b obstacle seen. elim seen [ inl nearer ↦ omega arith | inr here ↦ omega arith ])
     (λ a b obstacle next.
     let last = (obstacle_within cells bitmap a b obstacle).1 in
@@ -276,43 +370,61 @@ IsNearAmong-no_below distance cells x y gap best bitmap none =
     ])
 
 -- once rows are farther away than the best, the best is the nearest
-pub IsNear-beyond : (distance : ℕ → ℕ → ℕ) → Grows distance → StaysNearer distance → (cells : Cells) (x y gap : ℕ) (best : Option Found) → IsBitmap cells → x < cells.width → y < cells.height
+pub IsNear-beyond : (distance : ℕ → ℕ → ℕ) → Grows distance → StaysNearer distance
+    → (cells : Cells) (x y gap : ℕ) (best : Option Found) → IsBitmap cells → x < cells.width
+    → y < cells.height
     → limit_of best ≤ distance 0 gap → limit_of best < 2 ^ 32
-    → IsNearAmong distance (IsObstacle cells) (IsWithin y gap) x y best → IsNearCell distance (IsObstacle cells) x y best
+    → IsNearAmong distance (IsObstacle cells) (IsWithin y gap) x y best
+    → IsNearCell distance (IsObstacle cells) x y best
 IsNear-beyond distance grows stays cells x y gap best bitmap column row low small before =
-    IsNearAmong-all distance (IsObstacle cells) (λ a b. a ≤ 4095) x y best (λ a b obstacle. (obstacle_within cells bitmap a b obstacle).2)
-    (IsNearAmong-far distance (IsObstacle cells) (IsWithin y gap) (λ a b. a ≤ 4095) x y best (λ a b obstacle seen. (obstacle_within cells bitmap a b obstacle).2)
+    IsNearAmong-all distance (IsObstacle cells) (λ a b. a ≤ 4095) x y best
+    (λ a b obstacle. (obstacle_within cells bitmap a b obstacle).2)
+    (IsNearAmong-far distance (IsObstacle cells) (IsWithin y gap) (λ a b. a ≤ 4095) x y best
+    (λ a b obstacle seen. (obstacle_within cells bitmap a b obstacle).2)
     (λ a b obstacle next. elim (cases_lt (abs_diff y b) gap) [
       | inl nearer ↦ inl nearer
       | inr beyond ↦
           let last = (obstacle_within cells bitmap a b obstacle).3 in
           let wide = bitmap.width_is.few in
           let high = bitmap.height_is.few in
-          let grown = of_grows distance grows stays 0 (abs_diff x a) gap (abs_diff y b) (omega arith) (omega arith) beyond (omega arith) in
+          let grown = of_grows distance grows stays 0 (abs_diff x a) gap (abs_diff y b)
+          (omega arith) (omega arith) beyond (omega arith) in
           inr (record { not_below = omega arith; is_limit = small })
     ])
     before)
 
 -- once as many rows have been searched as the bitmap has, the best is the nearest
-pub IsNear-all : (distance : ℕ → ℕ → ℕ) (cells : Cells) (x y gap : ℕ) (best : Option Found) → IsBitmap cells → y < cells.height → cells.height ≤ gap
-    → IsNearAmong distance (IsObstacle cells) (IsWithin y gap) x y best → IsNearCell distance (IsObstacle cells) x y best
+pub IsNear-all : (distance : ℕ → ℕ → ℕ) (cells : Cells) (x y gap : ℕ) (best : Option Found)
+    → IsBitmap cells → y < cells.height → cells.height ≤ gap
+    → IsNearAmong distance (IsObstacle cells) (IsWithin y gap) x y best
+    → IsNearCell distance (IsObstacle cells) x y best
 IsNear-all distance cells x y gap best bitmap row ended =
-    IsNearAmong-all distance (IsObstacle cells) (IsWithin y gap) x y best (λ a b obstacle. let last = (obstacle_within cells bitmap a b obstacle).1 in omega arith)
+    IsNearAmong-all distance (IsObstacle cells) (IsWithin y gap) x y best
+    (λ a b obstacle. let last = (obstacle_within cells bitmap a b obstacle).1 in omega arith)
 
 -- the best of more obstacles is no farther
-pub limit_of-falls : (distance : ℕ → ℕ → ℕ) (Obstacle IsSeen IsNext : ℕ → ℕ → Type 0) (x y : ℕ) (best next : Option Found) → ((a b : ℕ) → IsSeen a b → IsNext a b) → limit_of next ≤ 2 ^ 32
-    → IsNearAmong distance Obstacle IsSeen x y best → IsNearAmong distance Obstacle IsNext x y next → limit_of next ≤ limit_of best
+pub limit_of-falls : (distance : ℕ → ℕ → ℕ) (Obstacle IsSeen IsNext : ℕ → ℕ → Type 0) (x y : ℕ)
+    (best next : Option Found) → ((a b : ℕ) → IsSeen a b → IsNext a b) → limit_of next ≤ 2 ^ 32
+    → IsNearAmong distance Obstacle IsSeen x y best → IsNearAmong distance Obstacle IsNext x y next
+    → limit_of next ≤ limit_of best
 limit_of-falls distance Obstacle IsSeen IsNext x y None next there few before after = few
-limit_of-falls distance Obstacle IsSeen IsNext x y (Some best) None there few before none = absurd (none best.cell.x best.cell.y (before.obstacle.0, there best.cell.x best.cell.y before.obstacle.1))
+limit_of-falls distance Obstacle IsSeen IsNext x y (Some best) None there few before none =
+    absurd (none best.cell.x best.cell.y
+    (before.obstacle.0, there best.cell.x best.cell.y before.obstacle.1))
 limit_of-falls distance Obstacle IsSeen IsNext x y (Some best) (Some next) there few before after =
     let one = before.distance_is in
     let other = after.distance_is in
-    elim (after.least best.cell.x best.cell.y (before.obstacle.0, there best.cell.x best.cell.y before.obstacle.1)).order [ inl less ↦ omega arith | inr same ↦ let equal = same.0 in omega arith ]
+    elim (after.least best.cell.x best.cell.y
+    (before.obstacle.0, there best.cell.x best.cell.y before.obstacle.1)).order
+    [ inl less ↦ omega arith | inr same ↦ let equal = same.0 in omega arith ]
 
 -- rows that are skipped have no obstacle that could be nearer than the best
-pub IsNearAmong-live : (distance : ℕ → ℕ → ℕ) (cells : Cells) (x y gap next bands : ℕ) (here : Rect) (best : Option Found) → IsBitmap cells → IsCellRect x y here → 0 < gap → gap ≤ next
-    → IsNextGap (IsMarkedRow bands) y y gap next → AreBandsLive distance cells here gap (limit_of best) bands
-    → IsNearAmong distance (IsObstacle cells) (IsWithin y gap) x y best → IsNearAmong distance (IsObstacle cells) (IsWithin y next) x y best
+pub IsNearAmong-live : (distance : ℕ → ℕ → ℕ) (cells : Cells) (x y gap next bands : ℕ) (here : Rect)
+    (best : Option Found) → IsBitmap cells → IsCellRect x y here → 0 < gap → gap ≤ next
+    → IsNextGap (IsMarkedRow bands) y y gap next
+    → AreBandsLive distance cells here gap (limit_of best) bands
+    → IsNearAmong distance (IsObstacle cells) (IsWithin y gap) x y best
+    → IsNearAmong distance (IsObstacle cells) (IsWithin y next) x y best
 IsNearAmong-live distance cells x y gap next bands here best bitmap rect some order is live before =
     let left = rect.left in
     let top = rect.top in
@@ -327,7 +439,8 @@ IsNearAmong-live distance cells x y gap next bands here best bitmap rect some or
             let last = (obstacle_within cells bitmap a b obstacle).3 in
             elim (cases_lt b y) [
               | inl up ↦ let passed = is.above b marked (omega arith) in absurd (omega arith)
-              | inr down ↦ let passed = is.below b marked (omega arith) (omega arith) in absurd (omega arith)
+              | inr down ↦ let passed = is.below b marked (omega arith) (omega arith) in
+                  absurd (omega arith)
             ]
         | inr far ↦
             let across : column_gap here a ≡ abs_diff x a = omega arith in

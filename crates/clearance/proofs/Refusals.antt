@@ -1,5 +1,7 @@
 -- Which paths aren't refused.
-use Rattle.std.proofs.Common.{◌≡◌, ℕ, zero, suc, ◌+◌, ◌<◌, ◌≤◌, ◌⊎◌, inl, Bool, true, false, ◌||◌, List, [], ◌∷◌, length, get_or, drop, Option, Some, None, refl, ap, ◌∙◌, arith, eqb, leb, ltb, cond}
+use Rattle.std.proofs.Common.{◌≡◌, ℕ, zero, suc, ◌+◌, ◌<◌, ◌≤◌, ◌⊎◌, inl, Bool, true, false, ◌||◌}
+use Rattle.std.proofs.Common.{List, [], ◌∷◌, length, get_or, drop, Option, Some, None, refl, ap}
+use Rattle.std.proofs.Common.{◌∙◌, arith, eqb, leb, ltb, cond}
 use Rattle.std.specs.Option.{option_map}
 use Rattle.std.specs.List.{list_any}
 use Rattle.std.proofs.lemmas.Bool.Decides.{nat_tests}
@@ -21,36 +23,47 @@ crooked_test : (a b c d : ℕ) → (a ≡ b → ⊥) → (c ≡ d → ⊥) → (
 crooked_test a b c d column row = grind (arith, nat_tests)
 
 -- a path has its first crooked point after its first point
-pub crooked_point-start : (points : List Cell) → crooked_point points ≡ first_crooked 1 (get_or points 0 origin) (drop 1 points)
+pub crooked_point-start : (points : List Cell)
+    → crooked_point points ≡ first_crooked 1 (get_or points 0 origin) (drop 1 points)
 crooked_point-start [] = refl
 crooked_point-start (first ∷ points) = refl
 
 -- past a point that isn't crooked the search goes on
-pub first_crooked-straight : (points : List Cell) (i : ℕ) (before : Cell) → i < length points → IsStraight before (get_or points i origin)
-    → first_crooked i before (drop i points) ≡ first_crooked (i + 1) (get_or points i origin) (drop (i + 1) points)
+pub first_crooked-straight : (points : List Cell) (i : ℕ) (before : Cell) → i < length points
+    → IsStraight before (get_or points i origin)
+    → first_crooked i before (drop i points) ≡ first_crooked (i + 1) (get_or points i origin)
+    (drop (i + 1) points)
 first_crooked-straight points i before within straight =
-    let test = straight_test (get_or points i origin).x before.x (get_or points i origin).y before.y straight in
-    ap (λ (l : List Cell). first_crooked i before l) (drop_more points i origin within) ∙ rw test refl
+    let test = straight_test (get_or points i origin).x before.x
+    (get_or points i origin).y before.y straight in
+    ap (λ (l : List Cell). first_crooked i before l) (drop_more points i origin within)
+    ∙ rw test refl
 
 -- a crooked point is the first
 pub first_crooked-crooked : (points : List Cell) (i : ℕ) (before : Cell) → i < length points
     → ((get_or points i origin).x ≡ before.x → ⊥) → ((get_or points i origin).y ≡ before.y → ⊥)
     → first_crooked i before (drop i points) ≡ Some i
 first_crooked-crooked points i before within column row =
-    let test = crooked_test (get_or points i origin).x before.x (get_or points i origin).y before.y column row in
-    ap (λ (l : List Cell). first_crooked i before l) (drop_more points i origin within) ∙ rw test refl
+    let test = crooked_test (get_or points i origin).x before.x
+    (get_or points i origin).y before.y column row in
+    ap (λ (l : List Cell). first_crooked i before l) (drop_more points i origin within)
+    ∙ rw test refl
 
 -- past the last point there is none
-pub first_crooked-all : (points : List Cell) (i : ℕ) (before : Cell) → length points ≤ i → first_crooked i before (drop i points) ≡ None
-first_crooked-all points i before ended = ap (λ (l : List Cell). first_crooked i before l) (drop_all i points ended)
+pub first_crooked-all : (points : List Cell) (i : ℕ) (before : Cell) → length points ≤ i
+    → first_crooked i before (drop i points) ≡ None
+first_crooked-all points i before ended =
+    ap (λ (l : List Cell). first_crooked i before l) (drop_all i points ended)
 
 -- where a first choice that is some refusal isn't taken, the other one is
-no_choice : {A : Type 0} (test : Bool) (first : A) (other : Option A) → cond test (Some first) other ≡ None → (test ≡ false) × (other ≡ None)
+no_choice : {A : Type 0} (test : Bool) (first : A) (other : Option A)
+    → cond test (Some first) other ≡ None → (test ≡ false) × (other ≡ None)
 no_choice true first other none = absurd (cc)
 no_choice false first other none = (refl, none)
 
 -- where the other choice is some, the first is taken
-choice_taken : {A : Type 0} (test : Bool) (other : Option A) (last : A) → cond test other (Some last) ≡ None → (test ≡ true) × (other ≡ None)
+choice_taken : {A : Type 0} (test : Bool) (other : Option A) (last : A)
+    → cond test other (Some last) ≡ None → (test ≡ true) × (other ≡ None)
 choice_taken true other last none = (refl, none)
 choice_taken false other last none = absurd (cc)
 
@@ -63,7 +76,8 @@ map_none f (Some a) none = absurd (cc)
 pub record IsPath (cells : Cells) (points : List Cell) : Type 0 where
   pub some : 0 < length points
   pub few : length points ≤ 1000
-  pub inside : (j : ℕ) → j < length points → IsInside cells (get_or points j origin).x (get_or points j origin).y
+  pub inside : (j : ℕ) → j < length points
+      → IsInside cells (get_or points j origin).x (get_or points j origin).y
   pub straight : crooked_point points ≡ None
 
 -- numbers that pass neither test
@@ -71,40 +85,70 @@ few_points : (n : ℕ) → (eqb n 0 || ltb 1000 n) ≡ false → (0 < n) × (n �
 few_points n test = (grind (arith, nat_tests), grind (arith, nat_tests))
 
 -- a cell that isn't outside is inside
-inside_from : (cells : Cells) (cell : Cell) → (leb cells.width cell.x || leb cells.height cell.y) ≡ false → IsInside cells cell.x cell.y
-inside_from cells cell test = record { column = grind (arith, nat_tests); row = grind (arith, nat_tests) }
+inside_from : (cells : Cells) (cell : Cell)
+    → (leb cells.width cell.x || leb cells.height cell.y) ≡ false → IsInside cells cell.x cell.y
+inside_from cells cell test =
+    record { column = grind (arith, nat_tests); row = grind (arith, nat_tests) }
 
 -- of points of which none is outside, each is inside
 all_inside : (cells : Cells) (points : List Cell) → list_any (is_outside cells) points ≡ false
-    → (j : ℕ) → j < length points → IsInside cells (get_or points j origin).x (get_or points j origin).y
+    → (j : ℕ) → j < length points
+    → IsInside cells (get_or points j origin).x (get_or points j origin).y
 all_inside cells [] none j within = absurd (omega arith)
-all_inside cells (point ∷ points) none zero within = inside_from cells point (or_parts (is_outside cells point) (list_any (is_outside cells) points) none).0
-all_inside cells (point ∷ points) none (suc j) within = all_inside cells points (or_parts (is_outside cells point) (list_any (is_outside cells) points) none).1 j (omega arith)
+all_inside cells (point ∷ points) none zero within =
+    inside_from cells point (or_parts (is_outside cells point)
+    (list_any (is_outside cells) points) none).0
+all_inside cells (point ∷ points) none (suc j) within =
+    all_inside cells points (or_parts (is_outside cells point)
+    (list_any (is_outside cells) points) none).1 j (omega arith)
 
 -- a path for which there is no refusal
-pub IsPath-from : (cells : Cells) (points : List Cell) → path_refusal cells points ≡ None → IsPath cells points
+pub IsPath-from : (cells : Cells) (points : List Cell) → path_refusal cells points ≡ None
+    → IsPath cells points
 IsPath-from cells points none =
-    let p = no_choice (eqb (length points) 0 || ltb 1000 (length points)) BadPath (cond (list_any (is_outside cells) points) (Some OutOfRange) (option_map Crooked (crooked_point points))) none in
-    let q = no_choice (list_any (is_outside cells) points) OutOfRange (option_map Crooked (crooked_point points)) p.1 in
+    let p = no_choice (eqb (length points) 0 || ltb 1000 (length points)) BadPath
+    (cond (list_any (is_outside cells) points) (Some OutOfRange)
+    (option_map Crooked (crooked_point points))) none in
+    let q = no_choice (list_any (is_outside cells) points) OutOfRange
+    (option_map Crooked (crooked_point points)) p.1 in
     let size = few_points (length points) p.0 in
-    record { some = size.0; few = size.1; inside = all_inside cells points q.0; straight = map_none Crooked (crooked_point points) q.1 }
+    record {
+      some = size.0;
+      few = size.1;
+      inside = all_inside cells points q.0;
+      straight = map_none Crooked (crooked_point points) q.1;
+    }
 
 -- a test of a point in the row or column of another, which holds
 straight_from : (a b c d : ℕ) → (eqb a b || eqb c d) ≡ true → (a ≡ b) ⊎ (c ≡ d)
 straight_from a b c d test = grind (arith, nat_tests)
 
 -- points in the bitmap of which none is crooked are a walk
-walk_from : (cells : Cells) (index : ℕ) (before : Cell) (points : List Cell) → first_crooked index before points ≡ None → IsInside cells before.x before.y
-    → ((j : ℕ) → j < length points → IsInside cells (get_or points j origin).x (get_or points j origin).y) → IsWalk cells before points
+walk_from : (cells : Cells) (index : ℕ) (before : Cell) (points : List Cell)
+    → first_crooked index before points ≡ None → IsInside cells before.x before.y
+    → ((j : ℕ) → j < length points
+    → IsInside cells (get_or points j origin).x (get_or points j origin).y)
+    → IsWalk cells before points
 walk_from cells index before [] none here inside = here
 walk_from cells index before (point ∷ points) none here inside =
-    let p = choice_taken (eqb point.x before.x || eqb point.y before.y) (first_crooked (index + 1) point points) index none in
-    (here, straight_from point.x before.x point.y before.y p.0, walk_from cells (index + 1) point points p.1 (inside 0 (omega arith)) (λ j within. inside (suc j) (omega arith)))
+    let p = choice_taken (eqb point.x before.x || eqb point.y before.y)
+    (first_crooked (index + 1) point points) index none in (
+      here,
+      straight_from point.x before.x point.y before.y p.0,
+      walk_from cells (index + 1) point points p.1 (inside 0 (omega arith))
+          (λ j within. inside (suc j) (omega arith)),
+    )
 
 -- a path that isn't refused is a walk from its first point, as if that were repeated
-pub IsWalk-path : (cells : Cells) (points : List Cell) → path_refusal cells points ≡ None → IsWalk cells (get_or points 0 origin) points
-IsWalk-path cells [] none = absurd (let path = IsPath-from cells [] none in let some = path.some in omega arith)
+pub IsWalk-path : (cells : Cells) (points : List Cell) → path_refusal cells points ≡ None
+    → IsWalk cells (get_or points 0 origin) points
+IsWalk-path cells [] none =
+    absurd (let path = IsPath-from cells [] none in let some = path.some in omega arith)
 IsWalk-path cells (first ∷ points) none =
     let path = IsPath-from cells (first ∷ points) none in
-    let here = path.inside 0 path.some in
-    (here, inl refl, walk_from cells 1 first points path.straight here (λ j within. path.inside (suc j) (omega arith)))
+    let here = path.inside 0 path.some in (
+      here,
+      inl refl,
+      walk_from cells 1 first points path.straight here
+          (λ j within. path.inside (suc j) (omega arith)),
+    )

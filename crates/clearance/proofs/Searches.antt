@@ -1,5 +1,7 @@
 -- The least distance of a rectangle's cells, as more rows are searched.
-use Rattle.std.proofs.Common.{◌≡◌, ℕ, ℤ, pos, negsuc, ◌+◌, ◌-◌, ◌*◌, ◌/◌, ◌%◌, ◌^◌, ◌<◌, ◌≤◌, ◌⊎◌, min, max, inl, inr, Bool, true, false, cond, List, length, get_or, refl, sym, ap, subst, ◌∙◌, arith}
+use Rattle.std.proofs.Common.{◌≡◌, ℕ, ℤ, pos, negsuc, ◌+◌, ◌-◌, ◌*◌, ◌/◌, ◌%◌, ◌^◌, ◌<◌, ◌≤◌, ◌⊎◌}
+use Rattle.std.proofs.Common.{min, max, inl, inr, Bool, true, false, cond, List, length, get_or}
+use Rattle.std.proofs.Common.{refl, sym, ap, subst, ◌∙◌, arith}
 use Rattle.std.specs.Int.{abs_diff, bit_at}
 use Rattle.std.proofs.lemmas.Bool.{cases_lt}
 use Rattle.std.proofs.lemmas.Nat.Bits.{bit_at-zero}
@@ -14,20 +16,30 @@ use Rattle.bits.proofs.CellsLemmas.{has-outside}
 use Rattle.clearance.specs.Rows.{IsMarked, IsFar, IsFirstMark, IsLastMark}
 use Rattle.clearance.specs.Parts.{IsBlackInRow, IsPart}
 use Rattle.clearance.specs.declared.part.Part.TheVariants.{Row}
-use Rattle.clearance.specs.Search.{IsInRect, IsLeastBelow, IsLeastInBits, column_gap, row_gap, rect_distance, IsLeastAmong, IsLeastWithin, IsLoweredBy, IsLoweredRight, IsLoweredLeft}
+use Rattle.clearance.specs.Search.{IsInRect, IsLeastBelow, IsLeastInBits, column_gap, row_gap}
+use Rattle.clearance.specs.Search.{rect_distance, IsLeastAmong, IsLeastWithin, IsLoweredBy}
+use Rattle.clearance.specs.Search.{IsLoweredRight, IsLoweredLeft}
 use Rattle.clearance.proofs.RowSearches.{mark_within, unmarked_past}
 
 -- what is far stays so for a lower limit
 pub IsFar-lower : (dist limit lower : ℕ) → lower ≤ limit → IsFar dist limit → IsFar dist lower
-IsFar-lower dist limit lower less far = record { not_below = let low = far.not_below in omega arith; is_limit = let small = far.is_limit in omega arith }
+IsFar-lower dist limit lower less far =
+    record {
+      not_below = let low = far.not_below in omega arith;
+      is_limit = let small = far.is_limit in omega arith;
+    }
 
 -- what is far stays so for a greater distance
 pub IsFar-greater : (dist more limit : ℕ) → dist ≤ more → IsFar dist limit → IsFar more limit
-IsFar-greater dist more limit grown far = record { not_below = let low = far.not_below in omega arith; is_limit = far.is_limit }
+IsFar-greater dist more limit grown far =
+    record { not_below = let low = far.not_below in omega arith; is_limit = far.is_limit }
 
 -- with the first mark from the first column of the rectangle on the least is the lowered one
-pub IsLoweredRight-some : (distance : ℕ → ℕ → ℕ) → StaysNearer distance → (words : List ℕ) (rect : Rect) (gap before column least : ℕ)
-    → length words ≤ 64 → gap ≤ 4097 → IsFirstMark distance words rect.x0 (rect.x1 - 1) gap before column → least ≡ distance (column - (rect.x1 - 1)) gap → least < 2 ^ 32
+pub IsLoweredRight-some : (distance : ℕ → ℕ → ℕ) → StaysNearer distance
+    → (words : List ℕ) (rect : Rect) (gap before column least : ℕ)
+    → length words ≤ 64 → gap ≤ 4097
+    → IsFirstMark distance words rect.x0 (rect.x1 - 1) gap before column
+    → least ≡ distance (column - (rect.x1 - 1)) gap → least < 2 ^ 32
     → IsLoweredRight distance words rect gap before least
 IsLoweredRight-some distance stays words rect gap before column least few row mark is small =
     let order = mark.order in
@@ -38,15 +50,18 @@ IsLoweredRight-some distance stays words rect gap before column least few row ma
         | inl earlier ↦ absurd (mark.first a from earlier marked)
         | inr later ↦
             let last = mark_within words a few marked in
-            let grown = of_grows_with_dx distance stays (column - (rect.x1 - 1)) (column_gap rect a) gap (omega arith) (omega arith) row in
+            let grown = of_grows_with_dx distance stays (column - (rect.x1 - 1))
+            (column_gap rect a) gap (omega arith) (omega arith) row in
             record { not_below = omega arith; is_limit = small }
       ];
       reached = λ less. (column, mark.marked, rw across (sym is));
     }
 
 -- with the last mark before the first column of the rectangle the least is the lowered one
-pub IsLoweredLeft-some : (distance : ℕ → ℕ → ℕ) → StaysNearer distance → (words : List ℕ) (rect : Rect) (gap before column least : ℕ)
-    → gap ≤ 4097 → IsLastMark distance words rect.x0 rect.x0 gap before column → least ≡ distance (rect.x0 - column) gap → least < 2 ^ 32
+pub IsLoweredLeft-some : (distance : ℕ → ℕ → ℕ) → StaysNearer distance
+    → (words : List ℕ) (rect : Rect) (gap before column least : ℕ)
+    → gap ≤ 4097 → IsLastMark distance words rect.x0 rect.x0 gap before column
+    → least ≡ distance (rect.x0 - column) gap → least < 2 ^ 32
     → IsLoweredLeft distance words rect gap before least
 IsLoweredLeft-some distance stays words rect gap before column least row mark is small =
     let order = mark.order in
@@ -56,7 +71,8 @@ IsLoweredLeft-some distance stays words rect gap before column least row mark is
       far = λ a left marked. elim (cases_lt column a) [
         | inl later ↦ absurd (mark.last a later left marked)
         | inr earlier ↦
-            let grown = of_grows_with_dx distance stays (rect.x0 - column) (column_gap rect a) gap (omega arith) (omega arith) row in
+            let grown = of_grows_with_dx distance stays (rect.x0 - column) (column_gap rect a) gap
+            (omega arith) (omega arith) row in
             record { not_below = omega arith; is_limit = small }
       ];
       reached = λ less. (column, mark.marked, rw across (sym is));
@@ -68,29 +84,34 @@ answer_of_bit true is = refl
 answer_of_bit false is = absurd (omega arith)
 
 -- a mark of a row's words is an obstacle
-pub marked_obstacle : (cells : Cells) (y : ℕ) (words : List ℕ) (a : ℕ) → IsRowOf cells y words → IsMarked words a → IsObstacle cells a y
+pub marked_obstacle : (cells : Cells) (y : ℕ) (words : List ℕ) (a : ℕ) → IsRowOf cells y words
+    → IsMarked words a → IsObstacle cells a y
 marked_obstacle cells y words a row marked = elim (cases_lt a (64 * length words)) [
   | inl within ↦
       let many = row.as_many in
       let bit = row.bits (a / 64) (a % 64) (omega arith) (omega arith) in
       let place : 64 * (a / 64) + a % 64 ≡ a = omega arith in
-      let answer : ◌≡◌ {A = ℕ} (cond (has cells (64 * (a / 64) + a % 64) y) 1 0) 1 = sym bit ∙ marked in
+      let answer : ◌≡◌ {A = ℕ} (cond (has cells (64 * (a / 64) + a % 64) y) 1 0) 1 = sym bit
+      ∙ marked in
       answer_of_bit (has cells a y) (rw place at answer)
   | inr past ↦ absurd (unmarked_past words a past marked)
 ]
 
 -- an obstacle of the row is a mark of its words
-pub obstacle_marked : (cells : Cells) (y : ℕ) (words : List ℕ) (a : ℕ) → IsBitmap cells → IsRowOf cells y words → IsObstacle cells a y → IsMarked words a
+pub obstacle_marked : (cells : Cells) (y : ℕ) (words : List ℕ) (a : ℕ) → IsBitmap cells
+    → IsRowOf cells y words → IsObstacle cells a y → IsMarked words a
 obstacle_marked cells y words a bitmap row obstacle =
     let inside = has-outside cells bitmap a y obstacle in
     let column = inside.column in
     let bit = row.bits (a / 64) (a % 64) (omega arith) (omega arith) in
     let place : 64 * (a / 64) + a % 64 ≡ a = omega arith in
-    let answer : ◌≡◌ {A = ℕ} (cond (has cells (64 * (a / 64) + a % 64) y) 1 0) 1 = rw (place, obstacle) refl in
+    let answer : ◌≡◌ {A = ℕ} (cond (has cells (64 * (a / 64) + a % 64) y) 1 0) 1 =
+    rw (place, obstacle) refl in
     bit ∙ answer
 
 -- an obstacle lies within the largest map
-pub obstacle_within : (cells : Cells) → IsBitmap cells → (a b : ℕ) → IsObstacle cells a b → (a < cells.width) × (b < cells.height) × (a ≤ 4095) × (b ≤ 4095)
+pub obstacle_within : (cells : Cells) → IsBitmap cells → (a b : ℕ) → IsObstacle cells a b
+    → (a < cells.width) × (b < cells.height) × (a ≤ 4095) × (b ≤ 4095)
 obstacle_within cells bitmap a b obstacle =
     let inside = has-outside cells bitmap a b obstacle in
     let column = inside.column in
@@ -100,7 +121,8 @@ obstacle_within cells bitmap a b obstacle =
     (column, row, omega arith, omega arith)
 
 -- words that are zero have no mark
-pub unmarked_row : (words : List ℕ) (a : ℕ) → ((k : ℕ) → k < length words → get_or words k 0 ≡ 0) → IsMarked words a → ⊥
+pub unmarked_row : (words : List ℕ) (a : ℕ) → ((k : ℕ) → k < length words → get_or words k 0 ≡ 0)
+    → IsMarked words a → ⊥
 unmarked_row words a blank marked = elim (cases_lt a (64 * length words)) [
   | inl within ↦
       let none : get_or words (a / 64) 0 ≡ 0 = blank (a / 64) (omega arith) in
@@ -111,30 +133,38 @@ unmarked_row words a blank marked = elim (cases_lt a (64 * length words)) [
 ]
 
 -- where a row has no mark, the least stays
-pub IsLoweredBy-blank : (distance : ℕ → ℕ → ℕ) (cells : Cells) (rect : Rect) (y gap before : ℕ) (words : List ℕ) → IsBitmap cells → IsRowOf cells y words
-    → ((k : ℕ) → k < length words → get_or words k 0 ≡ 0) → IsLoweredBy distance (IsObstacle cells) rect y gap before before
+pub IsLoweredBy-blank : (distance : ℕ → ℕ → ℕ) (cells : Cells) (rect : Rect) (y gap before : ℕ)
+    (words : List ℕ) → IsBitmap cells → IsRowOf cells y words
+    → ((k : ℕ) → k < length words → get_or words k 0 ≡ 0)
+    → IsLoweredBy distance (IsObstacle cells) rect y gap before before
 IsLoweredBy-blank distance cells rect y gap before words bitmap row blank = record {
   within = omega arith;
-  far = λ a obstacle. absurd (unmarked_row words a blank (obstacle_marked cells y words a bitmap row obstacle));
+  far = λ a obstacle. absurd
+      (unmarked_row words a blank (obstacle_marked cells y words a bitmap row obstacle));
   reached = λ less. absurd (omega arith);
 }
 
 -- where a row is as far away as the least, the least stays
-pub IsLoweredBy-far : (distance : ℕ → ℕ → ℕ) → StaysNearer distance → (cells : Cells) (rect : Rect) (y gap before : ℕ) → IsBitmap cells → gap ≤ 4097 → before ≤ distance 0 gap → before < 2 ^ 32
+pub IsLoweredBy-far : (distance : ℕ → ℕ → ℕ) → StaysNearer distance
+    → (cells : Cells) (rect : Rect) (y gap before : ℕ) → IsBitmap cells → gap ≤ 4097
+    → before ≤ distance 0 gap → before < 2 ^ 32
     → IsLoweredBy distance (IsObstacle cells) rect y gap before before
 IsLoweredBy-far distance stays cells rect y gap before bitmap row low small = record {
   within = omega arith;
   far = λ a obstacle.
       let column = (obstacle_within cells bitmap a y obstacle).2 in
       let right = rect.has_cells.right in
-      let grown = of_grows_with_dx distance stays 0 (column_gap rect a) gap (omega arith) (omega arith) row in
+      let grown = of_grows_with_dx distance stays 0 (column_gap rect a) gap (omega arith)
+      (omega arith) row in
       record { not_below = omega arith; is_limit = small };
   reached = λ less. absurd (omega arith);
 }
 
 -- the marks on both sides are the row's obstacles
-pub IsLoweredBy-both : (distance : ℕ → ℕ → ℕ) (cells : Cells) (rect : Rect) (y gap before right least : ℕ) (words : List ℕ) → IsBitmap cells → IsRowOf cells y words
-    → IsLoweredRight distance words rect gap before right → IsLoweredLeft distance words rect gap right least
+pub IsLoweredBy-both : (distance : ℕ → ℕ → ℕ) (cells : Cells) (rect : Rect)
+    (y gap before right least : ℕ) (words : List ℕ) → IsBitmap cells → IsRowOf cells y words
+    → IsLoweredRight distance words rect gap before right
+    → IsLoweredLeft distance words rect gap right least
     → IsLoweredBy distance (IsObstacle cells) rect y gap before least
 IsLoweredBy-both distance cells rect y gap before right least words bitmap row on_right on_left =
     let first = on_right.within in
@@ -145,10 +175,12 @@ IsLoweredBy-both distance cells rect y gap before right least words bitmap row o
           let marked = obstacle_marked cells y words a bitmap row obstacle in
           elim (cases_lt a rect.x0) [
             | inl left ↦ on_left.far a left marked
-            | inr from ↦ IsFar-lower (distance (column_gap rect a) gap) right least second (on_right.far a from marked)
+            | inr from ↦ IsFar-lower (distance (column_gap rect a) gap) right least second
+                (on_right.far a from marked)
           ];
       reached = λ less. elim (cases_lt least right) [
-        | inl lower ↦ let (a, marked, is) = on_left.reached lower in (a, marked_obstacle cells y words a row marked, is)
+        | inl lower ↦ let (a, marked, is) = on_left.reached lower in
+            (a, marked_obstacle cells y words a row marked, is)
         | inr same ↦
             let (a, marked, is) = on_right.reached (omega arith) in
             let equal : right ≡ least = omega arith in
@@ -157,16 +189,21 @@ IsLoweredBy-both distance cells rect y gap before right least words bitmap row o
     }
 
 -- the least of some rows lowered by one more row is the least of all of them
-pub IsLeastAmong-more : (distance : ℕ → ℕ → ℕ) (Obstacle : ℕ → ℕ → Type 0) (rect : Rect) (IsRow IsNext : ℕ → Type 0) (y gap limit least next : ℕ)
-    → row_gap rect y ≡ gap → ((b : ℕ) → IsNext b → IsRow b ⊎ (b ≡ y)) → IsLoweredBy distance Obstacle rect y gap least next
-    → IsLeastAmong distance Obstacle rect IsRow limit least → IsLeastAmong distance Obstacle rect IsNext limit next
-IsLeastAmong-more distance Obstacle rect IsRow IsNext y gap limit least next gap_is back row before =
+pub IsLeastAmong-more : (distance : ℕ → ℕ → ℕ) (Obstacle : ℕ → ℕ → Type 0) (rect : Rect)
+    (IsRow IsNext : ℕ → Type 0) (y gap limit least next : ℕ)
+    → row_gap rect y ≡ gap → ((b : ℕ) → IsNext b → IsRow b ⊎ (b ≡ y))
+    → IsLoweredBy distance Obstacle rect y gap least next
+    → IsLeastAmong distance Obstacle rect IsRow limit least
+    → IsLeastAmong distance Obstacle rect IsNext limit next
+IsLeastAmong-more distance Obstacle rect IsRow IsNext y gap limit least next gap_is back row
+    before =
     let lower = row.within in
     let low = before.within in
     record {
       within = omega arith;
       far = λ a b obstacle is_next. elim (back b is_next) [
-        | inl earlier ↦ IsFar-lower (rect_distance distance rect a b) least next lower (before.far a b obstacle earlier)
+        | inl earlier ↦ IsFar-lower (rect_distance distance rect a b) least next lower
+            (before.far a b obstacle earlier)
         | inr here ↦
             let far = row.far a (subst (λ (n : ℕ). Obstacle a n) here obstacle) in
             let gaps : gap ≡ row_gap rect b = sym (ap (row_gap rect) here ∙ gap_is) in
@@ -175,49 +212,68 @@ IsLeastAmong-more distance Obstacle rect IsRow IsNext y gap limit least next gap
       reached = λ less. elim (cases_lt next least) [
         | inl lowered ↦
             let (a, obstacle, is) = row.reached lowered in
-            record { a = a; b = y; obstacle = obstacle; distance_is = ap (distance (column_gap rect a)) gap_is ∙ is }
+            record {
+              a = a;
+              b = y;
+              obstacle = obstacle;
+              distance_is = ap (distance (column_gap rect a)) gap_is ∙ is;
+            }
         | inr same ↦
             let equal : least ≡ next = omega arith in
             let reached = before.reached (omega arith) in
-            record { a = reached.a; b = reached.b; obstacle = reached.obstacle; distance_is = reached.distance_is ∙ equal }
+            record {
+              a = reached.a;
+              b = reached.b;
+              obstacle = reached.obstacle;
+              distance_is = reached.distance_is ∙ equal;
+            }
       ];
     }
 
 -- the least of some rows is that of other rows which have no more obstacles
-pub IsLeastAmong-same : (distance : ℕ → ℕ → ℕ) (Obstacle : ℕ → ℕ → Type 0) (rect : Rect) (IsRow IsNext : ℕ → Type 0) (limit least next : ℕ)
+pub IsLeastAmong-same : (distance : ℕ → ℕ → ℕ) (Obstacle : ℕ → ℕ → Type 0) (rect : Rect)
+    (IsRow IsNext : ℕ → Type 0) (limit least next : ℕ)
     → next ≡ least → ((a b : ℕ) → Obstacle a b → IsNext b → IsRow b)
-    → IsLeastAmong distance Obstacle rect IsRow limit least → IsLeastAmong distance Obstacle rect IsNext limit next
-IsLeastAmong-same distance Obstacle rect IsRow IsNext limit least next same back before = rw same (record {
-  within = before.within;
-  far = λ a b obstacle is_next. before.far a b obstacle (back a b obstacle is_next);
-  reached = before.reached;
-})
+    → IsLeastAmong distance Obstacle rect IsRow limit least
+    → IsLeastAmong distance Obstacle rect IsNext limit next
+IsLeastAmong-same distance Obstacle rect IsRow IsNext limit least next same back before =
+    rw same (record {
+      within = before.within;
+      far = λ a b obstacle is_next. before.far a b obstacle (back a b obstacle is_next);
+      reached = before.reached;
+    })
 
 -- rows that are as far away as the least say nothing more
-pub IsLeastAmong-far : (distance : ℕ → ℕ → ℕ) → Grows distance → StaysNearer distance → (cells : Cells) (rect : Rect) (IsRow IsNext : ℕ → Type 0) (gap limit least : ℕ)
+pub IsLeastAmong-far : (distance : ℕ → ℕ → ℕ) → Grows distance → StaysNearer distance
+    → (cells : Cells) (rect : Rect) (IsRow IsNext : ℕ → Type 0) (gap limit least : ℕ)
     → IsBitmap cells → least ≤ distance 0 gap → least < 2 ^ 32
     → ((b : ℕ) → IsNext b → IsRow b ⊎ (gap ≤ row_gap rect b))
-    → IsLeastAmong distance (IsObstacle cells) rect IsRow limit least → IsLeastAmong distance (IsObstacle cells) rect IsNext limit least
-IsLeastAmong-far distance grows stays cells rect IsRow IsNext gap limit least bitmap low small back before = record {
-  within = before.within;
-  far = λ a b obstacle is_next. elim (back b is_next) [
-    | inl earlier ↦ before.far a b obstacle earlier
-    | inr beyond ↦
-        let last = obstacle_within cells bitmap a b obstacle in
-        let column = last.2 in
-        let row = last.3 in
-        let right = rect.has_cells.right in
-        let bottom = rect.has_cells.bottom in
-        let grown = of_grows distance grows stays 0 (column_gap rect a) gap (row_gap rect b) (omega arith) (omega arith) beyond (omega arith) in
-        record { not_below = omega arith; is_limit = small }
-  ];
-  reached = before.reached;
-}
+    → IsLeastAmong distance (IsObstacle cells) rect IsRow limit least
+    → IsLeastAmong distance (IsObstacle cells) rect IsNext limit least
+IsLeastAmong-far distance grows stays cells rect IsRow IsNext gap limit least bitmap low small back
+    before = record {
+      within = before.within;
+      far = λ a b obstacle is_next. elim (back b is_next) [
+        | inl earlier ↦ before.far a b obstacle earlier
+        | inr beyond ↦
+            let last = obstacle_within cells bitmap a b obstacle in
+            let column = last.2 in
+            let row = last.3 in
+            let right = rect.has_cells.right in
+            let bottom = rect.has_cells.bottom in
+            let grown = of_grows distance grows stays 0 (column_gap rect a) gap (row_gap rect b)
+            (omega arith) (omega arith) beyond (omega arith) in
+            record { not_below = omega arith; is_limit = small }
+      ];
+      reached = before.reached;
+    }
 
 -- once all rows have been searched, the least is that of the rectangle's cells
-pub IsLeastBelow-all : (distance : ℕ → ℕ → ℕ) → Grows distance → StaysNearer distance → (cells : Cells) (rect : Rect) (IsRow : ℕ → Type 0) (limit least : ℕ)
+pub IsLeastBelow-all : (distance : ℕ → ℕ → ℕ) → Grows distance → StaysNearer distance
+    → (cells : Cells) (rect : Rect) (IsRow : ℕ → Type 0) (limit least : ℕ)
     → IsBitmap cells → ((a b : ℕ) → IsObstacle cells a b → IsRow b)
-    → IsLeastAmong distance (IsObstacle cells) rect IsRow limit least → IsLeastInBits distance (IsObstacle cells) rect limit least
+    → IsLeastAmong distance (IsObstacle cells) rect IsRow limit least
+    → IsLeastInBits distance (IsObstacle cells) rect limit least
 IsLeastBelow-all distance grows stays cells rect IsRow limit least bitmap all is =
     let columns = rect.has_cells.columns in
     let rows = rect.has_cells.rows in
@@ -233,8 +289,12 @@ IsLeastBelow-all distance grows stays cells rect IsRow limit least bitmap all is
           let x_high = cell.right in
           let y_low = cell.top in
           let y_high = cell.bottom in
-          let grown = of_grows distance grows stays (column_gap rect a) (abs_diff x a) (row_gap rect b) (abs_diff y b) (omega arith) (omega arith) (omega arith) (omega arith) in
-          IsFar-greater (rect_distance distance rect a b) (distance_between distance x y a b) least grown (is.far a b obstacle (all a b obstacle));
+          let grown = of_grows distance grows stays (column_gap rect a) (abs_diff x a)
+          (row_gap rect b) (abs_diff y b) (omega arith) (omega arith) (omega arith)
+          (omega arith) in
+          IsFar-greater (rect_distance distance rect a b)
+          (distance_between distance x y a b) least grown
+          (is.far a b obstacle (all a b obstacle));
       reached = λ less.
           let reached = is.reached less in
           let x = max rect.x0 (min (rect.x1 - 1) reached.a) in
@@ -244,7 +304,12 @@ IsLeastBelow-all distance grows stays cells rect IsRow limit least bitmap all is
           record {
             x = x;
             y = y;
-            cell = record { left = omega arith; right = omega arith; top = omega arith; bottom = omega arith };
+            cell = record {
+              left = omega arith;
+              right = omega arith;
+              top = omega arith;
+              bottom = omega arith;
+            };
             a = reached.a;
             b = reached.b;
             obstacle = reached.obstacle;
@@ -253,10 +318,13 @@ IsLeastBelow-all distance grows stays cells rect IsRow limit least bitmap all is
     }
 
 -- no spot of a row is nearer to the rectangle than the least
-row_far : (distance : ℕ → ℕ → ℕ) → Grows distance → StaysNearer distance → (cells : Cells) (rect : Rect) (y gap limit least : ℕ) → IsBitmap cells → row_gap rect y ≡ gap
+row_far : (distance : ℕ → ℕ → ℕ) → Grows distance → StaysNearer distance
+    → (cells : Cells) (rect : Rect) (y gap limit least : ℕ) → IsBitmap cells → row_gap rect y ≡ gap
     → IsLoweredBy distance (IsObstacle cells) rect y gap limit least
-    → (x z : ℕ) (a b : ℤ) → IsInRect rect x z → IsBlackInRow cells y a b → IsFar (spot_distance distance x z a b) least
-row_far distance grows stays cells rect y gap limit least bitmap gap_is is x z (pos a) (pos b) cell (obstacle, row) =
+    → (x z : ℕ) (a b : ℤ) → IsInRect rect x z → IsBlackInRow cells y a b
+    → IsFar (spot_distance distance x z a b) least
+row_far distance grows stays cells rect y gap limit least bitmap gap_is is x z (pos a) (pos b) cell
+    (obstacle, row) =
     let last = obstacle_within cells bitmap a b obstacle in
     let column = last.2 in
     let below = last.3 in
@@ -267,14 +335,20 @@ row_far distance grows stays cells rect y gap limit least bitmap gap_is is x z (
     let right = rect.has_cells.right in
     let bottom = rect.has_cells.bottom in
     let far = is.far a (subst (λ (n : ℕ). IsObstacle cells a n) row obstacle) in
-    let grown = of_grows distance grows stays (column_gap rect a) (abs_diff x a) gap (abs_diff z b) (omega arith) (omega arith) (omega arith) (omega arith) in
-    IsFar-greater (distance (column_gap rect a) gap) (distance_between distance x z a b) least grown far
-row_far distance grows stays cells rect y gap limit least bitmap gap_is is x z (pos a) (negsuc b) cell none = absurd none
-row_far distance grows stays cells rect y gap limit least bitmap gap_is is x z (negsuc a) b cell none = absurd none
+    let grown = of_grows distance grows stays (column_gap rect a) (abs_diff x a) gap (abs_diff z b)
+    (omega arith) (omega arith) (omega arith) (omega arith) in
+    IsFar-greater (distance (column_gap rect a) gap)
+    (distance_between distance x z a b) least grown far
+row_far distance grows stays cells rect y gap limit least bitmap gap_is is x z (pos a)
+    (negsuc b) cell none = absurd none
+row_far distance grows stays cells rect y gap limit least bitmap gap_is is x z
+    (negsuc a) b cell none = absurd none
 
 -- the least that a row lowers is that of the rectangle's cells and the row's obstacles
-pub IsLeastBelow-row : (distance : ℕ → ℕ → ℕ) → Grows distance → StaysNearer distance → (cells : Cells) (rect : Rect) (y gap limit least : ℕ) → IsBitmap cells → row_gap rect y ≡ gap
-    → IsLoweredBy distance (IsObstacle cells) rect y gap limit least → IsLeastBelow distance (IsPart cells (Row y)) rect limit least
+pub IsLeastBelow-row : (distance : ℕ → ℕ → ℕ) → Grows distance → StaysNearer distance
+    → (cells : Cells) (rect : Rect) (y gap limit least : ℕ) → IsBitmap cells → row_gap rect y ≡ gap
+    → IsLoweredBy distance (IsObstacle cells) rect y gap limit least
+    → IsLeastBelow distance (IsPart cells (Row y)) rect limit least
 IsLeastBelow-row distance grows stays cells rect y gap limit least bitmap gap_is is =
     let columns = rect.has_cells.columns in
     let rows = rect.has_cells.rows in
@@ -290,7 +364,12 @@ IsLeastBelow-row distance grows stays cells rect y gap limit least bitmap gap_is
           record {
             x = x;
             y = z;
-            cell = record { left = omega arith; right = omega arith; top = omega arith; bottom = omega arith };
+            cell = record {
+              left = omega arith;
+              right = omega arith;
+              top = omega arith;
+              bottom = omega arith;
+            };
             a = pos a;
             b = pos y;
             obstacle = (obstacle, refl);
@@ -299,7 +378,8 @@ IsLeastBelow-row distance grows stays cells rect y gap limit least bitmap gap_is
     }
 
 -- before any row has been searched the least is the limit
-pub IsLeastAmong-none : (distance : ℕ → ℕ → ℕ) (Obstacle : ℕ → ℕ → Type 0) (rect : Rect) (IsRow : ℕ → Type 0) (limit : ℕ)
+pub IsLeastAmong-none : (distance : ℕ → ℕ → ℕ) (Obstacle : ℕ → ℕ → Type 0) (rect : Rect)
+    (IsRow : ℕ → Type 0) (limit : ℕ)
     → ((b : ℕ) → IsRow b → ⊥) → IsLeastAmong distance Obstacle rect IsRow limit limit
 IsLeastAmong-none distance Obstacle rect IsRow limit none = record {
   within = omega arith;
@@ -309,36 +389,56 @@ IsLeastAmong-none distance Obstacle rect IsRow limit none = record {
 
 -- an obstacle's row is one of the largest map's
 pub row_within : (cells : Cells) → IsBitmap cells → (a b : ℕ) → IsObstacle cells a b → b < 4096
-row_within cells bitmap a b obstacle = let last = (obstacle_within cells bitmap a b obstacle).3 in omega arith
+row_within cells bitmap a b obstacle = let last = (obstacle_within cells bitmap a b obstacle).3 in
+    omega arith
 
 -- the two rows this many rows away, above and below, if there are such rows
-pub IsLeastWithin-more : (distance : ℕ → ℕ → ℕ) (cells : Cells) (rect : Rect) (gap limit least above below : ℕ) → IsBitmap cells → 0 < gap → rect.y1 ≤ cells.height
-    → (gap ≤ rect.y0 → IsLoweredBy distance (IsObstacle cells) rect (rect.y0 - gap) gap least above) → (rect.y0 < gap → above ≡ least)
-    → (rect.y1 - 1 + gap < cells.height → IsLoweredBy distance (IsObstacle cells) rect (rect.y1 - 1 + gap) gap above below) → (cells.height ≤ rect.y1 - 1 + gap → below ≡ above)
-    → IsLeastWithin distance (IsObstacle cells) rect gap limit least → IsLeastWithin distance (IsObstacle cells) rect (gap + 1) limit below
-IsLeastWithin-more distance cells rect gap limit least above below bitmap some high upper no_upper lower no_lower before =
+pub IsLeastWithin-more : (distance : ℕ → ℕ → ℕ) (cells : Cells) (rect : Rect)
+    (gap limit least above below : ℕ) → IsBitmap cells → 0 < gap → rect.y1 ≤ cells.height
+    → (gap ≤ rect.y0 → IsLoweredBy distance (IsObstacle cells) rect (rect.y0 - gap) gap least above)
+    → (rect.y0 < gap → above ≡ least)
+    → (rect.y1 - 1 + gap < cells.height
+    → IsLoweredBy distance (IsObstacle cells) rect (rect.y1 - 1 + gap) gap above below)
+    → (cells.height ≤ rect.y1 - 1 + gap → below ≡ above)
+    → IsLeastWithin distance (IsObstacle cells) rect gap limit least
+    → IsLeastWithin distance (IsObstacle cells) rect (gap + 1) limit below
+IsLeastWithin-more distance cells rect gap limit least above below bitmap some high upper no_upper
+    lower no_lower before =
     let rows = rect.has_cells.rows in
     let IsUp : ℕ → Type 0 = λ b. (row_gap rect b < gap) ⊎ (b + gap ≡ rect.y0) in
-    let up : IsLeastAmong distance (IsObstacle cells) rect IsUp limit above = elim (cases_lt rect.y0 gap) [
-      | inl none ↦ IsLeastAmong-same distance (IsObstacle cells) rect (λ b. row_gap rect b < gap) IsUp limit least above (no_upper none)
-          (λ a b obstacle is_up. elim is_up [ inl earlier ↦ earlier | inr here ↦ absurd (omega arith) ]) before
-      | inr there ↦ IsLeastAmong-more distance (IsObstacle cells) rect (λ b. row_gap rect b < gap) IsUp (rect.y0 - gap) gap limit least above (omega arith)
-          (λ b is_up. elim is_up [ inl earlier ↦ inl earlier | inr here ↦ inr (omega arith) ]) (upper there) before
+    let up : IsLeastAmong distance (IsObstacle cells) rect IsUp limit above =
+    elim (cases_lt rect.y0 gap) [
+      | inl none ↦ IsLeastAmong-same distance (IsObstacle cells) rect
+          (λ b. row_gap rect b < gap) IsUp limit least above (no_upper none)
+          (λ a b obstacle is_up. elim is_up [
+            | inl earlier ↦ earlier
+            | inr here ↦ absurd (omega arith)
+          ]) before
+      | inr there ↦ IsLeastAmong-more distance (IsObstacle cells) rect
+          (λ b. row_gap rect b < gap) IsUp (rect.y0 - gap) gap limit least above (omega arith)
+          (λ b is_up. elim is_up [ inl earlier ↦ inl earlier | inr here ↦ inr (omega arith) ])
+          (upper there) before
     ] in
     elim (cases_lt (rect.y1 - 1 + gap) cells.height) [
-      | inl there ↦ IsLeastAmong-more distance (IsObstacle cells) rect IsUp (λ b. row_gap rect b < gap + 1) (rect.y1 - 1 + gap) gap limit above below (omega arith)
+      | inl there ↦ IsLeastAmong-more distance (IsObstacle cells) rect IsUp
+          (λ b. row_gap rect b < gap + 1) (rect.y1 - 1 + gap) gap limit above below (omega arith)
           (λ b next. elim (cases_lt (row_gap rect b) gap) [
             | inl earlier ↦ inl (inl earlier)
-            | inr here ↦ elim (cases_lt b rect.y0) [ inl over ↦ inl (inr (omega arith)) | inr under ↦ inr (omega arith) ]
+            | inr here ↦ elim (cases_lt b rect.y0)
+                [ inl over ↦ inl (inr (omega arith)) | inr under ↦ inr (omega arith) ]
           ]) (lower there) up
-      | inr none ↦ IsLeastAmong-same distance (IsObstacle cells) rect IsUp (λ b. row_gap rect b < gap + 1) limit above below (no_lower none)
+      | inr none ↦ IsLeastAmong-same distance (IsObstacle cells) rect IsUp
+          (λ b. row_gap rect b < gap + 1) limit above below (no_lower none)
           (λ a b obstacle next.
           let last = (obstacle_within cells bitmap a b obstacle).1 in
-          elim (cases_lt (row_gap rect b) gap) [ inl earlier ↦ inl earlier | inr here ↦ inr (omega arith) ]) up
+          elim (cases_lt (row_gap rect b) gap)
+          [ inl earlier ↦ inl earlier | inr here ↦ inr (omega arith) ]) up
     ]
 
 -- an obstacle lies less rows away than the bitmap has
-pub row_gap-within : (cells : Cells) (rect : Rect) (gap : ℕ) → IsBitmap cells → rect.y1 ≤ cells.height → cells.height ≤ gap → (a b : ℕ) → IsObstacle cells a b → row_gap rect b < gap
+pub row_gap-within : (cells : Cells) (rect : Rect) (gap : ℕ) → IsBitmap cells
+    → rect.y1 ≤ cells.height → cells.height ≤ gap → (a b : ℕ) → IsObstacle cells a b
+    → row_gap rect b < gap
 row_gap-within cells rect gap bitmap high ended a b obstacle =
     let last = (obstacle_within cells bitmap a b obstacle).1 in
     let rows = rect.has_cells.rows in

@@ -1,5 +1,6 @@
 -- The least distance and the first near cell of a list of cells, from those of its two parts.
-use Rattle.std.proofs.Common.{◌≡◌, ℕ, ℤ, ◌+◌, ◌-◌, ◌<◌, ◌≤◌, inl, inr, List, ◌++◌, length, Option, Some, None, true, false, refl, sym, subst, ◌∙◌, arith, length-append}
+use Rattle.std.proofs.Common.{◌≡◌, ℕ, ℤ, ◌+◌, ◌-◌, ◌<◌, ◌≤◌, inl, inr, List, ◌++◌, length, Option}
+use Rattle.std.proofs.Common.{Some, None, true, false, refl, sym, subst, ◌∙◌, arith, length-append}
 use Rattle.std.specs.Option.{is_some}
 use Rattle.std.proofs.lemmas.Bool.{cases_lt}
 use Rattle.std.proofs.lemmas.List.{get_or_append_left, get_or-append_right, get_or-append-add}
@@ -9,85 +10,136 @@ use Rattle.metric.specs.declared.rect.Rect.{Rect}
 use Rattle.metric.specs.Nearest.{spot_distance}
 use Rattle.clearance.specs.Rows.{IsFar}
 use Rattle.clearance.specs.Search.{IsInRect, IsLeastBelow}
-use Rattle.clearance.specs.Firsts.{origin, cell_of_list, distance_at, IsBoundOver, IsFirstOrNone, IsLeastOver}
+use Rattle.clearance.specs.Firsts.{origin, cell_of_list, distance_at, IsBoundOver, IsFirstOrNone}
+use Rattle.clearance.specs.Firsts.{IsLeastOver}
 use Rattle.clearance.proofs.Searches.{IsFar-lower}
 
 -- what holds of each cell of both parts of a list holds of each of its cells
-each-append : (P : Cell → Type 0) (front back : List Cell) → ((i : ℕ) → i < length front → P (cell_of_list front i)) → ((i : ℕ) → i < length back → P (cell_of_list back i))
+each-append : (P : Cell → Type 0) (front back : List Cell)
+    → ((i : ℕ) → i < length front → P (cell_of_list front i))
+    → ((i : ℕ) → i < length back → P (cell_of_list back i))
     → (i : ℕ) → i < length (front ++ back) → P (cell_of_list (front ++ back) i)
 each-append P front back one other i within =
     let size = length-append front back in
     elim (cases_lt i (length front)) [
       | inl early ↦ subst P (sym (get_or_append_left front back origin i early)) (one i early)
-      | inr late ↦ subst P (sym (get_or-append_right front back (length front) i origin refl late)) (other (i - length front) (omega arith))
+      | inr late ↦ subst P (sym (get_or-append_right front back (length front) i origin refl late))
+          (other (i - length front) (omega arith))
     ]
 
 -- a list of which no cell is in reach below the bound has the bound as the least
-pub IsLeastOver-bound : (distance : ℕ → ℕ → ℕ) (Obstacle : ℤ → ℤ → Type 0) (cells : List Cell) (limit bound : ℕ) → IsBoundOver distance Obstacle cells bound → limit ≤ bound → IsLeastOver distance Obstacle cells limit limit
+pub IsLeastOver-bound : (distance : ℕ → ℕ → ℕ) (Obstacle : ℤ → ℤ → Type 0) (cells : List Cell)
+    (limit bound : ℕ) → IsBoundOver distance Obstacle cells bound → limit ≤ bound
+    → IsLeastOver distance Obstacle cells limit limit
 IsLeastOver-bound distance Obstacle cells limit bound is most = record {
   within = omega arith;
-  far = λ i a b within obstacle. IsFar-lower (distance_at distance cells i a b) bound limit most (is i a b within obstacle);
+  far = λ i a b within obstacle. IsFar-lower (distance_at distance cells i a b) bound limit most
+      (is i a b within obstacle);
   reached = λ less. absurd (omega arith);
 }
 
 -- a rectangle's least distance is a bound for a list whose cells all lie in it
-pub IsBoundOver-rect : (distance : ℕ → ℕ → ℕ) (Obstacle : ℤ → ℤ → Type 0) (cells : List Cell) (rect : Rect) (limit least : ℕ)
-    → ((i : ℕ) → i < length cells → IsInRect rect (cell_of_list cells i).x (cell_of_list cells i).y) → IsLeastBelow distance Obstacle rect limit least → IsBoundOver distance Obstacle cells least
-IsBoundOver-rect distance Obstacle cells rect limit least inside low = λ i a b within obstacle. low.far (cell_of_list cells i).x (cell_of_list cells i).y a b (inside i within) obstacle
+pub IsBoundOver-rect : (distance : ℕ → ℕ → ℕ) (Obstacle : ℤ → ℤ → Type 0) (cells : List Cell)
+    (rect : Rect) (limit least : ℕ)
+    → ((i : ℕ) → i < length cells → IsInRect rect (cell_of_list cells i).x (cell_of_list cells i).y)
+    → IsLeastBelow distance Obstacle rect limit least → IsBoundOver distance Obstacle cells least
+IsBoundOver-rect distance Obstacle cells rect limit least inside low =
+    λ i a b within obstacle. low.far (cell_of_list cells i).x (cell_of_list cells i).y a b
+    (inside i within) obstacle
 
 -- the least over the front, and then below it over the back, is the least over both
-pub IsLeastOver-front : (distance : ℕ → ℕ → ℕ) (Obstacle : ℤ → ℤ → Type 0) (front back : List Cell) (limit middle least : ℕ)
-    → IsLeastOver distance Obstacle front limit middle → IsLeastOver distance Obstacle back middle least → IsLeastOver distance Obstacle (front ++ back) limit least
+pub IsLeastOver-front : (distance : ℕ → ℕ → ℕ) (Obstacle : ℤ → ℤ → Type 0) (front back : List Cell)
+    (limit middle least : ℕ)
+    → IsLeastOver distance Obstacle front limit middle
+    → IsLeastOver distance Obstacle back middle least
+    → IsLeastOver distance Obstacle (front ++ back) limit least
 IsLeastOver-front distance Obstacle front back limit middle least one other =
     let low = one.within in
     let lower = other.within in
     let size = length-append front back in
     record {
       within = omega arith;
-      far = λ i a b within obstacle. each-append (λ c. IsFar (spot_distance distance c.x c.y a b) least) front back
-          (λ k inside. IsFar-lower (distance_at distance front k a b) middle least lower (one.far k a b inside obstacle))
+      far = λ i a b within obstacle. each-append
+          (λ c. IsFar (spot_distance distance c.x c.y a b) least) front back
+          (λ k inside. IsFar-lower (distance_at distance front k a b) middle least lower
+          (one.far k a b inside obstacle))
           (λ k inside. other.far k a b inside obstacle) i within;
       reached = λ less. elim (cases_lt least middle) [
         | inl lowered ↦
             let (i, within, a, b, obstacle, dist) = other.reached lowered in
-            let inside : length front + i < length (front ++ back) = omega arith in
-            (length front + i, inside, a, b, obstacle, subst (λ (c : Cell). spot_distance distance c.x c.y a b ≡ least) (sym (get_or-append-add front back i origin)) dist)
+            let inside : length front + i < length (front ++ back) = omega arith in (
+              length front + i,
+              inside,
+              a,
+              b,
+              obstacle,
+              subst (λ (c : Cell). spot_distance distance c.x c.y a b ≡ least)
+                  (sym (get_or-append-add front back i origin)) dist,
+            )
         | inr same ↦
             let (i, within, a, b, obstacle, dist) = one.reached (omega arith) in
             let inside : i < length (front ++ back) = omega arith in
-            let equal : middle ≡ least = omega arith in
-            (i, inside, a, b, obstacle, subst (λ (c : Cell). spot_distance distance c.x c.y a b ≡ least) (sym (get_or_append_left front back origin i within)) (dist ∙ equal))
+            let equal : middle ≡ least = omega arith in (
+              i,
+              inside,
+              a,
+              b,
+              obstacle,
+              subst (λ (c : Cell). spot_distance distance c.x c.y a b ≡ least)
+                  (sym (get_or_append_left front back origin i within)) (dist ∙ equal),
+            )
       ];
     }
 
 -- the least over the back, and then below it over the front, is the least over both
-pub IsLeastOver-back : (distance : ℕ → ℕ → ℕ) (Obstacle : ℤ → ℤ → Type 0) (front back : List Cell) (limit middle least : ℕ)
-    → IsLeastOver distance Obstacle back limit middle → IsLeastOver distance Obstacle front middle least → IsLeastOver distance Obstacle (front ++ back) limit least
+pub IsLeastOver-back : (distance : ℕ → ℕ → ℕ) (Obstacle : ℤ → ℤ → Type 0) (front back : List Cell)
+    (limit middle least : ℕ)
+    → IsLeastOver distance Obstacle back limit middle
+    → IsLeastOver distance Obstacle front middle least
+    → IsLeastOver distance Obstacle (front ++ back) limit least
 IsLeastOver-back distance Obstacle front back limit middle least one other =
     let low = one.within in
     let lower = other.within in
     let size = length-append front back in
     record {
       within = omega arith;
-      far = λ i a b within obstacle. each-append (λ c. IsFar (spot_distance distance c.x c.y a b) least) front back
+      far = λ i a b within obstacle. each-append
+          (λ c. IsFar (spot_distance distance c.x c.y a b) least) front back
           (λ k inside. other.far k a b inside obstacle)
-          (λ k inside. IsFar-lower (distance_at distance back k a b) middle least lower (one.far k a b inside obstacle)) i within;
+          (λ k inside. IsFar-lower (distance_at distance back k a b) middle least lower
+          (one.far k a b inside obstacle)) i within;
       reached = λ less. elim (cases_lt least middle) [
         | inl lowered ↦
             let (i, within, a, b, obstacle, dist) = other.reached lowered in
-            let inside : i < length (front ++ back) = omega arith in
-            (i, inside, a, b, obstacle, subst (λ (c : Cell). spot_distance distance c.x c.y a b ≡ least) (sym (get_or_append_left front back origin i within)) dist)
+            let inside : i < length (front ++ back) = omega arith in (
+              i,
+              inside,
+              a,
+              b,
+              obstacle,
+              subst (λ (c : Cell). spot_distance distance c.x c.y a b ≡ least)
+                  (sym (get_or_append_left front back origin i within)) dist,
+            )
         | inr same ↦
             let (i, within, a, b, obstacle, dist) = one.reached (omega arith) in
             let inside : length front + i < length (front ++ back) = omega arith in
-            let equal : middle ≡ least = omega arith in
-            (length front + i, inside, a, b, obstacle, subst (λ (c : Cell). spot_distance distance c.x c.y a b ≡ least) (sym (get_or-append-add front back i origin)) (dist ∙ equal))
+            let equal : middle ≡ least = omega arith in (
+              length front + i,
+              inside,
+              a,
+              b,
+              obstacle,
+              subst (λ (c : Cell). spot_distance distance c.x c.y a b ≡ least)
+                  (sym (get_or-append-add front back i origin)) (dist ∙ equal),
+            )
       ];
     }
 
 -- the first near cell of the front is the first of both
-IsFirstOrNone-front : (distance : ℕ → ℕ → ℕ) (Obstacle : ℤ → ℤ → Type 0) (front back : List Cell) (limit : ℕ) (found : Cell × Near)
-    → IsFirstOrNone distance Obstacle front limit (Some found) → IsFirstOrNone distance Obstacle (front ++ back) limit (Some found)
+IsFirstOrNone-front : (distance : ℕ → ℕ → ℕ) (Obstacle : ℤ → ℤ → Type 0) (front back : List Cell)
+    (limit : ℕ) (found : Cell × Near)
+    → IsFirstOrNone distance Obstacle front limit (Some found)
+    → IsFirstOrNone distance Obstacle (front ++ back) limit (Some found)
 IsFirstOrNone-front distance Obstacle front back limit found first =
     let size = length-append front back in
     let inside = first.within in
@@ -98,14 +150,20 @@ IsFirstOrNone-front distance Obstacle front back limit found first =
       near_is = first.near_is;
       nearer = first.nearer;
       before = λ i a b earlier obstacle.
-          subst (λ (c : Cell). limit ≤ spot_distance distance c.x c.y a b) (sym (get_or_append_left front back origin i (omega arith))) (first.before i a b earlier obstacle);
+          subst (λ (c : Cell). limit ≤ spot_distance distance c.x c.y a b)
+          (sym (get_or_append_left front back origin i (omega arith)))
+          (first.before i a b earlier obstacle);
     }
 
 -- where the front has none, the first near cell of the back is the first of both
-IsFirstOrNone-back : (distance : ℕ → ℕ → ℕ) (Obstacle : ℤ → ℤ → Type 0) (front back : List Cell) (limit : ℕ) (found : Option (Cell × Near))
-    → IsFirstOrNone distance Obstacle front limit None → IsFirstOrNone distance Obstacle back limit found → IsFirstOrNone distance Obstacle (front ++ back) limit found
+IsFirstOrNone-back : (distance : ℕ → ℕ → ℕ) (Obstacle : ℤ → ℤ → Type 0) (front back : List Cell)
+    (limit : ℕ) (found : Option (Cell × Near))
+    → IsFirstOrNone distance Obstacle front limit None
+    → IsFirstOrNone distance Obstacle back limit found
+    → IsFirstOrNone distance Obstacle (front ++ back) limit found
 IsFirstOrNone-back distance Obstacle front back limit None far none =
-    λ i a b within obstacle. each-append (λ c. limit ≤ spot_distance distance c.x c.y a b) front back (λ k inside. far k a b inside obstacle) (λ k inside. none k a b inside obstacle) i within
+    λ i a b within obstacle. each-append (λ c. limit ≤ spot_distance distance c.x c.y a b) front
+    back (λ k inside. far k a b inside obstacle) (λ k inside. none k a b inside obstacle) i within
 IsFirstOrNone-back distance Obstacle front back limit (Some found) far first =
     let size = length-append front back in
     let inside = first.within in
@@ -116,20 +174,31 @@ IsFirstOrNone-back distance Obstacle front back limit (Some found) far first =
       near_is = first.near_is;
       nearer = first.nearer;
       before = λ i a b earlier obstacle. elim (cases_lt i (length front)) [
-        | inl early ↦ subst (λ (c : Cell). limit ≤ spot_distance distance c.x c.y a b) (sym (get_or_append_left front back origin i early)) (far i a b early obstacle)
+        | inl early ↦ subst (λ (c : Cell). limit ≤ spot_distance distance c.x c.y a b)
+            (sym (get_or_append_left front back origin i early)) (far i a b early obstacle)
         | inr late ↦
-            subst (λ (c : Cell). limit ≤ spot_distance distance c.x c.y a b) (sym (get_or-append_right front back (length front) i origin refl late)) (first.before (i - length front) a b (omega arith) obstacle)
+            subst (λ (c : Cell). limit ≤ spot_distance distance c.x c.y a b)
+            (sym (get_or-append_right front back (length front) i origin refl late))
+            (first.before (i - length front) a b (omega arith) obstacle)
       ];
     }
 
 -- a first near cell of the front that there is is the first of both
-pub IsFirstOrNone-some : (distance : ℕ → ℕ → ℕ) (Obstacle : ℤ → ℤ → Type 0) (front back : List Cell) (limit : ℕ) (found : Option (Cell × Near)) → is_some found ≡ true
-    → IsFirstOrNone distance Obstacle front limit found → IsFirstOrNone distance Obstacle (front ++ back) limit found
+pub IsFirstOrNone-some : (distance : ℕ → ℕ → ℕ) (Obstacle : ℤ → ℤ → Type 0) (front back : List Cell)
+    (limit : ℕ) (found : Option (Cell × Near)) → is_some found ≡ true
+    → IsFirstOrNone distance Obstacle front limit found
+    → IsFirstOrNone distance Obstacle (front ++ back) limit found
 IsFirstOrNone-some distance Obstacle front back limit None some first = absurd (cc)
-IsFirstOrNone-some distance Obstacle front back limit (Some found) some first = IsFirstOrNone-front distance Obstacle front back limit found first
+IsFirstOrNone-some distance Obstacle front back limit (Some found) some first =
+    IsFirstOrNone-front distance Obstacle front back limit found first
 
 -- where there is no first near cell of the front, that of the back is the first of both
-pub IsFirstOrNone-none : (distance : ℕ → ℕ → ℕ) (Obstacle : ℤ → ℤ → Type 0) (front back : List Cell) (limit : ℕ) (found other : Option (Cell × Near)) → is_some found ≡ false
-    → IsFirstOrNone distance Obstacle front limit found → IsFirstOrNone distance Obstacle back limit other → IsFirstOrNone distance Obstacle (front ++ back) limit other
-IsFirstOrNone-none distance Obstacle front back limit None other none far first = IsFirstOrNone-back distance Obstacle front back limit other far first
-IsFirstOrNone-none distance Obstacle front back limit (Some found) other none far first = absurd (cc)
+pub IsFirstOrNone-none : (distance : ℕ → ℕ → ℕ) (Obstacle : ℤ → ℤ → Type 0) (front back : List Cell)
+    (limit : ℕ) (found other : Option (Cell × Near)) → is_some found ≡ false
+    → IsFirstOrNone distance Obstacle front limit found
+    → IsFirstOrNone distance Obstacle back limit other
+    → IsFirstOrNone distance Obstacle (front ++ back) limit other
+IsFirstOrNone-none distance Obstacle front back limit None other none far first =
+    IsFirstOrNone-back distance Obstacle front back limit other far first
+IsFirstOrNone-none distance Obstacle front back limit (Some found) other none far first =
+    absurd (cc)

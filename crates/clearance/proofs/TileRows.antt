@@ -14,33 +14,47 @@ use Rattle.clearance.specs.Search.{IsLeastWithin, column_gap, rect_distance, row
 use Rattle.clearance.proofs.Searches.{IsFar-greater, IsFar-lower, obstacle_within}
 
 -- where the first tile on the right and the last one on the left are far, all are
-pub AreTilesFar-both : (distance : ℕ → ℕ → ℕ) → Grows distance → StaysNearer distance → (rect : Rect) (gap least tiles next after : ℕ)
-    → ((k : ℕ) → rect.x0 / 64 ≤ k → k < next → bit_at tiles k ≡ 1 → ⊥) → (next < 64 → IsFar (distance (next * 64 - (rect.x1 - 1)) gap) least)
-    → ((k : ℕ) → after ≤ k → k < rect.x0 / 64 → bit_at tiles k ≡ 1 → ⊥) → (0 < after → IsFar (distance (rect.x0 + 1 - after * 64) gap) least)
+pub AreTilesFar-both : (distance : ℕ → ℕ → ℕ) → Grows distance → StaysNearer distance
+    → (rect : Rect) (gap least tiles next after : ℕ)
+    → ((k : ℕ) → rect.x0 / 64 ≤ k → k < next → bit_at tiles k ≡ 1 → ⊥)
+    → (next < 64 → IsFar (distance (next * 64 - (rect.x1 - 1)) gap) least)
+    → ((k : ℕ) → after ≤ k → k < rect.x0 / 64 → bit_at tiles k ≡ 1 → ⊥)
+    → (0 < after → IsFar (distance (rect.x0 + 1 - after * 64) gap) least)
     → AreTilesFar distance rect gap least tiles
-AreTilesFar-both distance grows stays rect gap least tiles next after none_right right none_left left = λ a b column row bit away.
+AreTilesFar-both distance grows stays rect gap least tiles next after none_right right none_left
+    left = λ a b column row bit away.
     let last = rect.has_cells.right in
     let bottom = rect.has_cells.bottom in
     let rows = rect.has_cells.rows in
     elim (cases_lt (a / 64) (rect.x0 / 64)) [
       | inl before ↦ elim (cases_lt (a / 64) after) [
         | inl own ↦
-            let grown = of_grows distance grows stays (rect.x0 + 1 - after * 64) (column_gap rect a) gap (row_gap rect b) (omega arith) (omega arith) away (omega arith) in
-            IsFar-greater (distance (rect.x0 + 1 - after * 64) gap) (rect_distance distance rect a b) least grown (left (omega arith))
+            let grown = of_grows distance grows stays (rect.x0 + 1 - after * 64)
+            (column_gap rect a) gap (row_gap rect b) (omega arith) (omega arith) away
+            (omega arith) in
+            IsFar-greater (distance (rect.x0 + 1 - after * 64) gap)
+            (rect_distance distance rect a b) least grown (left (omega arith))
         | inr past ↦ absurd (none_left (a / 64) past before bit)
       ]
       | inr from ↦ elim (cases_lt (a / 64) next) [
         | inl passed ↦ absurd (none_right (a / 64) from passed bit)
         | inr own ↦
-            let grown = of_grows distance grows stays (next * 64 - (rect.x1 - 1)) (column_gap rect a) gap (row_gap rect b) (omega arith) (omega arith) away (omega arith) in
-            IsFar-greater (distance (next * 64 - (rect.x1 - 1)) gap) (rect_distance distance rect a b) least grown (right (omega arith))
+            let grown = of_grows distance grows stays (next * 64 - (rect.x1 - 1))
+            (column_gap rect a) gap (row_gap rect b) (omega arith) (omega arith) away
+            (omega arith) in
+            IsFar-greater (distance (next * 64 - (rect.x1 - 1)) gap)
+            (rect_distance distance rect a b) least grown (right (omega arith))
       ]
     ]
 
 -- a band whose tiles are far may be left out
-pub IsThinned-without : (distance : ℕ → ℕ → ℕ) (cells : Cells) (rect : Rect) (gap least bands left tiles band : ℕ) → IsBitmap cells → IsTiled cells band tiles → AreTilesFar distance rect gap least tiles
-    → ((i : ℕ) → i < 64 → (i ≡ band → ⊥) → bit_at left i ≡ bit_at bands i) → IsThinned distance cells rect gap least bands left
-IsThinned-without distance cells rect gap least bands left tiles band bitmap tiled far kept = λ a b obstacle away marked.
+pub IsThinned-without : (distance : ℕ → ℕ → ℕ) (cells : Cells) (rect : Rect)
+    (gap least bands left tiles band : ℕ) → IsBitmap cells → IsTiled cells band tiles
+    → AreTilesFar distance rect gap least tiles
+    → ((i : ℕ) → i < 64 → (i ≡ band → ⊥) → bit_at left i ≡ bit_at bands i)
+    → IsThinned distance cells rect gap least bands left
+IsThinned-without distance cells rect gap least bands left tiles band bitmap tiled far kept =
+    λ a b obstacle away marked.
     let last = obstacle_within cells bitmap a b obstacle in
     let column = last.2 in
     let row = last.3 in
@@ -50,62 +64,85 @@ IsThinned-without distance cells rect gap least bands left tiles band bitmap til
     ]
 
 -- what is left after two bands are left out
-pub IsThinned-more : (distance : ℕ → ℕ → ℕ) (cells : Cells) (rect : Rect) (gap least bands middle left : ℕ) → IsThinned distance cells rect gap least bands middle
-    → IsThinned distance cells rect gap least middle left → IsThinned distance cells rect gap least bands left
-IsThinned-more distance cells rect gap least bands middle left one other = λ a b obstacle away marked. elim (one a b obstacle away marked) [
-  | inl still ↦ other a b obstacle away still
-  | inr far ↦ inr far
-]
+pub IsThinned-more : (distance : ℕ → ℕ → ℕ) (cells : Cells) (rect : Rect)
+    (gap least bands middle left : ℕ) → IsThinned distance cells rect gap least bands middle
+    → IsThinned distance cells rect gap least middle left
+    → IsThinned distance cells rect gap least bands left
+IsThinned-more distance cells rect gap least bands middle left one other =
+    λ a b obstacle away marked. elim (one a b obstacle away marked) [
+      | inl still ↦ other a b obstacle away still
+      | inr far ↦ inr far
+    ]
 
--- each obstacle at least this many rows outside the rectangle is in a marked band, or as far as the least
+-- each obstacle at least this many rows outside the rectangle is in a marked band, or as far as the
+-- least
 abbrev pub AreBandsLive : (ℕ → ℕ → ℕ) → Cells → Rect → ℕ → ℕ → ℕ → Type 0
-AreBandsLive distance cells rect gap least bands = (a b : ℕ) → IsObstacle cells a b → gap ≤ row_gap rect b → IsMarkedRow bands b ⊎ IsFar (rect_distance distance rect a b) least
+AreBandsLive distance cells rect gap least bands =
+    (a b : ℕ) → IsObstacle cells a b → gap ≤ row_gap rect b → IsMarkedRow bands b
+    ⊎ IsFar (rect_distance distance rect a b) least
 
 -- with all bands that may have an obstacle, each obstacle outside is in a marked one
-pub AreBandsLive-banded : (distance : ℕ → ℕ → ℕ) (cells : Cells) (rect : Rect) (gap least bands : ℕ) → IsBanded cells bands → AreBandsLive distance cells rect gap least bands
-AreBandsLive-banded distance cells rect gap least bands banded = λ a b obstacle away. inl (banded a b obstacle)
+pub AreBandsLive-banded : (distance : ℕ → ℕ → ℕ) (cells : Cells) (rect : Rect) (gap least bands : ℕ)
+    → IsBanded cells bands → AreBandsLive distance cells rect gap least bands
+AreBandsLive-banded distance cells rect gap least bands banded =
+    λ a b obstacle away. inl (banded a b obstacle)
 
 -- bands stay live for rows farther away and a lesser least, with some bands left out
-pub AreBandsLive-thinned : (distance : ℕ → ℕ → ℕ) (cells : Cells) (rect : Rect) (gap least bands next lower left : ℕ) → gap ≤ next → lower ≤ least
-    → AreBandsLive distance cells rect gap least bands → IsThinned distance cells rect next lower bands left → AreBandsLive distance cells rect next lower left
-AreBandsLive-thinned distance cells rect gap least bands next lower left order less live thinned = λ a b obstacle away. elim (live a b obstacle (omega arith)) [
-  | inl marked ↦ thinned a b obstacle away marked
-  | inr far ↦ inr (IsFar-lower (rect_distance distance rect a b) least lower less far)
-]
+pub AreBandsLive-thinned : (distance : ℕ → ℕ → ℕ) (cells : Cells) (rect : Rect)
+    (gap least bands next lower left : ℕ) → gap ≤ next → lower ≤ least
+    → AreBandsLive distance cells rect gap least bands
+    → IsThinned distance cells rect next lower bands left
+    → AreBandsLive distance cells rect next lower left
+AreBandsLive-thinned distance cells rect gap least bands next lower left order less live thinned =
+    λ a b obstacle away. elim (live a b obstacle (omega arith)) [
+      | inl marked ↦ thinned a b obstacle away marked
+      | inr far ↦ inr (IsFar-lower (rect_distance distance rect a b) least lower less far)
+    ]
 
 -- bands stay live for rows farther away
-pub AreBandsLive-later : (distance : ℕ → ℕ → ℕ) (cells : Cells) (rect : Rect) (gap least bands next : ℕ) → gap ≤ next → AreBandsLive distance cells rect gap least bands → AreBandsLive distance cells rect next least bands
-AreBandsLive-later distance cells rect gap least bands next order live = λ a b obstacle away. live a b obstacle (omega arith)
+pub AreBandsLive-later : (distance : ℕ → ℕ → ℕ) (cells : Cells) (rect : Rect)
+    (gap least bands next : ℕ) → gap ≤ next → AreBandsLive distance cells rect gap least bands
+    → AreBandsLive distance cells rect next least bands
+AreBandsLive-later distance cells rect gap least bands next order live =
+    λ a b obstacle away. live a b obstacle (omega arith)
 
 -- a row of a marked band isn't skipped
-pub marked_passed : (bands : ℕ) (rect : Rect) (gap next b : ℕ) → 0 < gap → b < 4096 → IsNextGap (IsMarkedRow bands) rect.y0 (rect.y1 - 1) gap next → gap ≤ row_gap rect b → row_gap rect b < next → IsMarkedRow bands b → ⊥
+pub marked_passed : (bands : ℕ) (rect : Rect) (gap next b : ℕ) → 0 < gap → b < 4096
+    → IsNextGap (IsMarkedRow bands) rect.y0 (rect.y1 - 1) gap next → gap ≤ row_gap rect b
+    → row_gap rect b < next → IsMarkedRow bands b → ⊥
 marked_passed bands rect gap next b some within is away near marked =
     let rows = rect.has_cells.rows in
     elim (cases_lt b rect.y0) [
       | inl up ↦ let passed = is.above b marked (omega arith) in absurd (omega arith)
-      | inr down ↦ let passed = is.below b marked (omega arith) (omega arith) in absurd (omega arith)
+      | inr down ↦ let passed = is.below b marked (omega arith) (omega arith) in
+          absurd (omega arith)
     ]
 
 -- rows skipped for their bands have no obstacle that could lower the least
-pub IsLeastWithin-live : (distance : ℕ → ℕ → ℕ) (cells : Cells) (rect : Rect) (gap next limit least bands : ℕ) → IsBitmap cells → 0 < gap
-    → IsNextGap (IsMarkedRow bands) rect.y0 (rect.y1 - 1) gap next → AreBandsLive distance cells rect gap least bands
-    → IsLeastWithin distance (IsObstacle cells) rect gap limit least → IsLeastWithin distance (IsObstacle cells) rect next limit least
-IsLeastWithin-live distance cells rect gap next limit least bands bitmap some is live before = record {
-  within = before.within;
-  far = λ a b obstacle near. elim (cases_lt (row_gap rect b) gap) [
-    | inl earlier ↦ before.far a b obstacle earlier
-    | inr away ↦ elim (live a b obstacle away) [
-      | inl marked ↦
-          let last = (obstacle_within cells bitmap a b obstacle).3 in
-          absurd (marked_passed bands rect gap next b some (omega arith) is away near marked)
-      | inr far ↦ far
-    ]
-  ];
-  reached = before.reached;
-}
+pub IsLeastWithin-live : (distance : ℕ → ℕ → ℕ) (cells : Cells) (rect : Rect)
+    (gap next limit least bands : ℕ) → IsBitmap cells → 0 < gap
+    → IsNextGap (IsMarkedRow bands) rect.y0 (rect.y1 - 1) gap next
+    → AreBandsLive distance cells rect gap least bands
+    → IsLeastWithin distance (IsObstacle cells) rect gap limit least
+    → IsLeastWithin distance (IsObstacle cells) rect next limit least
+IsLeastWithin-live distance cells rect gap next limit least bands bitmap some is live before =
+    record {
+      within = before.within;
+      far = λ a b obstacle near. elim (cases_lt (row_gap rect b) gap) [
+        | inl earlier ↦ before.far a b obstacle earlier
+        | inr away ↦ elim (live a b obstacle away) [
+          | inl marked ↦
+              let last = (obstacle_within cells bitmap a b obstacle).3 in
+              absurd (marked_passed bands rect gap next b some (omega arith) is away near marked)
+          | inr far ↦ far
+        ]
+      ];
+      reached = before.reached;
+    }
 
 -- what isn't greater in one case and the same in the other isn't greater
-pub less_or_same : (n m least lower : ℕ) → (n ≤ m → lower ≤ least) → (m < n → lower ≡ least) → lower ≤ least
+pub less_or_same : (n m least lower : ℕ) → (n ≤ m → lower ≤ least) → (m < n → lower ≡ least)
+    → lower ≤ least
 less_or_same n m least lower less same = elim (cases_lt m n) [
   | inl none ↦ let equal = same none in omega arith
   | inr there ↦ less there

@@ -1,9 +1,12 @@
 -- Which cells a path has, piece by piece and half by half.
-use Rattle.std.proofs.Common.{◌≡◌, ℕ, zero, suc, ◌+◌, ◌-◌, ◌<◌, ◌≤◌, inl, inr, List, [], ◌∷◌, ◌++◌, length, get_or, take, drop, max, ◌/◌, refl, sym, ap, subst, ◌∙◌, arith, length-append, length-drop, length-take-le}
+use Rattle.std.proofs.Common.{◌≡◌, ℕ, zero, suc, ◌+◌, ◌-◌, ◌<◌, ◌≤◌, inl, inr, List, [], ◌∷◌, ◌++◌}
+use Rattle.std.proofs.Common.{length, get_or, take, drop, max, ◌/◌, refl, sym, ap, subst, ◌∙◌}
+use Rattle.std.proofs.Common.{arith, length-append, length-drop, length-take-le}
 use Rattle.std.specs.Int.{abs_diff}
 use Rattle.std.proofs.lemmas.Bool.{cases_lt}
 use Rattle.std.proofs.lemmas.Bool.Decides.{nat_tests}
-use Rattle.std.proofs.lemmas.List.{append-nil, append_assoc, get_or_append_left, get_or-append_right, take-append-drop}
+use Rattle.std.proofs.lemmas.List.{append-nil, append_assoc, get_or_append_left}
+use Rattle.std.proofs.lemmas.List.{get_or-append_right, take-append-drop}
 use Rattle.std.proofs.lemmas.List.FromFn.{length-map-range_with_len, get_or-map-range_with_len}
 use Rattle.metric.specs.declared.cell.Cell.{Cell}
 use Rattle.metric.specs.declared.rect.Rect.{Rect}
@@ -19,11 +22,16 @@ cell_of_step from to k = record { x = towards from.x to.x (1 + k); y = towards f
 
 -- a segment has as many cells as it is counted to have
 pub length-cells_up_to : (from to : Cell) → length (cells_up_to from to) ≡ cell_count from to
-length-cells_up_to from to = length-map-range_with_len (λ k. record { x = towards from.x to.x k; y = towards from.y to.y k }) 1 (cell_count from to)
+length-cells_up_to from to =
+    length-map-range_with_len (λ k. record { x = towards from.x to.x k; y = towards from.y to.y k })
+    1 (cell_count from to)
 
 -- each cell of a segment is that of its step
-pub get_or-cells_up_to : (from to : Cell) (k : ℕ) → k < cell_count from to → get_or (cells_up_to from to) k origin ≡ cell_of_step from to k
-get_or-cells_up_to from to k within = get_or-map-range_with_len (λ n. record { x = towards from.x to.x n; y = towards from.y to.y n }) 1 (cell_count from to) k (1 + k) origin within refl
+pub get_or-cells_up_to : (from to : Cell) (k : ℕ) → k < cell_count from to
+    → get_or (cells_up_to from to) k origin ≡ cell_of_step from to k
+get_or-cells_up_to from to k within =
+    get_or-map-range_with_len (λ n. record { x = towards from.x to.x n; y = towards from.y to.y n })
+    1 (cell_count from to) k (1 + k) origin within refl
 
 -- one step from a number to itself ends at it
 towards-same : (n : ℕ) → towards n n 1 ≡ n
@@ -36,16 +44,20 @@ cells_up_to-same point =
     rw (one, towards-same point.x, towards-same point.y) refl
 
 -- the cells of a path are those after its first point, along all its points
-first_behind : (first : Cell) (points : List Cell) → cells_of_path (first ∷ points) ≡ cells_behind first (first ∷ points)
-first_behind first points = sym (ap (λ (l : List Cell). l ++ cells_behind first points) (cells_up_to-same first))
+first_behind : (first : Cell) (points : List Cell)
+    → cells_of_path (first ∷ points) ≡ cells_behind first (first ∷ points)
+first_behind first points =
+    sym (ap (λ (l : List Cell). l ++ cells_behind first points) (cells_up_to-same first))
 
 -- a path's cells are those after its first point, as if that were repeated
-pub cells_of_path-start : (points : List Cell) → 0 < length points → cells_of_path points ≡ cells_behind (get_or points 0 origin) points
+pub cells_of_path-start : (points : List Cell) → 0 < length points
+    → cells_of_path points ≡ cells_behind (get_or points 0 origin) points
 cells_of_path-start [] some = absurd (omega arith)
 cells_of_path-start (first ∷ points) some = first_behind first points
 
 -- a path that has a point has a cell
-pub length-cells_of_path : (points : List Cell) → 0 < length points → 0 < length (cells_of_path points)
+pub length-cells_of_path : (points : List Cell) → 0 < length points
+    → 0 < length (cells_of_path points)
 length-cells_of_path [] some = absurd (omega arith)
 length-cells_of_path (first ∷ points) some = omega arith
 
@@ -55,21 +67,29 @@ last_of from [] = from
 last_of from (to ∷ points) = last_of to points
 
 -- the last of some points is the one at the last place
-last_of-place : (from : Cell) (points : List Cell) (n : ℕ) → length points ≡ 1 + n → get_or points n origin ≡ last_of from points
+last_of-place : (from : Cell) (points : List Cell) (n : ℕ) → length points ≡ 1 + n
+    → get_or points n origin ≡ last_of from points
 last_of-place from [] n some = absurd (omega arith)
 last_of-place from (to ∷ []) zero some = refl
 last_of-place from (to ∷ []) (suc n) some = absurd (omega arith)
 last_of-place from (to ∷ next ∷ points) zero some = absurd (omega arith)
-last_of-place from (to ∷ next ∷ points) (suc n) some = last_of-place to (next ∷ points) n (omega arith)
+last_of-place from (to ∷ next ∷ points) (suc n) some =
+    last_of-place to (next ∷ points) n (omega arith)
 
 -- the cells of a walk are those of its first points, and then those after the last of these
-cells_behind-append : (from : Cell) (front back : List Cell) → cells_behind from (front ++ back) ≡ cells_behind from front ++ cells_behind (last_of from front) back
+cells_behind-append : (from : Cell) (front back : List Cell)
+    → cells_behind from (front ++ back) ≡ cells_behind from front
+    ++ cells_behind (last_of from front) back
 cells_behind-append from [] back = refl
 cells_behind-append from (to ∷ front) back =
-    ap (λ (l : List Cell). cells_up_to from to ++ l) (cells_behind-append to front back) ∙ sym (append_assoc (cells_up_to from to) (cells_behind to front) (cells_behind (last_of to front) back))
+    ap (λ (l : List Cell). cells_up_to from to ++ l) (cells_behind-append to front back)
+    ∙ sym (append_assoc (cells_up_to from to) (cells_behind to front)
+    (cells_behind (last_of to front) back))
 
 -- both parts of a walk are walks
-IsWalk-parts : (cells : Cells) (from : Cell) (front back : List Cell) → IsWalk cells from (front ++ back) → IsWalk cells from front × IsWalk cells (last_of from front) back
+IsWalk-parts : (cells : Cells) (from : Cell) (front back : List Cell)
+    → IsWalk cells from (front ++ back) → IsWalk cells from front
+    × IsWalk cells (last_of from front) back
 IsWalk-parts cells from [] [] walk = (walk, walk)
 IsWalk-parts cells from [] (to ∷ back) walk = (walk.0, walk)
 IsWalk-parts cells from (to ∷ front) back walk =
@@ -77,31 +97,43 @@ IsWalk-parts cells from (to ∷ front) back walk =
     ((walk.0, walk.1, parts.0), parts.1)
 
 -- the first point of a walk lies in the bitmap
-pub IsWalk-start : (cells : Cells) (from : Cell) (points : List Cell) → IsWalk cells from points → IsInside cells from.x from.y
+pub IsWalk-start : (cells : Cells) (from : Cell) (points : List Cell) → IsWalk cells from points
+    → IsInside cells from.x from.y
 IsWalk-start cells from [] walk = walk
 IsWalk-start cells from (to ∷ points) walk = walk.0
 
 -- each point of a walk lies in the bitmap
-pub IsWalk-inside : (cells : Cells) (from : Cell) (points : List Cell) (k : ℕ) → IsWalk cells from points → k < length points → IsInside cells (get_or points k origin).x (get_or points k origin).y
+pub IsWalk-inside : (cells : Cells) (from : Cell) (points : List Cell) (k : ℕ)
+    → IsWalk cells from points → k < length points
+    → IsInside cells (get_or points k origin).x (get_or points k origin).y
 IsWalk-inside cells from [] k walk within = absurd (omega arith)
 IsWalk-inside cells from (to ∷ points) zero walk within = IsWalk-start cells to points walk.2
-IsWalk-inside cells from (to ∷ points) (suc k) walk within = IsWalk-inside cells to points k walk.2 (omega arith)
+IsWalk-inside cells from (to ∷ points) (suc k) walk within =
+    IsWalk-inside cells to points k walk.2 (omega arith)
 
 -- a step from one number towards another stays between bounds of both
-towards-between : (from to k low high : ℕ) → low ≤ from → low ≤ to → from < high → to < high → (low ≤ towards from to k) × (towards from to k < high)
+towards-between : (from to k low high : ℕ) → low ≤ from → low ≤ to → from < high → to < high
+    → (low ≤ towards from to k) × (towards from to k < high)
 towards-between from to k low high a b c d = (grind (arith, nat_tests), grind (arith, nat_tests))
 
 -- a cell of a piece lies in each rectangle that has both of its ends
-step-in_rect : (rect : Rect) (from to : Cell) (k : ℕ) → IsInRect rect from.x from.y → IsInRect rect to.x to.y → IsInRect rect (cell_of_step from to k).x (cell_of_step from to k).y
+step-in_rect : (rect : Rect) (from to : Cell) (k : ℕ) → IsInRect rect from.x from.y
+    → IsInRect rect to.x to.y → IsInRect rect (cell_of_step from to k).x (cell_of_step from to k).y
 step-in_rect rect from to k one other =
-    let x = towards-between from.x to.x (1 + k) rect.x0 rect.x1 one.left other.left one.right other.right in
-    let y = towards-between from.y to.y (1 + k) rect.y0 rect.y1 one.top other.top one.bottom other.bottom in
+    let x = towards-between from.x to.x (1 + k) rect.x0 rect.x1 one.left other.left one.right
+    other.right in
+    let y = towards-between from.y to.y (1 + k) rect.y0 rect.y1 one.top other.top one.bottom
+    other.bottom in
     record { left = x.0; right = x.1; top = y.0; bottom = y.1 }
 
 -- the cells of a walk lie in each rectangle that has all of its points
-pub cells_behind-in_rect : (rect : Rect) (from : Cell) (points : List Cell) → IsInRect rect from.x from.y
-    → ((k : ℕ) → k < length points → IsInRect rect (cell_of_list points k).x (cell_of_list points k).y)
-    → (i : ℕ) → i < length (cells_behind from points) → IsInRect rect (cell_of_list (cells_behind from points) i).x (cell_of_list (cells_behind from points) i).y
+pub cells_behind-in_rect : (rect : Rect) (from : Cell) (points : List Cell)
+    → IsInRect rect from.x from.y
+    → ((k : ℕ) → k < length points
+    → IsInRect rect (cell_of_list points k).x (cell_of_list points k).y)
+    → (i : ℕ) → i < length (cells_behind from points)
+    → IsInRect rect (cell_of_list (cells_behind from points) i).x
+    (cell_of_list (cells_behind from points) i).y
 cells_behind-in_rect rect from [] here points i within = absurd (omega arith)
 cells_behind-in_rect rect from (to ∷ rest) here points i within =
     let there = points 0 (omega arith) in
@@ -110,13 +142,18 @@ cells_behind-in_rect rect from (to ∷ rest) here points i within =
     elim (cases_lt i (cell_count from to)) [
       | inl early ↦
           let at : cell_of_list (cells_behind from (to ∷ rest)) i ≡ cell_of_step from to i =
-          get_or_append_left (cells_up_to from to) (cells_behind to rest) origin i (rw size early) ∙ get_or-cells_up_to from to i early in
-          subst (λ (c : Cell). IsInRect rect c.x c.y) (sym at) (step-in_rect rect from to i here there)
-      | inr late ↦
-          let at : cell_of_list (cells_behind from (to ∷ rest)) i ≡ cell_of_list (cells_behind to rest) (i - cell_count from to) =
-          get_or-append_right (cells_up_to from to) (cells_behind to rest) (cell_count from to) i origin size late in
+          get_or_append_left (cells_up_to from to) (cells_behind to rest) origin i (rw size early)
+          ∙ get_or-cells_up_to from to i early in
           subst (λ (c : Cell). IsInRect rect c.x c.y) (sym at)
-          (cells_behind-in_rect rect to rest there (λ k more. points (suc k) (omega arith)) (i - cell_count from to) (omega arith))
+          (step-in_rect rect from to i here there)
+      | inr late ↦
+          let at : cell_of_list (cells_behind from (to ∷ rest)) i
+          ≡ cell_of_list (cells_behind to rest) (i - cell_count from to) =
+          get_or-append_right (cells_up_to from to) (cells_behind to rest)
+          (cell_count from to) i origin size late in
+          subst (λ (c : Cell). IsInRect rect c.x c.y) (sym at)
+          (cells_behind-in_rect rect to rest there (λ k more. points (suc k) (omega arith))
+          (i - cell_count from to) (omega arith))
     ]
 
 -- a cell lies in the rectangle of which these are the first and the last cell
@@ -127,7 +164,8 @@ pub record IsBetween (low high cell : Cell) : Type 0 where
   pub bottom : cell.y ≤ high.y
 
 -- what lies between two cells lies between two that are further apart
-pub IsBetween-wider : (low high before after cell : Cell) → before.x ≤ low.x → before.y ≤ low.y → high.x ≤ after.x → high.y ≤ after.y → IsBetween low high cell → IsBetween before after cell
+pub IsBetween-wider : (low high before after cell : Cell) → before.x ≤ low.x → before.y ≤ low.y
+    → high.x ≤ after.x → high.y ≤ after.y → IsBetween low high cell → IsBetween before after cell
 IsBetween-wider low high before after cell a b c d is =
     let left = is.left in
     let right = is.right in
@@ -143,13 +181,16 @@ pub record AreHalves (points front back : List Cell) : Type 0 where
   pub back_fewer : length back < length points
 
 -- two points or more that are cut in the middle give two halves, each of them shorter
-pub AreHalves-split : (points front back : List Cell) → front ≡ take (length points / 2) points → back ≡ drop (length points / 2) points
+pub AreHalves-split : (points front back : List Cell) → front ≡ take (length points / 2) points
+    → back ≡ drop (length points / 2) points
     → (length points ≡ 0 → ⊥) → (length points ≡ 1 → ⊥) → AreHalves points front back
 AreHalves-split points front back front_is back_is some more =
     let half : length points / 2 + length points / 2 ≤ length points = omega arith in
     let low : 1 ≤ length points / 2 = omega arith in
-    let size : length front ≡ length points / 2 = ap (λ (l : List Cell). length l) front_is ∙ length-take-le (length points / 2) points (omega arith) in
-    let rest : length back ≡ length points - length points / 2 = ap (λ (l : List Cell). length l) back_is ∙ length-drop (length points / 2) points in
+    let size : length front ≡ length points / 2 = ap (λ (l : List Cell). length l) front_is
+    ∙ length-take-le (length points / 2) points (omega arith) in
+    let rest : length back ≡ length points - length points / 2 =
+    ap (λ (l : List Cell). length l) back_is ∙ length-drop (length points / 2) points in
     record {
       whole = rw (front_is, back_is) (take-append-drop (length points / 2) points);
       some = omega arith;
@@ -158,7 +199,8 @@ AreHalves-split points front back front_is back_is some more =
     }
 
 -- both halves of a walk are walks
-pub IsWalk-halves : (cells : Cells) (from : Cell) (points front back : List Cell) → IsWalk cells from points → AreHalves points front back
+pub IsWalk-halves : (cells : Cells) (from : Cell) (points front back : List Cell)
+    → IsWalk cells from points → AreHalves points front back
     → IsWalk cells from front × IsWalk cells (get_or front (length front - 1) origin) back
 IsWalk-halves cells from points front back walk are =
     let parts = IsWalk-parts cells from front back (rw (are.whole) walk) in
@@ -166,19 +208,24 @@ IsWalk-halves cells from points front back walk are =
     (parts.0, rw last parts.1)
 
 -- the cells of a walk are those of its halves
-pub cells_behind-halves : (from : Cell) (points front back : List Cell) → AreHalves points front back
-    → cells_behind from points ≡ cells_behind from front ++ cells_behind (get_or front (length front - 1) origin) back
+pub cells_behind-halves : (from : Cell) (points front back : List Cell)
+    → AreHalves points front back
+    → cells_behind from points ≡ cells_behind from front
+    ++ cells_behind (get_or front (length front - 1) origin) back
 cells_behind-halves from points front back are =
     let last = last_of-place from front (length front - 1) (let some = are.some in omega arith) in
-    ap (λ (l : List Cell). cells_behind from l) (sym are.whole) ∙ rw last (cells_behind-append from front back)
+    ap (λ (l : List Cell). cells_behind from l) (sym are.whole)
+    ∙ rw last (cells_behind-append from front back)
 
 -- the one point of a walk lies in the row or column of the point before it
-pub IsWalk-straight : (cells : Cells) (from : Cell) (points : List Cell) → IsWalk cells from points → length points ≡ 1 → IsStraight from (get_or points 0 origin)
+pub IsWalk-straight : (cells : Cells) (from : Cell) (points : List Cell) → IsWalk cells from points
+    → length points ≡ 1 → IsStraight from (get_or points 0 origin)
 IsWalk-straight cells from [] walk one = absurd (omega arith)
 IsWalk-straight cells from (to ∷ points) walk one = walk.1
 
 -- the cells of a walk of one point are those up to it
-pub cells_behind-one : (from : Cell) (points : List Cell) → length points ≡ 1 → cells_behind from points ≡ cells_up_to from (get_or points 0 origin)
+pub cells_behind-one : (from : Cell) (points : List Cell) → length points ≡ 1
+    → cells_behind from points ≡ cells_up_to from (get_or points 0 origin)
 cells_behind-one from [] one = absurd (omega arith)
 cells_behind-one from (to ∷ []) one = append-nil (cells_up_to from to)
 cells_behind-one from (to ∷ next ∷ points) one = absurd (omega arith)

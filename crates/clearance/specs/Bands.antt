@@ -24,8 +24,12 @@ IsTiledRow cells y tiles = (x : ℕ) → IsObstacle cells x y → bit_at tiles (
 
 -- cells of tiles with bit 1, at least `gap` rows outside a rectangle, are no nearer than the least
 abbrev pub AreTilesFar : (ℕ → ℕ → ℕ) → Rect → ℕ → ℕ → ℕ → Type 0
-AreTilesFar distance rect gap least tiles = (a b : ℕ) → a < 4096 → b < 4096 → bit_at tiles (a / 64) ≡ 1 → gap ≤ row_gap rect b → IsFar (rect_distance distance rect a b) least
+AreTilesFar distance rect gap least tiles =
+    (a b : ℕ) → a < 4096 → b < 4096 → bit_at tiles (a / 64) ≡ 1 → gap ≤ row_gap rect b
+    → IsFar (rect_distance distance rect a b) least
 
 -- bands left out have no obstacle nearer than the least, at least `gap` rows outside a rectangle
 abbrev pub IsThinned : (ℕ → ℕ → ℕ) → Cells → Rect → ℕ → ℕ → ℕ → ℕ → Type 0
-IsThinned distance cells rect gap least bands left = (a b : ℕ) → IsObstacle cells a b → gap ≤ row_gap rect b → IsMarkedRow bands b → IsMarkedRow left b ⊎ IsFar (rect_distance distance rect a b) least
+IsThinned distance cells rect gap least bands left =
+    (a b : ℕ) → IsObstacle cells a b → gap ≤ row_gap rect b → IsMarkedRow bands b
+    → IsMarkedRow left b ⊎ IsFar (rect_distance distance rect a b) least

@@ -25,12 +25,19 @@ pub record IsFirstAsNear (distance : ℕ → ℕ → ℕ) (x gap column : ℕ) :
 
 -- the nearest of a set; none if none is nearer than the limit
 abbrev pub IsFoundBelow : (ℕ → ℕ → ℕ) → (ℕ → ℕ → Type 0) → ℕ → ℕ → ℕ → Option Found → Type 0
-IsFoundBelow distance Obstacle x y limit None = (a b : ℕ) → Obstacle a b → limit ≤ distance_between distance x y a b
+IsFoundBelow distance Obstacle x y limit None =
+    (a b : ℕ) → Obstacle a b → limit ≤ distance_between distance x y a b
 IsFoundBelow distance Obstacle x y limit (Some found) = IsFound distance Obstacle x y found
 
 -- the key of what is found, seen from row y
 abbrev pub key_found : ℕ → Found → Key
-key_found y found = record { distance = found.dist; column = found.cell.x; row_difference = abs_diff y found.cell.y; row = found.cell.y }
+key_found y found =
+    record {
+      distance = found.dist;
+      column = found.cell.x;
+      row_difference = abs_diff y found.cell.y;
+      row = found.cell.y;
+    }
 
 -- a cell of the frame's first or last row, without the corners
 abbrev pub IsAlong : ℕ → ℕ → ℕ → ℕ → Type 0
@@ -38,11 +45,14 @@ IsAlong right bottom a b = (0 < a) × (a < right) × ((b ≡ 0) ⊎ (b ≡ botto
 
 -- what is found in a map, counted with the map's frame
 abbrev pub counted_with_frame : Found → Found
-counted_with_frame own = record { dist = own.dist; cell = record { x = own.cell.x + 1; y = own.cell.y + 1 } }
+counted_with_frame own =
+    record { dist = own.dist; cell = record { x = own.cell.x + 1; y = own.cell.y + 1 } }
 
 -- the one of two whose key is at most the other's
 abbrev pub IsLesser : ℕ → Found → Found → Found → Type 0
-IsLesser y frame own best = ((best ≡ own) × IsAtMost (key_found y own) (key_found y frame)) ⊎ ((best ≡ frame) × IsAtMost (key_found y frame) (key_found y own))
+IsLesser y frame own best =
+    ((best ≡ own) × IsAtMost (key_found y own) (key_found y frame))
+    ⊎ ((best ≡ frame) × IsAtMost (key_found y frame) (key_found y own))
 
 -- the better of what is found in the frame and, if there is any, in the map
 abbrev pub IsBetterOfBoth : ℕ → Found → Option Found → Found → Type 0
@@ -57,11 +67,14 @@ pub record IsNearerRow (y bottom gap row : ℕ) : Type 0 where
   pub chosen : (row ≡ 0) ⊎ ((row ≡ bottom) × (bottom - y < y))
 
 -- the limit, lowered by the distances of the rectangle's cells to the frame of a map of this size
-pub record IsLoweredByFrame (distance : ℕ → ℕ → ℕ) (width height : ℕ) (rect : Rect) (limit least : ℕ) : Type 0 where
+pub record IsLoweredByFrame (distance : ℕ → ℕ → ℕ) (width height : ℕ) (rect : Rect)
+    (limit least : ℕ) : Type 0 where
   pub within : least ≤ limit
   pub small : least < 2 ^ 32
   pub left : least ≤ distance (rect.x0 + 1) 0
   pub right : least ≤ distance (width - (rect.x1 - 1)) 0
   pub top : least ≤ distance 0 (rect.y0 + 1)
   pub bottom : least ≤ distance 0 (height - (rect.y1 - 1))
-  pub reached : least < limit → (distance (rect.x0 + 1) 0 ≡ least) ⊎ ((distance (width - (rect.x1 - 1)) 0 ≡ least) ⊎ ((distance 0 (rect.y0 + 1) ≡ least) ⊎ (distance 0 (height - (rect.y1 - 1)) ≡ least)))
+  pub reached : least < limit → (distance (rect.x0 + 1) 0 ≡ least)
+      ⊎ ((distance (width - (rect.x1 - 1)) 0 ≡ least)
+      ⊎ ((distance 0 (rect.y0 + 1) ≡ least) ⊎ (distance 0 (height - (rect.y1 - 1)) ≡ least)))

@@ -9,7 +9,8 @@ use Rattle.clearance.specs.declared.found.Found.{Found}
 
 -- what is found has the least key of a set of cells, seen from cell (x, y)
 abbrev pub IsFound : (ℕ → ℕ → ℕ) → (ℕ → ℕ → Type 0) → ℕ → ℕ → Found → Type 0
-IsFound distance Obstacle x y found = IsNearestCell distance Obstacle x y found.dist found.cell.x found.cell.y
+IsFound distance Obstacle x y found =
+    IsNearestCell distance Obstacle x y found.dist found.cell.x found.cell.y
 
 -- the nearest of a set of cells; none if the set is empty
 abbrev pub IsNearCell : (ℕ → ℕ → ℕ) → (ℕ → ℕ → Type 0) → ℕ → ℕ → Option Found → Type 0
@@ -17,11 +18,14 @@ IsNearCell distance Obstacle x y None = (a b : ℕ) → Obstacle a b → ⊥
 IsNearCell distance Obstacle x y (Some found) = IsFound distance Obstacle x y found
 
 -- the nearest of the obstacles searched so far
-abbrev pub IsNearAmong : (ℕ → ℕ → ℕ) → (ℕ → ℕ → Type 0) → (ℕ → ℕ → Type 0) → ℕ → ℕ → Option Found → Type 0
-IsNearAmong distance Obstacle IsSeen x y best = IsNearCell distance (λ a b. Obstacle a b × IsSeen a b) x y best
+abbrev pub IsNearAmong : (ℕ → ℕ → ℕ) → (ℕ → ℕ → Type 0) → (ℕ → ℕ → Type 0) → ℕ → ℕ → Option Found
+    → Type 0
+IsNearAmong distance Obstacle IsSeen x y best =
+    IsNearCell distance (λ a b. Obstacle a b × IsSeen a b) x y best
 
 -- a search for the nearest obstacle of a bitmap's cell: the nearest of those searched so far
-pub record IsSought (distance : ℕ → ℕ → ℕ) (cells : Cells) (cell : Cell) (IsSeen : ℕ → ℕ → Type 0) (best : Option Found) : Type 0 where
+pub record IsSought (distance : ℕ → ℕ → ℕ) (cells : Cells) (cell : Cell) (IsSeen : ℕ → ℕ → Type 0)
+    (best : Option Found) : Type 0 where
   pub bitmap : IsBitmap cells
   pub inside : IsInside cells cell.x cell.y
   pub near : IsNearAmong distance (IsObstacle cells) IsSeen cell.x cell.y best
@@ -53,12 +57,14 @@ IsSeenInRow y row IsColumn a b = IsRowFirst y row b ⊎ ((b ≡ row) × IsColumn
 
 -- an obstacle comes before one not of an earlier row: it is nearer, or as near and not to its right
 abbrev pub IsAhead : Found → Found → Type 0
-IsAhead one other = (one.dist < other.dist) ⊎ ((one.dist ≡ other.dist) × (one.cell.x ≤ other.cell.x))
+IsAhead one other = (one.dist < other.dist)
+    ⊎ ((one.dist ≡ other.dist) × (one.cell.x ≤ other.cell.x))
 
 -- the better one of the best so far, if there is one, and an obstacle
 abbrev pub IsBetter : Option Found → Found → Found → Type 0
 IsBetter None next better = better ≡ next
-IsBetter (Some best) next better = ((better ≡ best) × IsAhead best next) ⊎ ((better ≡ next) × (IsAhead best next → ⊥))
+IsBetter (Some best) next better =
+    ((better ≡ best) × IsAhead best next) ⊎ ((better ≡ next) × (IsAhead best next → ⊥))
 
 -- the rectangle of one cell
 pub record IsCellRect (x y : ℕ) (rect : Rect) : Type 0 where

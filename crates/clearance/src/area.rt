@@ -4,7 +4,8 @@ ghost use Rattle.std.specs.Prelude.{◌≡◌};
 ghost use Rattle.bits.specs.Cells.{IsInside};
 ghost use Rattle.bits.specs.Edges.{IsBlocked};
 ghost use Rattle.clearance.specs.Answers.{IsLeastOf, cells_of_rect};
-ghost use Rattle.clearance.specs.Firsts.{IsCellWithNear, IsFirstColumn, IsFirstOrNone, IsFirstRow, IsRectNear};
+ghost use Rattle.clearance.specs.Firsts.{IsCellWithNear, IsFirstColumn, IsFirstOrNone, IsFirstRow};
+ghost use Rattle.clearance.specs.Firsts.{IsRectNear};
 ghost use Rattle.clearance.specs.Search.{IsRectIn};
 
 use crate::border::{least_below, nearest_spot};
@@ -22,7 +23,8 @@ pub fn least_of_rect<M: Metric, R: Rows>(
     rect: Rect,
 ) -> Option<(Cell, Near)>
     requires { IsRectIn (R.cells rows.old) rect }
-    ensures found { IsLeastOf M.distance (IsBlocked (R.cells rows.old) edge) (cells_of_rect rect.x0 rect.y0 rect.x1 rect.y1) result }
+    ensures found { IsLeastOf M.distance (IsBlocked (R.cells rows.old) edge)
+        (cells_of_rect rect.x0 rect.y0 rect.x1 rect.y1) result }
     ensures rows { rows.new ≡ rows.old }
 {
     let least = least_below::<M, R>(rows, edge, rect, NO_LIMIT);
@@ -78,7 +80,8 @@ fn first_row<M: Metric, R: Rows>(rows: &mut R, edge: Edge, rect: Rect, limit: u6
 fn first_column<M: Metric, R: Rows>(rows: &mut R, edge: Edge, rect: Rect, y: u16, limit: u64) -> u16
     requires rect { IsRectIn (R.cells rows.old) rect }
     requires some { IsFirstRow M.distance (IsBlocked (R.cells rows.old) edge) rect limit y }
-    ensures found { IsFirstColumn M.distance (IsBlocked (R.cells rows.old) edge) rect limit y result }
+    ensures found { IsFirstColumn M.distance (IsBlocked (R.cells rows.old) edge) rect limit y
+        result }
     ensures rows { rows.new ≡ rows.old }
 {
     let (left, right) = (rect.x0, rect.x1 - 1);

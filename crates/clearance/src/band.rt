@@ -122,7 +122,8 @@ fn next_below(bands: u64, bottom: u16, gap: u16) -> u16
     requires gap { gap ≤ MOST_SIDE }
     ensures from { gap ≤ result }
     ensures few { result ≤ MOST_SIDE }
-    ensures below { (b : ℕ) → IsMarkedRow bands b → b < MOST_SIDE → bottom + gap ≤ b → bottom + result ≤ b }
+    ensures below { (b : ℕ) → IsMarkedRow bands b → b < MOST_SIDE → bottom + gap ≤ b
+        → bottom + result ≤ b }
 {
     if bottom + gap >= NO_ROW {
         return NO_ROW;

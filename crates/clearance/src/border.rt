@@ -44,7 +44,8 @@ fn nearest_open<M: Metric, R: Rows>(rows: &mut R, cell: Cell) -> Option<Near>
 /// The nearest obstacle of the cell, with a wall: it searches the bits no further than the frame.
 fn nearest_walled<M: Metric, R: Rows>(rows: &mut R, cell: Cell) -> Near
     requires { IsInside (R.cells rows.old) cell.x cell.y }
-    ensures near { IsNear M.distance (IsBlocked (R.cells rows.old) Wall) cell.x cell.y (Some result) }
+    ensures near { IsNear M.distance (IsBlocked (R.cells rows.old) Wall) cell.x cell.y
+        (Some result) }
     ensures rows { rows.new ≡ rows.old }
 {
     let inside = holds(rows, cell);
@@ -63,7 +64,8 @@ fn nearest_walled<M: Metric, R: Rows>(rows: &mut R, cell: Cell) -> Near
 fn own_below<M: Metric, R: Rows>(rows: &mut R, cell: Cell, limit: u64) -> Option<Found>
     requires bitmap { IsBitmap (R.cells rows.old) }
     requires inside { IsInside (R.cells rows.old) cell.x cell.y }
-    ensures found { IsFoundBelow M.distance (IsObstacle (R.cells rows.old)) cell.x cell.y limit result }
+    ensures found { IsFoundBelow M.distance (IsObstacle (R.cells rows.old)) cell.x cell.y limit
+        result }
     ensures rows { rows.new ≡ rows.old }
 {
     if least_in_bits::<M, R>(rows, cell_rect(cell), limit) >= limit {

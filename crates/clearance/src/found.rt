@@ -17,7 +17,10 @@ impl Found {
     pub fn as_near(self, edge: Edge) -> Near
         requires column { self.cell.x ≤ LAST_FRAMED }
         requires row { self.cell.y ≤ LAST_FRAMED }
-        ensures { result ≡ record { dist = self.dist; cell = spot_of edge self.cell.x self.cell.y } }
+        ensures { result ≡ record {
+          dist = self.dist;
+          cell = spot_of edge self.cell.x self.cell.y;
+        } }
     {
         Near {
             dist: self.dist,

@@ -3,7 +3,8 @@
 ghost use Rattle.std.specs.Prelude.{◌≡◌, ◌≤◌, ◌<◌, true, false, IfSome};
 ghost use Rattle.metric.specs.Cellwise.{IsAtMost};
 ghost use Rattle.bits.specs.Edges.{IsFrameCell};
-ghost use Rattle.clearance.specs.Frames.{IsAlong, IsLesser, IsBetterOfBoth, IsFirstAsNear, IsFramedIn, key_found, counted_with_frame};
+ghost use Rattle.clearance.specs.Frames.{IsAlong, IsLesser, IsBetterOfBoth, IsFirstAsNear};
+ghost use Rattle.clearance.specs.Frames.{IsFramedIn, key_found, counted_with_frame};
 ghost use Rattle.clearance.specs.Nearest.{IsFound};
 
 use crate::found::Found;

@@ -34,7 +34,8 @@ impl Lines {
     pub fn first_near<M: Metric, R: Rows>(self, rows: &mut R, edge: Edge, end: u16) -> u16
         requires strip { IsStripIn (R.cells rows.old) self.strip }
         requires order { self.first ≤ end }
-        ensures found { IsFirstBefore M.distance (IsBlocked (R.cells rows.old) edge) self end result }
+        ensures found { IsFirstBefore M.distance (IsBlocked (R.cells rows.old) edge) self end
+            result }
         ensures rows { rows.new ≡ rows.old }
     {
         if end <= self.first {
@@ -51,7 +52,8 @@ impl Lines {
     fn first_walled<M: Metric, R: Rows>(self, rows: &mut R, rect: Rect, end: u16) -> u16
         requires strip { IsStripIn (R.cells rows.old) self.strip }
         requires lines { IsRectOf self end rect }
-        ensures found { IsFirstBefore M.distance (IsBlocked (R.cells rows.old) Wall) self end result }
+        ensures found { IsFirstBefore M.distance (IsBlocked (R.cells rows.old) Wall) self end
+            result }
         ensures rows { rows.new ≡ rows.old }
     {
         let framed = self.first_framed::<M, R>(rows, rect, end);
@@ -69,7 +71,8 @@ impl Lines {
     fn first_in_bits<M: Metric, R: Rows>(self, rows: &mut R, rect: Rect, end: u16) -> u16
         requires strip { IsStripIn (R.cells rows.old) self.strip }
         requires lines { IsRectOf self end rect }
-        ensures found { IsFirstBefore M.distance (IsBlocked (R.cells rows.old) Open) self end result }
+        ensures found { IsFirstBefore M.distance (IsBlocked (R.cells rows.old) Open) self end
+            result }
         ensures rows { rows.new ≡ rows.old }
     {
         let mut line = self.first_inside::<M, R>(rows, rect, end);
@@ -100,7 +103,8 @@ impl Lines {
     fn first_inside<M: Metric, R: Rows>(self, rows: &mut R, rect: Rect, end: u16) -> u16
         requires strip { IsStripIn (R.cells rows.old) self.strip }
         requires lines { IsRectOf self end rect }
-        ensures found { IsFirstAmong M.distance (R.cells rows.old) self (IsLineRow self result) end result }
+        ensures found { IsFirstAmong M.distance (R.cells rows.old) self
+            (IsLineRow self result) end result }
         ensures rows { rows.new ≡ rows.old }
     {
         if are_blank_bands(rows.bands(), rect.y0, rect.y1 - 1) {
@@ -159,7 +163,8 @@ impl Lines {
         requires lines { IsRectOf self end rect }
         requires some { 0 < gap }
         requires gap { gap ≤ LAST_FRAMED }
-        ensures found { IsFirstAmong M.distance (R.cells rows.old) self (λ b. row_gap rect b ≡ gap) end result }
+        ensures found { IsFirstAmong M.distance (R.cells rows.old) self
+            (λ b. row_gap rect b ≡ gap) end result }
         ensures rows { rows.new ≡ rows.old }
     {
         let above = self.first_above::<M, R>(rows, rect, gap, end);
@@ -175,7 +180,8 @@ impl Lines {
     fn first_above<M: Metric, R: Rows>(self, rows: &mut R, rect: Rect, gap: u16, end: u16) -> u16
         requires strip { IsStripIn (R.cells rows.old) self.strip }
         requires lines { IsRectOf self end rect }
-        ensures found { IsFirstAmong M.distance (R.cells rows.old) self (λ b. b + gap ≡ rect.y0) end result }
+        ensures found { IsFirstAmong M.distance (R.cells rows.old) self
+            (λ b. b + gap ≡ rect.y0) end result }
         ensures rows { rows.new ≡ rows.old }
     {
         if gap <= rect.y0 {
@@ -246,8 +252,10 @@ impl Lines {
     fn first_by_quarters<M: Metric, R: Rows>(self, rows: &mut R, part: Part, last: u16) -> u16
         requires strip { IsStripIn (R.cells rows.old) self.strip }
         requires part { IsPartIn (R.cells rows.old) part }
-        requires some { IsSomeNear M.distance (IsPart (R.cells rows.old) part) self.strip self.limit self.first last }
-        ensures found { IsFirstNear M.distance (IsPart (R.cells rows.old) part) self.strip self.limit self.first last result }
+        requires some { IsSomeNear M.distance (IsPart (R.cells rows.old) part) self.strip self.limit
+            self.first last }
+        ensures found { IsFirstNear M.distance (IsPart (R.cells rows.old) part) self.strip
+            self.limit self.first last result }
         ensures rows { rows.new ≡ rows.old }
     {
         let (mut low, mut high) = (self.first, last);

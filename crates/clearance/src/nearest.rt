@@ -3,7 +3,9 @@
 ghost use Rattle.std.specs.Prelude.{◌≡◌, ◌+◌, ◌<◌, ◌≤◌, ◌↔◌, IsTrue};
 ghost use Rattle.std.specs.Int.{abs_diff};
 ghost use Rattle.bits.specs.Cells.{IsInside, IsObstacle};
-ghost use Rattle.clearance.specs.Nearest.{IsAhead, IsBetter, IsCellRect, IsNearCell, IsRowFirst, IsRowUpTo, IsSeenInRow, IsSought, IsWithin, IsWithinOrAbove, limit_of};
+ghost use Rattle.clearance.specs.Nearest.{IsAhead, IsBetter, IsCellRect, IsNearCell, IsRowFirst};
+ghost use Rattle.clearance.specs.Nearest.{IsRowUpTo, IsSeenInRow, IsSought, IsWithin};
+ghost use Rattle.clearance.specs.Nearest.{IsWithinOrAbove, limit_of};
 
 use crate::band::{first_gap, next_gap};
 use crate::found::Found;
@@ -73,7 +75,8 @@ fn with_row_above<M: Metric, R: Rows>(
 ) -> Option<Found>
     requires gap { gap < MOST_SIDE }
     requires sought { IsSought M.distance (R.cells rows.old) cell (IsWithin cell.y gap) best }
-    ensures sought { IsSought M.distance (R.cells rows.new) cell (IsWithinOrAbove cell.y gap) result }
+    ensures sought { IsSought M.distance (R.cells rows.new) cell
+        (IsWithinOrAbove cell.y gap) result }
     ensures rows { rows.new ≡ rows.old }
 {
     if gap <= cell.y {
@@ -91,8 +94,10 @@ fn with_row_below<M: Metric, R: Rows>(
     best: Option<Found>,
 ) -> Option<Found>
     requires gap { gap < MOST_SIDE }
-    requires sought { IsSought M.distance (R.cells rows.old) cell (IsWithinOrAbove cell.y gap) best }
-    ensures sought { IsSought M.distance (R.cells rows.new) cell (IsWithin cell.y (gap + 1)) result }
+    requires sought { IsSought M.distance (R.cells rows.old) cell
+        (IsWithinOrAbove cell.y gap) best }
+    ensures sought { IsSought M.distance (R.cells rows.new) cell
+        (IsWithin cell.y (gap + 1)) result }
     ensures rows { rows.new ≡ rows.old }
 {
     if 0 < gap && cell.y + gap < rows.height() {
@@ -112,7 +117,8 @@ fn with_row<M: Metric, R: Rows>(
 ) -> Option<Found>
     requires row { row < (R.cells rows.old).height }
     requires gap { gap ≡ abs_diff cell.y row }
-    requires sought { IsSought M.distance (R.cells rows.old) cell (λ a b. IsRowFirst cell.y row b) best }
+    requires sought { IsSought M.distance (R.cells rows.old) cell
+        (λ a b. IsRowFirst cell.y row b) best }
     ensures sought { IsSought M.distance (R.cells rows.new) cell (IsRowUpTo cell.y row) result }
     ensures rows { rows.new ≡ rows.old }
 {
@@ -145,7 +151,8 @@ fn with_searched<M: Metric, R: Rows>(
 ) -> Option<Found>
     requires row { row.y < (R.cells rows.old).height }
     requires gap { gap ≡ abs_diff cell.y row.y }
-    requires sought { IsSought M.distance (R.cells rows.old) cell (λ a b. IsRowFirst cell.y row.y b) best }
+    requires sought { IsSought M.distance (R.cells rows.old) cell
+        (λ a b. IsRowFirst cell.y row.y b) best }
     ensures sought { IsSought M.distance (R.cells rows.new) cell (IsRowUpTo cell.y row.y) result }
     ensures rows { rows.new ≡ rows.old }
 {
@@ -165,8 +172,10 @@ fn with_right<M: Metric, R: Rows>(
 ) -> Option<Found>
     requires row { row.y < (R.cells rows.old).height }
     requires gap { gap ≡ abs_diff cell.y row.y }
-    requires sought { IsSought M.distance (R.cells rows.old) cell (λ a b. IsRowFirst cell.y row.y b) best }
-    ensures sought { IsSought M.distance (R.cells rows.new) cell (IsSeenInRow cell.y row.y (λ a. cell.x ≤ a)) result }
+    requires sought { IsSought M.distance (R.cells rows.old) cell
+        (λ a b. IsRowFirst cell.y row.y b) best }
+    ensures sought { IsSought M.distance (R.cells rows.new) cell
+        (IsSeenInRow cell.y row.y (λ a. cell.x ≤ a)) result }
     ensures rows { rows.new ≡ rows.old }
 {
     match next_nearer::<M, R>(rows, row, cell.x, cell.x, gap, limit_of(best)) {
@@ -194,7 +203,8 @@ fn with_left<M: Metric, R: Rows>(
 ) -> Option<Found>
     requires row { row.y < (R.cells rows.old).height }
     requires gap { gap ≡ abs_diff cell.y row.y }
-    requires sought { IsSought M.distance (R.cells rows.old) cell (IsSeenInRow cell.y row.y (λ a. cell.x ≤ a)) right }
+    requires sought { IsSought M.distance (R.cells rows.old) cell
+        (IsSeenInRow cell.y row.y (λ a. cell.x ≤ a)) right }
     ensures sought { IsSought M.distance (R.cells rows.new) cell (IsRowUpTo cell.y row.y) result }
     ensures rows { rows.new ≡ rows.old }
 {

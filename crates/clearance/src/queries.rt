@@ -5,7 +5,8 @@ ghost use Rattle.std.specs.Prelude.{◌≡◌, None, IfOk, IfErr};
 ghost use Rattle.metric.specs.Nearest.{IsNear};
 ghost use Rattle.bits.specs.Cells.{IsInside};
 ghost use Rattle.bits.specs.Edges.{IsBlocked};
-ghost use Rattle.clearance.specs.Answers.{IsClearOf, IsLeastOf, IsRefusalFor, LiesIn, cells_of_rect};
+ghost use Rattle.clearance.specs.Answers.{IsClearOf, IsLeastOf, IsRefusalFor, LiesIn};
+ghost use Rattle.clearance.specs.Answers.{cells_of_rect};
 ghost use Rattle.clearance.specs.Paths.{IsPathRefusal, cells_of_path, path_refusal};
 
 use crate::area::least_of_rect;
@@ -27,7 +28,8 @@ pub fn at<M: Metric>(
     cell: Cell,
 ) -> Result<Option<Near>, Refusal>
     ensures inside { IfOk result (λ _. IsInside bitmap.now cell.x cell.y) }
-    ensures near { IfOk result (λ near. IsNear M.distance (IsBlocked bitmap.now edge) cell.x cell.y near) }
+    ensures near { IfOk result
+        (λ near. IsNear M.distance (IsBlocked bitmap.now edge) cell.x cell.y near) }
     ensures refused { IfErr result (IsRefusalFor (IsInside bitmap.now cell.x cell.y)) }
 {
     let mut rows = bitmap;
@@ -45,7 +47,9 @@ pub fn least_in<M: Metric>(
     rect: Rect,
 ) -> Result<Option<(Cell, Near)>, Refusal>
     ensures inside { IfOk result (λ _. LiesIn bitmap.now rect) }
-    ensures least { IfOk result (IsLeastOf M.distance (IsBlocked bitmap.now edge) (cells_of_rect rect.x0 rect.y0 rect.x1 rect.y1)) }
+    ensures least { IfOk result
+        (IsLeastOf M.distance (IsBlocked bitmap.now edge)
+        (cells_of_rect rect.x0 rect.y0 rect.x1 rect.y1)) }
     ensures refused { IfErr result (IsRefusalFor (LiesIn bitmap.now rect)) }
 {
     let mut rows = bitmap;
@@ -67,7 +71,8 @@ pub fn along<M: Metric>(
     points: &[Cell],
 ) -> Result<Option<(Cell, Near)>, Refusal>
     ensures accepted { IfOk result (λ _. path_refusal bitmap.now points.now ≡ None) }
-    ensures least { IfOk result (IsLeastOf M.distance (IsBlocked bitmap.now edge) (cells_of_path points.now)) }
+    ensures least { IfOk result
+        (IsLeastOf M.distance (IsBlocked bitmap.now edge) (cells_of_path points.now)) }
     ensures refused { IfErr result (IsPathRefusal bitmap.now points.now) }
 {
     let mut rows = bitmap;
@@ -87,7 +92,8 @@ pub fn clear_of<M: Metric>(
     d: u32,
 ) -> Result<Option<(Cell, Near)>, Refusal>
     ensures accepted { IfOk result (λ _. path_refusal bitmap.now points.now ≡ None) }
-    ensures clear { IfOk result (IsClearOf M.distance (IsBlocked bitmap.now edge) (cells_of_path points.now) d) }
+    ensures clear { IfOk result
+        (IsClearOf M.distance (IsBlocked bitmap.now edge) (cells_of_path points.now) d) }
     ensures refused { IfErr result (IsPathRefusal bitmap.now points.now) }
 {
     let mut rows = bitmap;
@@ -101,7 +107,8 @@ pub fn at_rows<M: Metric, R: Rows>(
     cell: Cell,
 ) -> Result<Option<Near>, Refusal>
     ensures inside { IfOk result (λ _. IsInside (R.cells rows.old) cell.x cell.y) }
-    ensures near { IfOk result (λ near. IsNear M.distance (IsBlocked (R.cells rows.old) edge) cell.x cell.y near) }
+    ensures near { IfOk result
+        (λ near. IsNear M.distance (IsBlocked (R.cells rows.old) edge) cell.x cell.y near) }
     ensures refused { IfErr result (IsRefusalFor (IsInside (R.cells rows.old) cell.x cell.y)) }
     ensures rows { rows.new ≡ rows.old }
 {
@@ -118,7 +125,9 @@ pub fn least_in_rows<M: Metric, R: Rows>(
     rect: Rect,
 ) -> Result<Option<(Cell, Near)>, Refusal>
     ensures inside { IfOk result (λ _. LiesIn (R.cells rows.old) rect) }
-    ensures least { IfOk result (IsLeastOf M.distance (IsBlocked (R.cells rows.old) edge) (cells_of_rect rect.x0 rect.y0 rect.x1 rect.y1)) }
+    ensures least { IfOk result
+        (IsLeastOf M.distance (IsBlocked (R.cells rows.old) edge)
+        (cells_of_rect rect.x0 rect.y0 rect.x1 rect.y1)) }
     ensures refused { IfErr result (IsRefusalFor (LiesIn (R.cells rows.old) rect)) }
     ensures rows { rows.new ≡ rows.old }
 {
@@ -135,7 +144,8 @@ pub fn along_rows<M: Metric, R: Rows>(
     points: &[Cell],
 ) -> Result<Option<(Cell, Near)>, Refusal>
     ensures accepted { IfOk result (λ _. path_refusal (R.cells rows.old) points.now ≡ None) }
-    ensures least { IfOk result (IsLeastOf M.distance (IsBlocked (R.cells rows.old) edge) (cells_of_path points.now)) }
+    ensures least { IfOk result
+        (IsLeastOf M.distance (IsBlocked (R.cells rows.old) edge) (cells_of_path points.now)) }
     ensures refused { IfErr result (IsPathRefusal (R.cells rows.old) points.now) }
     ensures rows { rows.new ≡ rows.old }
 {
@@ -151,7 +161,8 @@ pub fn clear_of_rows<M: Metric, R: Rows>(
     d: u32,
 ) -> Result<Option<(Cell, Near)>, Refusal>
     ensures accepted { IfOk result (λ _. path_refusal (R.cells rows.old) points.now ≡ None) }
-    ensures clear { IfOk result (IsClearOf M.distance (IsBlocked (R.cells rows.old) edge) (cells_of_path points.now) d) }
+    ensures clear { IfOk result
+        (IsClearOf M.distance (IsBlocked (R.cells rows.old) edge) (cells_of_path points.now) d) }
     ensures refused { IfErr result (IsPathRefusal (R.cells rows.old) points.now) }
     ensures rows { rows.new ≡ rows.old }
 {

@@ -112,7 +112,8 @@ pub fn holds<R: Rows>(rows: &R, cell: Cell) -> bool
 
 /// Whether the rectangle is wholly within the map.
 pub fn holds_rect<R: Rows>(rows: &R, rect: Rect) -> bool
-    ensures holds { IsTrue result ↔ ((rect.x1 ≤ (R.cells rows.now).width) × (rect.y1 ≤ (R.cells rows.now).height)) }
+    ensures holds { IsTrue result
+        ↔ ((rect.x1 ≤ (R.cells rows.now).width) × (rect.y1 ≤ (R.cells rows.now).height)) }
     ensures bitmap { IsBitmap (R.cells rows.now) }
 {
     let (width, height) = (rows.width(), rows.height());

@@ -3,7 +3,8 @@
 ghost use Rattle.std.specs.Prelude.{◌≡◌, ◌+◌, ◌-◌, ◌<◌, ◌≤◌, true};
 ghost use Rattle.bits.specs.Cells.{IsObstacle};
 ghost use Rattle.clearance.specs.Rows.{IsBlankRow, words_of_row};
-ghost use Rattle.clearance.specs.Search.{IsLeastInBits, IsLeastWithin, IsLoweredBy, IsLoweredLeft, IsLoweredRight, IsRectIn};
+ghost use Rattle.clearance.specs.Search.{IsLeastInBits, IsLeastWithin, IsLoweredBy, IsLoweredLeft};
+ghost use Rattle.clearance.specs.Search.{IsLoweredRight, IsRectIn};
 
 use crate::band::{are_blank_bands, first_gap, is_in_blank_band, next_gap};
 use crate::rows::Rows;
@@ -70,7 +71,9 @@ fn least_inside<M: Metric, R: Rows>(rows: &mut R, rect: Rect, limit: u64) -> u64
 fn lowered_above<M: Metric, R: Rows>(rows: &mut R, rect: Rect, gap: u16, least: u64) -> u64
     requires rect { IsRectIn (R.cells rows.old) rect }
     requires gap { gap ≤ LAST_FRAMED }
-    ensures row { gap ≤ rect.y0 → IsLoweredBy M.distance (IsObstacle (R.cells rows.old)) rect (rect.y0 - gap) gap least result }
+    ensures row { gap ≤ rect.y0
+        → IsLoweredBy M.distance (IsObstacle (R.cells rows.old)) rect
+        (rect.y0 - gap) gap least result }
     ensures none { rect.y0 < gap → result ≡ least }
     ensures rows { rows.new ≡ rows.old }
 {
@@ -86,7 +89,8 @@ fn lowered_below<M: Metric, R: Rows>(rows: &mut R, rect: Rect, gap: u16, least: 
     requires rect { IsRectIn (R.cells rows.old) rect }
     requires gap { gap ≤ LAST_FRAMED }
     ensures row { rect.y1 - 1 + gap < (R.cells rows.old).height
-        → IsLoweredBy M.distance (IsObstacle (R.cells rows.old)) rect (rect.y1 - 1 + gap) gap least result }
+        → IsLoweredBy M.distance (IsObstacle (R.cells rows.old)) rect
+        (rect.y1 - 1 + gap) gap least result }
     ensures none { (R.cells rows.old).height ≤ rect.y1 - 1 + gap → result ≡ least }
     ensures rows { rows.new ≡ rows.old }
 {
@@ -139,7 +143,8 @@ fn lowered_by<M: Metric, R: Rows>(
     requires rect { IsRectIn (R.cells rows.old) rect }
     requires row { row.y < (R.cells rows.old).height }
     requires gap { gap ≤ LAST_FRAMED }
-    ensures least { IsLoweredBy M.distance (IsObstacle (R.cells rows.old)) rect row.y gap least result }
+    ensures least { IsLoweredBy M.distance (IsObstacle (R.cells rows.old)) rect row.y gap least
+        result }
     ensures rows { rows.new ≡ rows.old }
 {
     let right = lowered_right::<M, R>(rows, rect, row, gap, least);
@@ -170,7 +175,8 @@ fn lowered_right<M: Metric, R: Rows>(
     requires rect { IsRectIn (R.cells rows.old) rect }
     requires row { row.y < (R.cells rows.old).height }
     requires gap { gap ≤ LAST_FRAMED }
-    ensures least { IsLoweredRight M.distance (words_of_row (R.cells rows.old) row.y) rect gap least result }
+    ensures least { IsLoweredRight M.distance (words_of_row (R.cells rows.old) row.y) rect gap least
+        result }
     ensures rows { rows.new ≡ rows.old }
 {
     let last = rect.x1 - 1;
@@ -192,7 +198,8 @@ fn lowered_left<M: Metric, R: Rows>(
     requires rect { IsRectIn (R.cells rows.old) rect }
     requires row { row.y < (R.cells rows.old).height }
     requires gap { gap ≤ LAST_FRAMED }
-    ensures least { IsLoweredLeft M.distance (words_of_row (R.cells rows.old) row.y) rect gap least result }
+    ensures least { IsLoweredLeft M.distance (words_of_row (R.cells rows.old) row.y) rect gap least
+        result }
     ensures rows { rows.new ≡ rows.old }
 {
     match last_nearer::<M, R>(rows, row, rect.x0, rect.x0, gap, least) {

@@ -35,8 +35,10 @@ impl Strip {
     /// The cells of the lines from `first` to `last`.
     pub fn rect(self, first: u16, last: u16) -> Rect
         requires { first ≤ last }
-        ensures all { (k x y : ℕ) → first ≤ k → k ≤ last → IsOnLine self k x y → IsInRect result x y }
-        ensures only { (x y : ℕ) → IsInRect result x y → (k : ℕ) × (first ≤ k) × (k ≤ last) × IsOnLine self k x y }
+        ensures all { (k x y : ℕ) → first ≤ k → k ≤ last → IsOnLine self k x y
+            → IsInRect result x y }
+        ensures only { (x y : ℕ) → IsInRect result x y → (k : ℕ) × (first ≤ k) × (k ≤ last)
+            × IsOnLine self k x y }
         ensures right { result.x1 ≤ max self.from.x self.to.x + self.across }
         ensures bottom { result.y1 ≤ max self.from.y self.to.y + 1 }
     {

@@ -27,7 +27,8 @@ pub fn least_of_path<M: Metric, R: Rows>(
     points: &[Cell],
 ) -> Option<(Cell, Near)>
     requires { path_refusal (R.cells rows.old) points.now ≡ None }
-    ensures found { IsLeastOf M.distance (IsBlocked (R.cells rows.old) edge) (cells_of_path points.now) result }
+    ensures found { IsLeastOf M.distance (IsBlocked (R.cells rows.old) edge)
+        (cells_of_path points.now) result }
     ensures rows { rows.new ≡ rows.old }
 {
     let start = points[0];
@@ -49,7 +50,8 @@ pub fn first_of_path<M: Metric, R: Rows>(
     limit: u64,
 ) -> Option<(Cell, Near)>
     requires { path_refusal (R.cells rows.old) points.now ≡ None }
-    ensures found { IsFirstOrNone M.distance (IsBlocked (R.cells rows.old) edge) (cells_of_path points.now) limit result }
+    ensures found { IsFirstOrNone M.distance (IsBlocked (R.cells rows.old) edge)
+        (cells_of_path points.now) limit result }
     ensures rows { rows.new ≡ rows.old }
 {
     let start = points[0];
@@ -73,7 +75,8 @@ fn least_along<M: Metric, R: Rows>(
 ) -> u64
     requires walk { IsWalk (R.cells rows.old) from points.now }
     requires bitmap { IsBitmap (R.cells rows.old) }
-    ensures found { IsLeastOver M.distance (IsBlocked (R.cells rows.old) edge) (cells_behind from points.now) limit result }
+    ensures found { IsLeastOver M.distance (IsBlocked (R.cells rows.old) edge)
+        (cells_behind from points.now) limit result }
     ensures rows { rows.new ≡ rows.old }
 {
     if points.is_empty() {
@@ -108,7 +111,8 @@ fn first_along<M: Metric, R: Rows>(
 ) -> Option<(Cell, Near)>
     requires walk { IsWalk (R.cells rows.old) from points.now }
     requires bitmap { IsBitmap (R.cells rows.old) }
-    ensures found { IsFirstOrNone M.distance (IsBlocked (R.cells rows.old) edge) (cells_behind from points.now) limit result }
+    ensures found { IsFirstOrNone M.distance (IsBlocked (R.cells rows.old) edge)
+        (cells_behind from points.now) limit result }
     ensures rows { rows.new ≡ rows.old }
 {
     if points.is_empty() {
@@ -141,7 +145,8 @@ fn least_of_piece<M: Metric, R: Rows>(
     requires from { IsInside (R.cells rows.old) from.x from.y }
     requires to { IsInside (R.cells rows.old) to.x to.y }
     requires bitmap { IsBitmap (R.cells rows.old) }
-    ensures found { IsLeastOver M.distance (IsBlocked (R.cells rows.old) edge) (cells_up_to from to) limit result }
+    ensures found { IsLeastOver M.distance (IsBlocked (R.cells rows.old) edge)
+        (cells_up_to from to) limit result }
     ensures rows { rows.new ≡ rows.old }
 {
     let cells = Strip {
@@ -165,7 +170,8 @@ fn first_of_piece<M: Metric, R: Rows>(
     requires from { IsInside (R.cells rows.old) from.x from.y }
     requires to { IsInside (R.cells rows.old) to.x to.y }
     requires bitmap { IsBitmap (R.cells rows.old) }
-    ensures found { IsFirstOrNone M.distance (IsBlocked (R.cells rows.old) edge) (cells_up_to from to) limit result }
+    ensures found { IsFirstOrNone M.distance (IsBlocked (R.cells rows.old) edge)
+        (cells_up_to from to) limit result }
     ensures rows { rows.new ≡ rows.old }
 {
     let cells = Strip {

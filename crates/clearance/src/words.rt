@@ -26,7 +26,8 @@ pub fn next_nearer<M: Metric, R: Rows>(
     requires row { row.y < (R.cells rows.old).height }
     requires start { start < (R.cells rows.old).width }
     requires gap { gap ≤ LAST_FRAMED }
-    ensures next { IsNextNearer M.distance (words_of_row (R.cells rows.old) row.y) start edge gap limit result }
+    ensures next { IsNextNearer M.distance (words_of_row (R.cells rows.old) row.y) start edge gap
+        limit result }
     ensures rows { rows.new ≡ rows.old }
 {
     let own = start / WORD_CELLS;
@@ -81,7 +82,8 @@ pub fn last_nearer<M: Metric, R: Rows>(
     requires edge { end ≤ edge }
     requires within { edge < MOST_SIDE }
     requires gap { gap ≤ LAST_FRAMED }
-    ensures last { IsLastNearer M.distance (words_of_row (R.cells rows.old) row.y) end edge gap limit result }
+    ensures last { IsLastNearer M.distance (words_of_row (R.cells rows.old) row.y) end edge gap
+        limit result }
     ensures rows { rows.new ≡ rows.old }
 {
     let own = end / WORD_CELLS;

@@ -1,5 +1,6 @@
 -- Lines are carried from row to row, and the nearest obstacle is found between two of them.
-use Rattle.std.proofs.Common.{◌≡◌, ℕ, ◌+◌, ◌-◌, ◌*◌, ◌<◌, ◌≤◌, ◌⊎◌, ◌∙◌, min, inl, inr, Bool, true, false, List, Option, Some, None, length, get_or, arith, refl}
+use Rattle.std.proofs.Common.{◌≡◌, ℕ, ◌+◌, ◌-◌, ◌*◌, ◌<◌, ◌≤◌, ◌⊎◌, ◌∙◌, min, inl, inr, Bool, true}
+use Rattle.std.proofs.Common.{false, List, Option, Some, None, length, get_or, arith, refl}
 use Rattle.std.specs.Int.{abs_diff}
 use Rattle.std.proofs.lemmas.Bool.{cases_lt, cases_eq}
 use Rattle.metric.specs.Edge.{shift}
@@ -8,148 +9,232 @@ use Rattle.bits.specs.Cells.{Cells, IsBitmap, has}
 use Rattle.bits.proofs.Framing.{shift_few}
 use Rattle.column.specs.Capped.{capped}
 use Rattle.column.specs.Columns.{IsNearestRow, IsRowOfTable, row_of}
-use Rattle.column.specs.Lines.{AreBandLines, AreLinesBehind, IsLineBefore, IsLineFrom, IsRowBefore, IsRowFrom}
+use Rattle.column.specs.Lines.{AreBandLines, AreLinesBehind, IsLineBefore, IsLineFrom, IsRowBefore}
+use Rattle.column.specs.Lines.{IsRowFrom}
 use Rattle.column.specs.Marks.{marked, nearer}
 use Rattle.column.proofs.Places.{place_below}
 use Rattle.column.proofs.Nearest.{IsRowAtMost-by, nearer_by, row_of-none, row_of-some}
 
 -- past a free cell the lowest obstacle before a row stays
-before_free : (cells : Cells) (x y : ℕ) (row : Option ℕ) → has cells x y ≡ false → IsRowBefore cells x y row → IsRowBefore cells x (y + 1) row
-before_free cells x y None free before = λ b within black. elim (cases_eq b y) [ inl here ↦ absurd (cc) | inr apart ↦ before b (omega arith) black ]
+before_free : (cells : Cells) (x y : ℕ) (row : Option ℕ) → has cells x y ≡ false
+    → IsRowBefore cells x y row → IsRowBefore cells x (y + 1) row
+before_free cells x y None free before =
+    λ b within black. elim (cases_eq b y)
+    [ inl here ↦ absurd (cc) | inr apart ↦ before b (omega arith) black ]
 before_free cells x y (Some row) free before =
-    let lower = before.1 in
-    (before.0, omega arith, λ b within black. elim (cases_eq b y) [ inl here ↦ absurd (cc) | inr apart ↦ before.2 b (omega arith) black ])
+    let lower = before.1 in (
+      before.0,
+      omega arith,
+      λ b within black. elim (cases_eq b y)
+          [ inl here ↦ absurd (cc) | inr apart ↦ before.2 b (omega arith) black ],
+    )
 
--- an entry of the obstacles before a row, once it is marked in that row, tells those before the next row
-before_marked : (cells : Cells) (x y entry : ℕ) → y < 65535 → IsRowBefore cells x y (row_of entry) → (black : Bool) → has cells x y ≡ black → IsRowBefore cells x (y + 1) (row_of (marked black y entry))
-before_marked cells x y entry small before true is = let row : row_of y ≡ Some y = row_of-some y (λ same. omega arith) in rw row (is, omega arith, λ b within black. omega arith)
+-- an entry of the obstacles before a row, once it is marked in that row, tells those before the
+-- next row
+before_marked : (cells : Cells) (x y entry : ℕ) → y < 65535 → IsRowBefore cells x y (row_of entry)
+    → (black : Bool) → has cells x y ≡ black
+    → IsRowBefore cells x (y + 1) (row_of (marked black y entry))
+before_marked cells x y entry small before true is =
+    let row : row_of y ≡ Some y = row_of-some y (λ same. omega arith) in
+    rw row (is, omega arith, λ b within black. omega arith)
 before_marked cells x y entry small before false is = before_free cells x y (row_of entry) is before
 
 -- past a free cell the uppermost obstacle from a row on stays
-from_free : (cells : Cells) (x y : ℕ) (row : Option ℕ) → has cells x y ≡ false → IsRowFrom cells x (y + 1) row → IsRowFrom cells x y row
-from_free cells x y None free behind = λ b within black. elim (cases_eq b y) [ inl here ↦ absurd (cc) | inr apart ↦ behind b (omega arith) black ]
+from_free : (cells : Cells) (x y : ℕ) (row : Option ℕ) → has cells x y ≡ false
+    → IsRowFrom cells x (y + 1) row → IsRowFrom cells x y row
+from_free cells x y None free behind =
+    λ b within black. elim (cases_eq b y)
+    [ inl here ↦ absurd (cc) | inr apart ↦ behind b (omega arith) black ]
 from_free cells x y (Some row) free behind =
-    let upper = behind.1 in
-    (behind.0, omega arith, λ b within black. elim (cases_eq b y) [ inl here ↦ absurd (cc) | inr apart ↦ behind.2 b (omega arith) black ])
+    let upper = behind.1 in (
+      behind.0,
+      omega arith,
+      λ b within black. elim (cases_eq b y)
+          [ inl here ↦ absurd (cc) | inr apart ↦ behind.2 b (omega arith) black ],
+    )
 
--- an entry of the obstacles after a row, once it is marked in that row, tells those from that row on
-from_marked : (cells : Cells) (x y entry : ℕ) → y < 65535 → IsRowFrom cells x (y + 1) (row_of entry) → (black : Bool) → has cells x y ≡ black → IsRowFrom cells x y (row_of (marked black y entry))
-from_marked cells x y entry small behind true is = let row : row_of y ≡ Some y = row_of-some y (λ same. omega arith) in rw row (is, omega arith, λ b within black. omega arith)
+-- an entry of the obstacles after a row, once it is marked in that row, tells those from that row
+-- on
+from_marked : (cells : Cells) (x y entry : ℕ) → y < 65535 → IsRowFrom cells x (y + 1) (row_of entry)
+    → (black : Bool) → has cells x y ≡ black → IsRowFrom cells x y (row_of (marked black y entry))
+from_marked cells x y entry small behind true is =
+    let row : row_of y ≡ Some y = row_of-some y (λ same. omega arith) in
+    rw row (is, omega arith, λ b within black. omega arith)
 from_marked cells x y entry small behind false is = from_free cells x y (row_of entry) is behind
 
 -- the rows of a bitmap, counted with the frame, are no mark
-row_small : (edge : Edge) (cells : Cells) (y : ℕ) → IsBitmap cells → y < cells.height → y + shift edge < 65535
-row_small edge cells y bitmap within = let few = bitmap.height_is.few in let least = shift_few edge in omega (arith, few, least, within)
+row_small : (edge : Edge) (cells : Cells) (y : ℕ) → IsBitmap cells → y < cells.height
+    → y + shift edge < 65535
+row_small edge cells y bitmap within = let few = bitmap.height_is.few in
+    let least = shift_few edge in omega (arith, few, least, within)
 
--- the line of the obstacles before a row of the map, once that row is marked in it, is the line before the next row
-pub IsLineBefore-marked : (edge : Edge) (cells : Cells) (y : ℕ) (old new : List ℕ) → IsBitmap cells → y < cells.height → length new ≡ length old
-    → ((x : ℕ) → x < cells.width → get_or new x 0 ≡ marked (has (capped edge cells) x (y + shift edge)) (y + shift edge) (get_or old x 0))
-    → IsLineBefore (capped edge cells) (y + shift edge) old → IsLineBefore (capped edge cells) (y + 1 + shift edge) new
+-- the line of the obstacles before a row of the map, once that row is marked in it, is the line
+-- before the next row
+pub IsLineBefore-marked : (edge : Edge) (cells : Cells) (y : ℕ) (old new : List ℕ) → IsBitmap cells
+    → y < cells.height → length new ≡ length old
+    → ((x : ℕ) → x < cells.width
+    → get_or new x 0 ≡ marked (has (capped edge cells) x (y + shift edge)) (y + shift edge)
+    (get_or old x 0))
+    → IsLineBefore (capped edge cells) (y + shift edge) old
+    → IsLineBefore (capped edge cells) (y + 1 + shift edge) new
 IsLineBefore-marked edge cells y old new bitmap within len marks line =
     let next : y + 1 + shift edge ≡ y + shift edge + 1 = omega arith in
     let small = row_small edge cells y bitmap within in
     rw next (record {
       as_many = len ∙ line.as_many;
-      each = λ x column. rw (marks x column) (before_marked (capped edge cells) x (y + shift edge) (get_or old x 0) small (line.each x column) (has (capped edge cells) x (y + shift edge)) refl);
+      each = λ x column. rw (marks x column)
+          (before_marked (capped edge cells) x (y + shift edge) (get_or old x 0) small
+          (line.each x column) (has (capped edge cells) x (y + shift edge)) refl);
     })
 
--- the line of the obstacles from a row on, once the row of the map before it is marked in it, is the line from that row on
-pub IsLineFrom-marked : (edge : Edge) (cells : Cells) (y : ℕ) (old new : List ℕ) → IsBitmap cells → 0 < y → y - 1 < cells.height → length new ≡ length old
-    → ((x : ℕ) → x < cells.width → get_or new x 0 ≡ marked (has (capped edge cells) x (y - 1 + shift edge)) (y - 1 + shift edge) (get_or old x 0))
-    → IsLineFrom (capped edge cells) (y + shift edge) old → IsLineFrom (capped edge cells) (y - 1 + shift edge) new
+-- the line of the obstacles from a row on, once the row of the map before it is marked in it, is
+-- the line from that row on
+pub IsLineFrom-marked : (edge : Edge) (cells : Cells) (y : ℕ) (old new : List ℕ) → IsBitmap cells
+    → 0 < y → y - 1 < cells.height → length new ≡ length old
+    → ((x : ℕ) → x < cells.width
+    → get_or new x 0 ≡ marked (has (capped edge cells) x (y - 1 + shift edge))
+    (y - 1 + shift edge) (get_or old x 0))
+    → IsLineFrom (capped edge cells) (y + shift edge) old
+    → IsLineFrom (capped edge cells) (y - 1 + shift edge) new
 IsLineFrom-marked edge cells y old new bitmap some within len marks line =
     let next : y + shift edge ≡ y - 1 + shift edge + 1 = omega (arith, some) in
     let small = row_small edge cells (y - 1) bitmap within in
     let below : IsLineFrom (capped edge cells) (y - 1 + shift edge + 1) old = rw next at line in
     record {
       as_many = len ∙ below.as_many;
-      each = λ x column. rw (marks x column) (from_marked (capped edge cells) x (y - 1 + shift edge) (get_or old x 0) small (below.each x column) (has (capped edge cells) x (y - 1 + shift edge)) refl);
+      each = λ x column. rw (marks x column)
+          (from_marked (capped edge cells) x (y - 1 + shift edge) (get_or old x 0) small
+          (below.each x column) (has (capped edge cells) x (y - 1 + shift edge)) refl);
     }
 
 -- where no obstacle lies below a row, the nearest is the lowest at or above it
-only_before : (cells : Cells) (x y : ℕ) (row : Option ℕ) → IsRowBefore cells x (y + 1) row → IsRowFrom cells x (y + 1) None → IsNearestRow cells x y row
-only_before cells x y None before behind = λ b black. elim (cases_lt y b) [ inl low ↦ behind b (omega arith) black | inr high ↦ before b (omega arith) black ]
+only_before : (cells : Cells) (x y : ℕ) (row : Option ℕ) → IsRowBefore cells x (y + 1) row
+    → IsRowFrom cells x (y + 1) None → IsNearestRow cells x y row
+only_before cells x y None before behind =
+    λ b black. elim (cases_lt y b) [
+      | inl low ↦ behind b (omega arith) black
+      | inr high ↦ before b (omega arith) black
+    ]
 only_before cells x y (Some row) before behind = (
   before.0,
   λ b black.
       let lower = before.1 in
-      elim (cases_lt y b) [ inl low ↦ absurd (behind b (omega arith) black) | inr high ↦ let lowest = before.2 b (omega arith) black in IsRowAtMost-by y row b (omega arith) (λ same. omega arith) ],
+      elim (cases_lt y b) [
+        | inl low ↦ absurd (behind b (omega arith) black)
+        | inr high ↦ let lowest = before.2 b (omega arith) black in
+            IsRowAtMost-by y row b (omega arith) (λ same. omega arith)
+      ],
 )
 
 -- where no obstacle lies at or above a row, the nearest is the uppermost below it
-only_behind : (cells : Cells) (x y row : ℕ) → IsRowBefore cells x (y + 1) None → IsRowFrom cells x (y + 1) (Some row) → IsNearestRow cells x y (Some row)
+only_behind : (cells : Cells) (x y row : ℕ) → IsRowBefore cells x (y + 1) None
+    → IsRowFrom cells x (y + 1) (Some row) → IsNearestRow cells x y (Some row)
 only_behind cells x y row before behind = (
   behind.0,
   λ b black.
       let upper = behind.1 in
-      elim (cases_lt y b) [ inl low ↦ let uppermost = behind.2 b (omega arith) black in IsRowAtMost-by y row b (omega arith) (λ same. omega arith) | inr high ↦ absurd (before b (omega arith) black) ],
+      elim (cases_lt y b) [
+        | inl low ↦ let uppermost = behind.2 b (omega arith) black in
+            IsRowAtMost-by y row b (omega arith) (λ same. omega arith)
+        | inr high ↦ absurd (before b (omega arith) black)
+      ],
 )
 
--- the uppermost obstacle below a row is the nearest where it is nearer than the lowest at or above the row
-behind_wins : (cells : Cells) (x y above below : ℕ) → abs_diff y below < abs_diff y above → IsRowBefore cells x (y + 1) (Some above) → IsRowFrom cells x (y + 1) (Some below) → IsNearestRow cells x y (Some below)
+-- the uppermost obstacle below a row is the nearest where it is nearer than the lowest at or above
+-- the row
+behind_wins : (cells : Cells) (x y above below : ℕ) → abs_diff y below < abs_diff y above
+    → IsRowBefore cells x (y + 1) (Some above) → IsRowFrom cells x (y + 1) (Some below)
+    → IsNearestRow cells x y (Some below)
 behind_wins cells x y above below wins before behind =
     let up = before.1 in
     let down = behind.1 in (
       behind.0,
       λ b black. elim (cases_lt y b) [
-        | inl low ↦ let uppermost = behind.2 b (omega arith) black in IsRowAtMost-by y below b (omega arith) (λ same. omega arith)
-        | inr high ↦ let lowest = before.2 b (omega arith) black in IsRowAtMost-by y below b (omega arith) (λ same. omega arith)
+        | inl low ↦ let uppermost = behind.2 b (omega arith) black in
+            IsRowAtMost-by y below b (omega arith) (λ same. omega arith)
+        | inr high ↦ let lowest = before.2 b (omega arith) black in
+            IsRowAtMost-by y below b (omega arith) (λ same. omega arith)
       ],
     )
 
--- the lowest obstacle at or above a row is the nearest where the uppermost below the row isn't nearer
-before_wins : (cells : Cells) (x y above below : ℕ) → abs_diff y above ≤ abs_diff y below → IsRowBefore cells x (y + 1) (Some above) → IsRowFrom cells x (y + 1) (Some below) → IsNearestRow cells x y (Some above)
+-- the lowest obstacle at or above a row is the nearest where the uppermost below the row isn't
+-- nearer
+before_wins : (cells : Cells) (x y above below : ℕ) → abs_diff y above ≤ abs_diff y below
+    → IsRowBefore cells x (y + 1) (Some above) → IsRowFrom cells x (y + 1) (Some below)
+    → IsNearestRow cells x y (Some above)
 before_wins cells x y above below wins before behind =
     let up = before.1 in
     let down = behind.1 in (
       before.0,
       λ b black. elim (cases_lt y b) [
-        | inl low ↦ let uppermost = behind.2 b (omega arith) black in IsRowAtMost-by y above b (omega arith) (λ same. omega arith)
-        | inr high ↦ let lowest = before.2 b (omega arith) black in IsRowAtMost-by y above b (omega arith) (λ same. omega arith)
+        | inl low ↦ let uppermost = behind.2 b (omega arith) black in
+            IsRowAtMost-by y above b (omega arith) (λ same. omega arith)
+        | inr high ↦ let lowest = before.2 b (omega arith) black in
+            IsRowAtMost-by y above b (omega arith) (λ same. omega arith)
       ],
     )
 
 -- the nearer one of the entry at or above a row and the entry below it is the nearest of all
-nearest_between : (cells : Cells) (x y above below : ℕ) → IsRowBefore cells x (y + 1) (row_of above) → IsRowFrom cells x (y + 1) (row_of below) → IsNearestRow cells x y (row_of (nearer y above below))
+nearest_between : (cells : Cells) (x y above below : ℕ) → IsRowBefore cells x (y + 1) (row_of above)
+    → IsRowFrom cells x (y + 1) (row_of below)
+    → IsNearestRow cells x y (row_of (nearer y above below))
 nearest_between cells x y above below before behind =
     nearer_by (IsNearestRow cells x y) y above below
     (λ none. only_before cells x y (row_of above) before (rw (row_of-none below none) at behind))
-    (λ some none. only_behind cells x y below (rw (row_of-none above none) at before) (rw (row_of-some below some) at behind))
-    (λ some both less. behind_wins cells x y above below less (rw (row_of-some above both) at before) (rw (row_of-some below some) at behind))
-    (λ some both more. before_wins cells x y above below more (rw (row_of-some above both) at before) (rw (row_of-some below some) at behind))
+    (λ some none. only_behind cells x y below (rw (row_of-none above none) at before)
+    (rw (row_of-some below some) at behind))
+    (λ some both less. behind_wins cells x y above below less
+    (rw (row_of-some above both) at before) (rw (row_of-some below some) at behind))
+    (λ some both more. before_wins cells x y above below more
+    (rw (row_of-some above both) at before) (rw (row_of-some below some) at behind))
 
 -- the nearer entries of the line at or above a row and the line below it are the row of the table
-pub IsRowOfTable-between : (cells : Cells) (y : ℕ) (before behind entries : List ℕ) → IsLineBefore cells (y + 1) before → IsLineFrom cells (y + 1) behind
-    → length entries ≡ cells.width → ((x : ℕ) → x < length entries → get_or entries x 0 ≡ nearer y (get_or before x 0) (get_or behind x 0)) → IsRowOfTable cells y entries
+pub IsRowOfTable-between : (cells : Cells) (y : ℕ) (before behind entries : List ℕ)
+    → IsLineBefore cells (y + 1) before → IsLineFrom cells (y + 1) behind
+    → length entries ≡ cells.width
+    → ((x : ℕ) → x < length entries
+    → get_or entries x 0 ≡ nearer y (get_or before x 0) (get_or behind x 0))
+    → IsRowOfTable cells y entries
 IsRowOfTable-between cells y before behind entries above below across picked = record {
   as_many = across;
-  each = λ x column. rw (picked x (rw across column)) (nearest_between cells x y (get_or before x 0) (get_or behind x 0) (above.each x column) (below.each x column));
+  each = λ x column. rw (picked x (rw across column))
+      (nearest_between cells x y (get_or before x 0) (get_or behind x 0) (above.each x column)
+      (below.each x column));
 }
 
 -- a band has its lines from row y on once the line below row y has been put in its place
-pub AreLinesBehind-next : (cells : Cells) (edge : Edge) (first y to : ℕ) (line old new : List ℕ) → first ≤ y → IsLineFrom (capped edge cells) (y + 1 + shift edge) line
+pub AreLinesBehind-next : (cells : Cells) (edge : Edge) (first y to : ℕ) (line old new : List ℕ)
+    → first ≤ y → IsLineFrom (capped edge cells) (y + 1 + shift edge) line
     → ((x : ℕ) → x < cells.width → get_or new ((y - first) * cells.width + x) 0 ≡ get_or line x 0)
-    → ((k : ℕ) → (k < (y - first) * cells.width) ⊎ ((y - first) * cells.width + cells.width ≤ k) → get_or new k 0 ≡ get_or old k 0)
+    → ((k : ℕ) → (k < (y - first) * cells.width) ⊎ ((y - first) * cells.width + cells.width ≤ k)
+    → get_or new k 0 ≡ get_or old k 0)
     → AreLinesBehind cells edge first (y + 1) to old → AreLinesBehind cells edge first y to new
 AreLinesBehind-next cells edge first y to line old new order behind copied others lines = record {
   each = λ x b column from below. elim (cases_eq b y) [
     | inl here ↦ rw (here, copied x column) (behind.each x column)
     | inr apart ↦
-        let place : (y - first) * cells.width + cells.width ≤ (b - first) * cells.width + x = place_below (y - first) (b - first) cells.width x (omega (arith, order, from, apart)) in
-        rw (others ((b - first) * cells.width + x) (inr place)) (lines.each x b column (omega arith) below)
+        let place : (y - first) * cells.width + cells.width ≤ (b - first) * cells.width + x =
+        place_below (y - first) (b - first) cells.width x (omega (arith, order, from, apart)) in
+        rw (others ((b - first) * cells.width + x) (inr place))
+        (lines.each x b column (omega arith) below)
   ];
 }
 
--- a batch has the lines of its bands from one band on once the line below that band has been put in its place
-pub AreBandLines-next : (cells : Cells) (edge : Edge) (from to band : ℕ) (line old new : List ℕ) → IsLineFrom (capped edge cells) (min (from + 64 * (band + 1)) to + shift edge) line
+-- a batch has the lines of its bands from one band on once the line below that band has been put in
+-- its place
+pub AreBandLines-next : (cells : Cells) (edge : Edge) (from to band : ℕ) (line old new : List ℕ)
+    → IsLineFrom (capped edge cells) (min (from + 64 * (band + 1)) to + shift edge) line
     → ((x : ℕ) → x < cells.width → get_or new (band * cells.width + x) 0 ≡ get_or line x 0)
-    → ((k : ℕ) → (k < band * cells.width) ⊎ (band * cells.width + cells.width ≤ k) → get_or new k 0 ≡ get_or old k 0)
+    → ((k : ℕ) → (k < band * cells.width) ⊎ (band * cells.width + cells.width ≤ k)
+    → get_or new k 0 ≡ get_or old k 0)
     → AreBandLines cells edge from to (band + 1) old → AreBandLines cells edge from to band new
 AreBandLines-next cells edge from to band line old new behind copied others lines = record {
   each = λ x b column at_least inside. elim (cases_eq b band) [
     | inl here ↦ rw (here, copied x column) (behind.each x column)
     | inr apart ↦
-        let place : band * cells.width + cells.width ≤ b * cells.width + x = place_below band b cells.width x (omega (arith, at_least, apart)) in
-        rw (others (b * cells.width + x) (inr place)) (lines.each x b column (omega (arith, at_least, apart)) inside)
+        let place : band * cells.width + cells.width ≤ b * cells.width + x =
+        place_below band b cells.width x (omega (arith, at_least, apart)) in
+        rw (others (b * cells.width + x) (inr place))
+        (lines.each x b column (omega (arith, at_least, apart)) inside)
   ];
 }

@@ -15,14 +15,22 @@ pub row_of-some : (entry : ℕ) → entry ≢ 65535 → row_of entry ≡ Some en
 row_of-some entry not = grind (arith, nat_tests)
 
 -- a row that is no farther, and not below one that is as far, comes first
-pub IsRowAtMost-by : (y row other : ℕ) → abs_diff y row ≤ abs_diff y other → (abs_diff y row ≡ abs_diff y other → row ≤ other) → IsRowAtMost y row other
+pub IsRowAtMost-by : (y row other : ℕ) → abs_diff y row ≤ abs_diff y other
+    → (abs_diff y row ≡ abs_diff y other → row ≤ other) → IsRowAtMost y row other
 IsRowAtMost-by y row other near upper = record {
-  order = elim (cases_lt (abs_diff y row) (abs_diff y other)) [ inl nearer ↦ inl nearer | inr far ↦ let same : abs_diff y row ≡ abs_diff y other = omega arith in inr (same, upper same) ];
+  order = elim (cases_lt (abs_diff y row) (abs_diff y other)) [
+    | inl nearer ↦ inl nearer
+    | inr far ↦ let same : abs_diff y row ≡ abs_diff y other = omega arith in
+        inr (same, upper same)
+  ];
 }
 
 -- what holds in each case of two entries holds of the nearer of them
-pub nearer_by : (P : Option ℕ → Type 0) (y above below : ℕ) → (below ≡ 65535 → P (row_of above)) → (below ≢ 65535 → above ≡ 65535 → P (Some below))
-    → (below ≢ 65535 → above ≢ 65535 → abs_diff y below < abs_diff y above → P (Some below)) → (below ≢ 65535 → above ≢ 65535 → abs_diff y above ≤ abs_diff y below → P (Some above)) → P (row_of (nearer y above below))
+pub nearer_by : (P : Option ℕ → Type 0) (y above below : ℕ) → (below ≡ 65535 → P (row_of above))
+    → (below ≢ 65535 → above ≡ 65535 → P (Some below))
+    → (below ≢ 65535 → above ≢ 65535 → abs_diff y below < abs_diff y above → P (Some below))
+    → (below ≢ 65535 → above ≢ 65535 → abs_diff y above ≤ abs_diff y below → P (Some above))
+    → P (row_of (nearer y above below))
 nearer_by P y above below none_below none_above lower upper =
     elim (cases_eq below 65535) [
       | inl none ↦

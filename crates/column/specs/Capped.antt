@@ -18,4 +18,6 @@ is_side Wall count x = x == 0 || x + 1 == count
 
 -- a capped map has the frame's first and last row, as far as they are in its columns
 abbrev pub capped : Edge → Cells → Cells
-capped edge cells = cells_where cells.width (cells.height + 2 * shift edge) (λ x y. is_cap edge cells.height y || has cells x (y - shift edge))
+capped edge cells =
+    cells_where cells.width (cells.height + 2 * shift edge)
+    (λ x y. is_cap edge cells.height y || has cells x (y - shift edge))

@@ -10,10 +10,13 @@ use Rattle.column.specs.declared.columns.Columns.{Columns}
 
 -- the obstacles before row y, below each row of the current band and below each band are known
 pub record IsCarriedTo (batch : Batch) (carried : Carried) (y : ℕ) : Type 0 where
-  pub before : IsLineBefore (capped batch.edge batch.bitmap.now) (y + shift batch.edge) carried.before.items
+  pub before : IsLineBefore (capped batch.edge batch.bitmap.now)
+      (y + shift batch.edge) carried.before.items
   pub bands : AreBandLines batch.bitmap.now batch.edge batch.y0 batch.y1 0 carried.bands.items
-  pub behind : AreLinesBehind batch.bitmap.now batch.edge carried.first carried.first carried.known carried.behind.items
-  pub bands_room : (batch.y1 - batch.y0 + 63) / 64 * batch.bitmap.now.width ≤ length carried.bands.items
+  pub behind : AreLinesBehind batch.bitmap.now batch.edge carried.first carried.first carried.known
+      carried.behind.items
+  pub bands_room : (batch.y1 - batch.y0 + 63) / 64 * batch.bitmap.now.width
+      ≤ length carried.bands.items
   pub line_room : length carried.line.items ≡ batch.bitmap.now.width
   pub behind_room : 64 * batch.bitmap.now.width ≤ length carried.behind.items
   pub from : batch.y0 ≤ y

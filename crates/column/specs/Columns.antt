@@ -2,18 +2,21 @@
 -- Source: A. Meijster, J. Roerdink, W. Hesselink, "A General Algorithm for Computing Distance
 -- Transforms in Linear Time" (2000): the first phase, over the columns, here with the obstacle's
 -- row in place of its distance.
-use Rattle.std.specs.Prelude.{◌≡◌, ℕ, ◌<◌, ◌≤◌, ◌⊎◌, ◌==◌, List, length, slice_index, Option, Some, None, if◌then◌else◌}
+use Rattle.std.specs.Prelude.{◌≡◌, ℕ, ◌<◌, ◌≤◌, ◌⊎◌, ◌==◌, List, length, slice_index, Option, Some}
+use Rattle.std.specs.Prelude.{None, if◌then◌else◌}
 use Rattle.std.specs.Int.{abs_diff}
 use Rattle.bits.specs.Cells.{Cells, IsObstacle}
 
 -- seen from row y, one row isn't farther than the other, and is the upper if both are equally far
 pub record IsRowAtMost (y row other : ℕ) : Type 0 where
-  pub order : (abs_diff y row < abs_diff y other) ⊎ ((abs_diff y row ≡ abs_diff y other) × (row ≤ other))
+  pub order : (abs_diff y row < abs_diff y other)
+      ⊎ ((abs_diff y row ≡ abs_diff y other) × (row ≤ other))
 
 -- the row of column x's obstacle nearest to row y, the upper on a tie; none if the column has none
 abbrev pub IsNearestRow : Cells → ℕ → ℕ → Option ℕ → Type 0
 IsNearestRow cells x y None = (b : ℕ) → IsObstacle cells x b → ⊥
-IsNearestRow cells x y (Some row) = IsObstacle cells x row × ((b : ℕ) → IsObstacle cells x b → IsRowAtMost y row b)
+IsNearestRow cells x y (Some row) =
+    IsObstacle cells x row × ((b : ℕ) → IsObstacle cells x b → IsRowAtMost y row b)
 
 -- an entry means its own row, or none if it is the largest 16-bit number
 abbrev pub row_of : ℕ → Option ℕ

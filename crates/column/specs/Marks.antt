@@ -1,5 +1,6 @@
 -- What reading rows does to the entries of a row: this project's own rule.
-use Rattle.std.specs.Prelude.{◌≡◌, ℕ, ◌*◌, ◌/◌, ◌%◌, ◌<◌, ◌≤◌, ◌==◌, nat_lt, Bool, List, length, slice_index, Option, Some, None, if◌then◌else◌}
+use Rattle.std.specs.Prelude.{◌≡◌, ℕ, ◌*◌, ◌/◌, ◌%◌, ◌<◌, ◌≤◌, ◌==◌, nat_lt, Bool, List, length}
+use Rattle.std.specs.Prelude.{slice_index, Option, Some, None, if◌then◌else◌}
 use Rattle.std.specs.Int.{abs_diff, bit_at}
 use Rattle.bits.specs.Cells.{Cells, IsObstacle}
 use Rattle.column.specs.Columns.{IsNearestRow, row_of}
@@ -14,7 +15,9 @@ is_marked words x = bit_at (slice_index words (x / 64)) (x % 64) == 1
 
 -- the nearer of the nearest at or above row y and that of the row below, the upper on a tie
 abbrev pub nearer : ℕ → ℕ → ℕ → ℕ
-nearer y above below = if below == 65535 then above else if above == 65535 then below else if nat_lt (abs_diff y below) (abs_diff y above) then below else above
+nearer y above below =
+    if below == 65535 then above else if above == 65535 then below
+    else if nat_lt (abs_diff y below) (abs_diff y above) then below else above
 
 -- the nearest to row y of column x's obstacles less than `away` rows away; none if there is none
 abbrev pub IsNearestWithin : Cells → ℕ → ℕ → ℕ → Option ℕ → Type 0
@@ -23,7 +26,8 @@ IsNearestWithin cells x y away (Some row) = IsNearestRow cells x y (Some row)
 
 -- the masks have a 1 for each column whose entry means no row, and for no other
 abbrev pub AreMissing : List ℕ → List ℕ → Type 0
-AreMissing masks entries = (x : ℕ) → x < length entries → is_marked masks x ≡ (slice_index entries x == 65535)
+AreMissing masks entries =
+    (x : ℕ) → x < length entries → is_marked masks x ≡ (slice_index entries x == 65535)
 
 -- an entry that means no row becomes that of the obstacle, if there is one; any other stays
 abbrev pub first_marked : Bool → ℕ → ℕ → ℕ
@@ -34,4 +38,5 @@ pub record IsSeen (cells : Cells) (y away : ℕ) (masks entries : List ℕ) : Ty
   pub as_many : length entries ≡ cells.width
   pub room : cells.width ≤ 64 * length masks
   pub missing : AreMissing masks entries
-  pub nearest : (x : ℕ) → x < cells.width → IsNearestWithin cells x y away (row_of (slice_index entries x))
+  pub nearest : (x : ℕ) → x < cells.width
+      → IsNearestWithin cells x y away (row_of (slice_index entries x))

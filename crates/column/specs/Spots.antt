@@ -12,4 +12,5 @@ pub record IsSpotRowAtMost (y : ℕ) (row other : ℤ) : Type 0 where
 -- the row of column x's obstacle nearest to row y, the upper on a tie; none if the column has none
 abbrev pub IsNearestSpotRow : Cells → Edge → ℤ → ℕ → Option ℤ → Type 0
 IsNearestSpotRow cells edge x y None = (b : ℤ) → IsBlocked cells edge x b → ⊥
-IsNearestSpotRow cells edge x y (Some row) = IsBlocked cells edge x row × ((b : ℤ) → IsBlocked cells edge x b → IsSpotRowAtMost y row b)
+IsNearestSpotRow cells edge x y (Some row) =
+    IsBlocked cells edge x row × ((b : ℤ) → IsBlocked cells edge x b → IsSpotRowAtMost y row b)

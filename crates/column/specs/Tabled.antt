@@ -19,12 +19,15 @@ place_in width edge x y = y * (width + 2 * shift edge) + (x + shift edge)
 
 -- the bitmap that a table was made from
 abbrev pub cells_tabled : ℕ → ℕ → Edge → List ℕ → Cells
-cells_tabled width height edge entries = cells_where width height (λ x y. slice_index entries (place_in width edge x y) == y + shift edge)
+cells_tabled width height edge entries =
+    cells_where width height (λ x y. slice_index entries (place_in width edge x y)
+    == y + shift edge)
 
 -- the entries of the map's first rows are the nearest rows of their columns
 pub record HasRows (cells : Cells) (edge : Edge) (width rows : ℕ) (entries : List ℕ) : Type 0 where
   pub each : (x y : ℕ) → x < width + 2 * shift edge → y < rows
-      → IsNearestRow (framed edge cells) x (y + shift edge) (row_of (slice_index entries (y * (width + 2 * shift edge) + x)))
+      → IsNearestRow (framed edge cells) x (y + shift edge)
+      (row_of (slice_index entries (y * (width + 2 * shift edge) + x)))
 
 -- each entry is the nearest row of the bitmap with its edge that the table was made from
 pub record IsTabled (width height : ℕ) (edge : Edge) (entries : List ℕ) : Type 0 where

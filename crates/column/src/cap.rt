@@ -38,7 +38,8 @@ fn mark_ends(y: u16, row: &mut [u16])
     ensures len { length row.new ≡ length row.old }
     ensures first { slice_index row.new 0 ≡ y }
     ensures last { (x : ℕ) → x + 1 ≡ length row.old → slice_index row.new x ≡ y }
-    ensures others { (x : ℕ) → 0 < x → x + 1 < length row.old → slice_index row.new x ≡ slice_index row.old x }
+    ensures others { (x : ℕ) → 0 < x → x + 1 < length row.old
+        → slice_index row.new x ≡ slice_index row.old x }
 {
     let last = row.len() - 1;
     row[0] = y;
@@ -51,7 +52,8 @@ pub fn mark_all(y: u16, missing: &mut [u64], entries: &mut [u16])
     ensures len { length entries.new ≡ length entries.old }
     ensures room { length missing.new ≡ length missing.old }
     ensures missing { AreMissing missing.new entries.new }
-    ensures marked { (x : ℕ) → x < length entries.old → slice_index entries.new x ≡ first_marked true y (slice_index entries.old x) }
+    ensures marked { (x : ℕ) → x < length entries.old
+        → slice_index entries.new x ≡ first_marked true y (slice_index entries.old x) }
 {
     missing.fill(0);
     'columns: for x in 0..entries.len() {

@@ -16,7 +16,8 @@ pub fn mark_row(words: &[u64], y: u16, row: &mut [u16])
     requires few { length words.now ≤ 64 }
     requires all { length row.old ≤ 64 * length words.now }
     ensures len { length row.new ≡ length row.old }
-    ensures marked { (x : ℕ) → x < length row.old → slice_index row.new x ≡ marked (is_marked words.now x) y (slice_index row.old x) }
+    ensures marked { (x : ℕ) → x < length row.old
+        → slice_index row.new x ≡ marked (is_marked words.now x) y (slice_index row.old x) }
 {
     'words: for (index, word) in words.iter().enumerate() {
         let first = index * WORD_BITS;
@@ -32,8 +33,10 @@ pub fn mark_word(word: u64, y: u16, first: usize, row: &mut [u16])
     requires { first ≤ length row.old }
     ensures len { length row.new ≡ length row.old }
     ensures marked { (i : ℕ) → i < 64 → first + i < length row.old
-        → slice_index row.new (first + i) ≡ marked (bit_at word i == 1) y (slice_index row.old (first + i)) }
-    ensures others { (x : ℕ) → (x < first) ⊎ (first + 64 ≤ x) → slice_index row.new x ≡ slice_index row.old x }
+        → slice_index row.new (first + i) ≡ marked (bit_at word i == 1) y
+        (slice_index row.old (first + i)) }
+    ensures others { (x : ℕ) → (x < first) ⊎ (first + 64 ≤ x)
+        → slice_index row.new x ≡ slice_index row.old x }
 {
     'parts: for part in 0..8 {
         let start = first + 8 * part;
@@ -48,8 +51,10 @@ fn mark_part(bits: u16, y: u16, first: usize, row: &mut [u16])
     requires { first ≤ length row.old + 56 }
     ensures len { length row.new ≡ length row.old }
     ensures marked { (i : ℕ) → i < 8 → first + i < length row.old
-        → slice_index row.new (first + i) ≡ marked (bit_at bits i == 1) y (slice_index row.old (first + i)) }
-    ensures others { (x : ℕ) → (x < first) ⊎ (first + 8 ≤ x) → slice_index row.new x ≡ slice_index row.old x }
+        → slice_index row.new (first + i) ≡ marked (bit_at bits i == 1) y
+        (slice_index row.old (first + i)) }
+    ensures others { (x : ℕ) → (x < first) ⊎ (first + 8 ≤ x)
+        → slice_index row.new x ≡ slice_index row.old x }
 {
     if first + 8 <= row.len() {
         mark_eight(bits, y, first, row);
@@ -63,8 +68,11 @@ fn mark_part(bits: u16, y: u16, first: usize, row: &mut [u16])
 fn mark_eight(bits: u16, y: u16, first: usize, row: &mut [u16])
     requires { first + 8 ≤ length row.old }
     ensures len { length row.new ≡ length row.old }
-    ensures marked { (i : ℕ) → i < 8 → slice_index row.new (first + i) ≡ marked (bit_at bits i == 1) y (slice_index row.old (first + i)) }
-    ensures others { (x : ℕ) → (x < first) ⊎ (first + 8 ≤ x) → slice_index row.new x ≡ slice_index row.old x }
+    ensures marked { (i : ℕ) → i < 8
+        → slice_index row.new (first + i) ≡ marked (bit_at bits i == 1) y
+        (slice_index row.old (first + i)) }
+    ensures others { (x : ℕ) → (x < first) ⊎ (first + 8 ≤ x)
+        → slice_index row.new x ≡ slice_index row.old x }
 {
     let entries = u16x8::from_slice(&row[first..]);
     let marked = marked_lanes(bits, y, entries).to_array();
@@ -74,7 +82,8 @@ fn mark_eight(bits: u16, y: u16, first: usize, row: &mut [u16])
 /// Eight entries, with row `y` in those of obstacles.
 #[inline(always)]
 fn marked_lanes(bits: u16, y: u16, entries: u16x8) -> u16x8
-    ensures { (i : ℕ) → i < 8 → slice_index result i ≡ marked (bit_at bits i == 1) y (slice_index entries i) }
+    ensures { (i : ℕ) → i < 8
+        → slice_index result i ≡ marked (bit_at bits i == 1) y (slice_index entries i) }
 {
     let places = u16x8::from_array(PLACES);
     let obstacles = u16x8::splat(bits) & places;
@@ -87,7 +96,8 @@ fn mark_last(bits: u16, y: u16, first: usize, row: &mut [u16])
     requires few { length row.old < first + 8 }
     ensures len { length row.new ≡ length row.old }
     ensures marked { (i : ℕ) → i < 8 → first + i < length row.old
-        → slice_index row.new (first + i) ≡ marked (bit_at bits i == 1) y (slice_index row.old (first + i)) }
+        → slice_index row.new (first + i) ≡ marked (bit_at bits i == 1) y
+        (slice_index row.old (first + i)) }
     ensures others { (x : ℕ) → x < first → slice_index row.new x ≡ slice_index row.old x }
 {
     'bits: for place in 0..row.len() - first {

@@ -1,7 +1,8 @@
 //! The nearest obstacles of all columns seen from one row, without a table. With a wall, rows count
 //! the frame.
 
-ghost use Rattle.std.specs.Prelude.{◌≡◌, ℕ, ◌+◌, ◌-◌, ◌*◌, ◌<◌, ◌≤◌, ◌==◌, ◌⊎◌, false, length, slice_index, bit_and};
+ghost use Rattle.std.specs.Prelude.{◌≡◌, ℕ, ◌+◌, ◌-◌, ◌*◌, ◌<◌, ◌≤◌, ◌==◌, ◌⊎◌, false, length};
+ghost use Rattle.std.specs.Prelude.{slice_index, bit_and};
 ghost use Rattle.std.specs.Int.{bit_at};
 ghost use Rattle.metric.specs.Edge.{shift};
 ghost use Rattle.bits.specs.Cells.{IsBitmap, has};
@@ -133,7 +134,8 @@ fn mark_missing(words: &[u64], y: u16, missing: &mut [u64], entries: &mut [u16])
 /// Whether a word has an obstacle whose column is missing.
 fn has_new(words: &[u64], missing: &[u64]) -> bool
     requires { length words.now ≤ length missing.now }
-    ensures { result ≡ false → (k : ℕ) → k < length words.now → bit_and (slice_index words.now k) (slice_index missing.now k) ≡ 0 }
+    ensures { result ≡ false → (k : ℕ) → k < length words.now
+        → bit_and (slice_index words.now k) (slice_index missing.now k) ≡ 0 }
 {
     let mut new = 0;
     'words: for index in 0..words.len() {
@@ -153,8 +155,10 @@ fn mark_new(word: u64, y: u16, first: usize, missing: u64, entries: &mut [u16]) 
     ensures missing { (i : ℕ) → i < 64 → first + i < length entries.old
         → (bit_at result i == 1) ≡ (slice_index entries.new (first + i) == 65535) }
     ensures marked { (i : ℕ) → i < 64 → first + i < length entries.old
-        → slice_index entries.new (first + i) ≡ first_marked (bit_at word i == 1) y (slice_index entries.old (first + i)) }
-    ensures others { (x : ℕ) → (x < first) ⊎ (first + 64 ≤ x) → slice_index entries.new x ≡ slice_index entries.old x }
+        → slice_index entries.new (first + i) ≡ first_marked (bit_at word i == 1) y
+        (slice_index entries.old (first + i)) }
+    ensures others { (x : ℕ) → (x < first) ⊎ (first + 64 ≤ x)
+        → slice_index entries.new x ≡ slice_index entries.old x }
 {
     let new = word & missing;
     if new == 0 {

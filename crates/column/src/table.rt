@@ -1,6 +1,7 @@
 //! A table of the nearest obstacles in all columns.
 
-ghost use Rattle.std.specs.Prelude.{◌≡◌, ◌≢◌, ℕ, pos, ◌+◌, ◌*◌, ◌^◌, ◌<◌, ◌≤◌, ◌<ℤ◌, ◌≤ℤ◌, ◌+ℤ◌, length, slice_index, IfOk, IfErr};
+ghost use Rattle.std.specs.Prelude.{◌≡◌, ◌≢◌, ℕ, pos, ◌+◌, ◌*◌, ◌^◌, ◌<◌, ◌≤◌, ◌<ℤ◌, ◌≤ℤ◌, ◌+ℤ◌};
+ghost use Rattle.std.specs.Prelude.{length, slice_index, IfOk, IfErr};
 ghost use Rattle.std.specs.Option.{option_map};
 ghost use Rattle.metric.specs.Edge.{shift, spot_of};
 ghost use Rattle.bits.specs.Cells.{IsBitmap};
@@ -41,7 +42,10 @@ impl Model for ColumnTable {
 
     ghost Value = { Bordered };
 
-    ghost view = { λ t. record { cells = cells_tabled t.width t.height t.edge t.entries.items; edge = t.edge } };
+    ghost view = { λ t. record {
+      cells = cells_tabled t.width t.height t.edge t.entries.items;
+      edge = t.edge;
+    } };
 
     ghost invariant = { λ t. IsTabled t.width t.height t.edge t.entries.items };
 }
@@ -101,7 +105,8 @@ impl ColumnTable {
     /// height. Of two obstacles equally far from row `y` it is the upper one.
     pub fn nearest_row(&self, x: i16, y: u16) -> Option<i16>
         requires left { pos 0 ≤ℤ (x +ℤ pos (shift self.now.edge)) }
-        requires right { (x +ℤ pos (shift self.now.edge)) <ℤ pos (self.now.cells.width + 2 * shift self.now.edge) }
+        requires right { (x +ℤ pos (shift self.now.edge)) <ℤ pos
+            (self.now.cells.width + 2 * shift self.now.edge) }
         requires row { y < self.now.cells.height }
         ensures { IsNearestSpotRow self.now.cells self.now.edge x y result }
     {
@@ -114,7 +119,8 @@ impl ColumnTable {
     /// the nearest rows of all columns, counted with the frame, or `NONE`.
     pub fn row(&self, y: u16) -> &[u16]
         requires { y < self.now.cells.height }
-        ensures row { IsRowOfTable (framed self.now.edge self.now.cells) (y + shift self.now.edge) result.now }
+        ensures row { IsRowOfTable (framed self.now.edge self.now.cells)
+            (y + shift self.now.edge) result.now }
         ensures bitmap { IsBitmap self.now.cells }
     {
         let width = usize::from(self.width + 2 * self.edge.shift());
@@ -144,7 +150,8 @@ fn line_of(entries: &[u16], line: usize, width: usize) -> &[u16]
     requires within { line * width + width ≤ length entries.now }
     requires small { line * width + width < 2 ^ 32 }
     ensures len { length result.now ≡ width }
-    ensures entries { (x : ℕ) → x < width → slice_index result.now x ≡ slice_index entries.now (line * width + x) }
+    ensures entries { (x : ℕ) → x < width
+        → slice_index result.now x ≡ slice_index entries.now (line * width + x) }
 {
     let start = line * width;
     &entries[start..start + width]

@@ -1,5 +1,6 @@
 -- What a scan has seen so far, and what it keeps.
-use Rattle.std.proofs.Common.{◌≡◌, ℕ, ◌+◌, ◌^◌, ◌<◌, ◌≤◌, List, [], ◌∷◌, ◌++◌, length, map, take, set, ap, sym, subst, ◌∙◌, refl, arith}
+use Rattle.std.proofs.Common.{◌≡◌, ℕ, ◌+◌, ◌^◌, ◌<◌, ◌≤◌, List, [], ◌∷◌, ◌++◌, length, map, take}
+use Rattle.std.proofs.Common.{set, ap, sym, subst, ◌∙◌, refl, arith}
 use Rattle.std.specs.Prelude.{Option, None}
 use Rattle.std.proofs.lemmas.List.{map-append, length-map, length-take, take_more_set}
 use Rattle.map_core.specs.declared.command.Command.{Command}
@@ -29,14 +30,20 @@ use Rattle.desk.proofs.HoldOpen.{can_answer}
 use Rattle.desk.proofs.HoldLemmas.{tidy_told}
 
 -- a scan up to a reader has seen as many words as that reader's number
-pub seen_long : (seen : List (Option Seen)) (reader : ℕ) → reader ≤ length seen → length (map pin_word (take reader seen)) ≡ reader
-seen_long seen reader few = omega (arith, length-map (take reader seen) pin_word, length-take reader seen)
+pub seen_long : (seen : List (Option Seen)) (reader : ℕ) → reader ≤ length seen
+    → length (map pin_word (take reader seen)) ≡ reader
+seen_long seen reader few =
+    omega (arith, length-map (take reader seen) pin_word, length-take reader seen)
 
 -- once one more reader is scanned, the words that are seen have that reader's at their end
-pub scan_grows : (seen : List (Option Seen)) (reader word : ℕ) (o : Option Seen) → reader < length seen → word ≡ pin_word o
-    → map pin_word (take (reader + 1) (set seen reader o)) ≡ map pin_word (take reader seen) ++ word ∷ []
+pub scan_grows : (seen : List (Option Seen)) (reader word : ℕ) (o : Option Seen)
+    → reader < length seen → word ≡ pin_word o
+    → map pin_word (take (reader + 1) (set seen reader o))
+    ≡ map pin_word (take reader seen) ++ word ∷ []
 scan_grows seen reader word o inside is =
-    ap (map pin_word) (take_more_set seen reader o inside) ∙ (map-append pin_word (take reader seen) (o ∷ []) ∙ ap (λ (w : ℕ). map pin_word (take reader seen) ++ w ∷ []) (sym is))
+    ap (map pin_word) (take_more_set seen reader o inside)
+    ∙ (map-append pin_word (take reader seen) (o ∷ [])
+    ∙ ap (λ (w : ℕ). map pin_word (take reader seen) ++ w ∷ []) (sym is))
 
 -- what is read in the words by which readers announce is what they have announced
 words_seen : (seen : List (Option Seen)) → map seen_in (map pin_word seen) ≡ seen
@@ -44,31 +51,41 @@ words_seen [] = refl
 words_seen (o ∷ os) = λ i. seen_in-pin_word o i ∷ words_seen os i
 
 -- the versions that a scan keeps are those that are computed from what it saw
-pub kept_computed : (z : Base) (k : KeeperView) (h : Holding) (kept : Kept) (seen as' : List (Option Seen)) → IsToldByLog z (entries k.log) h → kept ≡ kept_after h.ledger.kept h.ledger.newest as' → as' ≡ seen
+pub kept_computed : (z : Base) (k : KeeperView) (h : Holding) (kept : Kept)
+    (seen as' : List (Option Seen)) → IsToldByLog z (entries k.log) h
+    → kept ≡ kept_after h.ledger.kept h.ledger.newest as' → as' ≡ seen
     → kept ≡ kept_scanned (story z (entries k.log)) (map pin_word seen)
 unfolding kept_scanned
 kept_computed z k h kept seen as' tells is same =
     let ledger = tells.holds.summary.ledger_is in
-    is ∙ ((λ i. kept_after (ledger.kept_is i) (ledger.newest_is i) (same i)) ∙ sym (ap (kept_after (story z (entries k.log)).kept (newest (story z (entries k.log)))) (words_seen seen)))
+    is ∙ ((λ i. kept_after (ledger.kept_is i) (ledger.newest_is i) (same i))
+    ∙ sym (ap (kept_after (story z (entries k.log)).kept (newest (story z (entries k.log))))
+    (words_seen seen)))
 
 -- the ledger keeps newest
-pub newest_kept : (z : Base) (k : KeeperView) (h : Holding) → IsToldByLog z (entries k.log) h → IsIn h.ledger.kept h.ledger.newest
+pub newest_kept : (z : Base) (k : KeeperView) (h : Holding) → IsToldByLog z (entries k.log) h
+    → IsIn h.ledger.kept h.ledger.newest
 unfolding IsKept
 newest_kept z k h tells =
     let ledger = tells.holds.summary.ledger_is in
-    subst (λ (q : Kept × ℕ). IsIn q.0 q.1) (λ j. (sym ledger.kept_is j, sym ledger.newest_is j)) (tidy_told z (entries k.log) h tells).slots.newest_in
+    subst (λ (q : Kept × ℕ). IsIn q.0 q.1) (λ j. (sym ledger.kept_is j, sym ledger.newest_is j))
+    (tidy_told z (entries k.log) h tells).slots.newest_in
 
 -- the versions that the ledger keeps after a collect are those of the collect's reply
-pub kept_replied : (z : Base) (log : List Entry) (h new : Holding) (reply : Reply) (kept : Kept) → IsToldByLog z log h → Does h Collect reply new → new.ledger.kept ≡ kept
+pub kept_replied : (z : Base) (log : List Entry) (h new : Holding) (reply : Reply) (kept : Kept)
+    → IsToldByLog z log h → Does h Collect reply new → new.ledger.kept ≡ kept
     → kept_told (story z log) reply ≡ kept
 unfolding told
 kept_replied z log h new reply kept tells does is =
     let e : Entry = record { command = Collect; reply = reply } in
     let after = (does z log tells).1 in
-    sym (after.holds.summary.ledger_is.kept_is ∙ ap (λ (s : Story). s.kept) (story-push z log e)) ∙ is
+    sym (after.holds.summary.ledger_is.kept_is ∙ ap (λ (s : Story). s.kept) (story-push z log e))
+    ∙ is
 
 -- where the ledger doesn't refuse the current command, one more version can be counted
-pub few_versions : (z : Base) (k : KeeperView) (h : Holding) (c : Command) → IsToldByLog z (entries k.log) h → refused_by_ledger h.ledger c ≡ None → newest (story z (entries k.log)) + 1 < 2 ^ 32
+pub few_versions : (z : Base) (k : KeeperView) (h : Holding) (c : Command)
+    → IsToldByLog z (entries k.log) h → refused_by_ledger h.ledger c ≡ None
+    → newest (story z (entries k.log)) + 1 < 2 ^ 32
 few_versions z k h c tells judged =
     let left = place_of_ledger h.ledger c judged in
     let fewer = (can_answer z (entries k.log) h tells).balanced.newest_in in
@@ -76,8 +93,12 @@ few_versions z k h c tells judged =
     omega arith
 
 -- a collect that has seen each reader's word is worked once what it does is done
-pub collect_worked : (z : StoreId) (k u : KeeperView) (h new : Holding) (by : ℕ) (kept : Kept) (seen : List (Option Seen)) (reply : Reply) → IsInHand z k h by Collect → u ≡ scanning k by (map pin_word seen)
-    → length seen ≡ readers_of z → Does h Collect reply new → new.ledger.kept ≡ kept → kept ≡ kept_scanned (story z.base (entries k.log)) (map pin_word seen) → IsWorked z k h by Collect reply u new
+pub collect_worked : (z : StoreId) (k u : KeeperView) (h new : Holding) (by : ℕ) (kept : Kept)
+    (seen : List (Option Seen)) (reply : Reply) → IsInHand z k h by Collect
+    → u ≡ scanning k by (map pin_word seen)
+    → length seen ≡ readers_of z → Does h Collect reply new → new.ledger.kept ≡ kept
+    → kept ≡ kept_scanned (story z.base (entries k.log)) (map pin_word seen)
+    → IsWorked z k h by Collect reply u new
 unfolding steps_before
 collect_worked z k u h new by kept seen reply hand scanned all does kept_is of_scan =
     let log = entries k.log in
@@ -86,6 +107,8 @@ collect_worked z k u h new by kept seen reply hand scanned all does kept_is of_s
       words = map pin_word seen;
       keeper_is = scanned;
       all_done = length-map seen pin_word ∙ all;
-      reply_is = the_reply (story z.base log) Collect reply (map pin_word seen) (does z.base log hand.told).0.reply_is (kept_replied z.base log h new reply kept hand.told does kept_is ∙ of_scan);
+      reply_is = the_reply (story z.base log) Collect reply (map pin_word seen)
+          (does z.base log hand.told).0.reply_is
+          (kept_replied z.base log h new reply kept hand.told does kept_is ∙ of_scan);
       does = does;
     }

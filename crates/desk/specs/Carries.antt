@@ -20,19 +20,22 @@ pub record CanCarry (store : StoreId) (k : KeeperView) (h : Holding) : Type 0 wh
 
 -- a task: a command with this many steps done, whose scan saw these words
 abbrev pub task_of : ℕ → Command → ℕ → List ℕ → Task
-task_of by c done words = record { by = by; hand = record { command = c; done = done; scanned = words } }
+task_of by c done words =
+    record { by = by; hand = record { command = c; done = done; scanned = words } }
 
 -- the keeper with this task
 abbrev pub with_task : KeeperView → Task → KeeperView
 with_task k t = record k { task = Some t }
 
 -- a command is current, with no step done; but for it the keeper is idle at a log as above
-pub record IsInHand (store : StoreId) (k : KeeperView) (h : Holding) (by : ℕ) (c : Command) : Type 0 where
+pub record IsInHand (store : StoreId) (k : KeeperView) (h : Holding) (by : ℕ) (c : Command) :
+    Type 0 where
   pub keeper_is : k ≡ with_task (resting (readers_of store) k.log) (task_of by c 0 [])
   pub told : IsToldByLog store.base (entries k.log) h
 
 -- only a command's last step is left, and what is held is as after its answer, the reply it commits
-pub record IsWorked (store : StoreId) (k : KeeperView) (h : Holding) (by : ℕ) (c : Command) (reply : Reply) (after : KeeperView) (new : Holding) : Type 0 where
+pub record IsWorked (store : StoreId) (k : KeeperView) (h : Holding) (by : ℕ) (c : Command)
+    (reply : Reply) (after : KeeperView) (new : Holding) : Type 0 where
   pub done : ℕ
   pub words : List ℕ
   pub keeper_is : after ≡ with_task k (task_of by c done words)
@@ -50,6 +53,11 @@ KeepsScanned old c new scanned =
     c ≡ Collect → new.ledger.kept ≡ kept_after old.ledger.kept old.ledger.newest scanned
 
 -- a command is carried out: what is held is as after it, and its caller is to meet the keeper
-pub record IsCarried (k : KeeperView) (h : Holding) (by : ℕ) (c : Command) (reply : Reply) (after : KeeperView) (new : Holding) : Type 0 where
-  pub keeper_is : after ≡ record k { log = k.log ++ signed by c reply ∷ []; task = None; unmet = Some by }
+pub record IsCarried (k : KeeperView) (h : Holding) (by : ℕ) (c : Command) (reply : Reply)
+    (after : KeeperView) (new : Holding) : Type 0 where
+  pub keeper_is : after ≡ record k {
+    log = k.log ++ signed by c reply ∷ [];
+    task = None;
+    unmet = Some by;
+  }
   pub does : Does h c reply new

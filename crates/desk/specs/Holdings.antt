@@ -1,5 +1,6 @@
 -- What a desk holds of a map, and how that relates to its log: this project's own rule.
-use Rattle.std.specs.Prelude.{◌≡◌, ℕ, ◌+◌, ◌≤◌, ◌⊎◌, true, List, [], ◌∷◌, ◌++◌, length, Option, Some, None}
+use Rattle.std.specs.Prelude.{◌≡◌, ℕ, ◌+◌, ◌≤◌, ◌⊎◌, true, List, [], ◌∷◌, ◌++◌, length, Option}
+use Rattle.std.specs.Prelude.{Some, None}
 use Rattle.metric.specs.declared.refusal.Refusal.{Refusal}
 use Rattle.metric.specs.declared.refusal.Refusal.TheVariants.{Memory}
 use Rattle.map_core.specs.declared.command.Command.{Command}
@@ -20,7 +21,15 @@ use Rattle.desk.specs.declared.holding.Holding.{Holding}
 -- the summary of a log that a desk holds
 abbrev pub summary_of : Holding → Summary
 summary_of h =
-    record { ledger = h.ledger; draft = draft h.grid; published = bitmap_at h.grid h.grid.newest; came = h.grid.came; own = own_blocks h.grid; free = h.arena.free; retired = retired_blocks h.grid }
+    record {
+      ledger = h.ledger;
+      draft = draft h.grid;
+      published = bitmap_at h.grid h.grid.newest;
+      came = h.grid.came;
+      own = own_blocks h.grid;
+      free = h.arena.free;
+      retired = retired_blocks h.grid;
+    }
 
 -- ledger, tiles and free blocks agree with a story and its blocks
 pub record Holds (k : Base) (s : Story) (m : Blocks) (h : Holding) : Type 0 where
@@ -48,11 +57,13 @@ pub record CanAnswer (h : Holding) : Type 0 where
 
 -- after any log that gives what is held, this is the refusal of a command, or none
 abbrev pub Judges : Holding → Command → Option Refusal → Type 0
-Judges h c refusal = (k : Base) (log : List Entry) → IsToldByLog k log h → refusal ≡ refused k.setting (story k log) c
+Judges h c refusal = (k : Base) (log : List Entry) → IsToldByLog k log h
+    → refusal ≡ refused k.setting (story k log) c
 
 -- a command is refused: by the log for this reason, or for no memory if the log has no reason
 abbrev pub Refuses : Holding → Command → Refusal → Type 0
-Refuses h c refusal = Judges h c (Some refusal) ⊎ (Judges h c None × (refusal ≡ Memory) × (takes_room c ≡ true))
+Refuses h c refusal = Judges h c (Some refusal)
+    ⊎ (Judges h c None × (refusal ≡ Memory) × (takes_room c ≡ true))
 
 -- the only step of a paint, a stamp or a revert is its last
 abbrev pub IsOneStep : Command → Type 0
@@ -63,4 +74,5 @@ IsOneStep c = Unit {0}
 -- after any log that gives what is held a command is answered, and its entry gives the new holding
 abbrev pub Does : Holding → Command → Reply → Holding → Type 0
 Does old c reply new =
-    (k : Base) (log : List Entry) → IsToldByLog k log old → IsAnswer k.setting (story k log) c reply × IsToldByLog k (log ++ record { command = c; reply = reply } ∷ []) new
+    (k : Base) (log : List Entry) → IsToldByLog k log old → IsAnswer k.setting (story k log) c reply
+    × IsToldByLog k (log ++ record { command = c; reply = reply } ∷ []) new

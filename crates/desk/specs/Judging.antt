@@ -1,7 +1,8 @@
 -- Commands judged by what a desk holds: this project's own rule.
 use Rattle.std.specs.Prelude.{◌≡◌, None}
 use Rattle.map_core.specs.declared.command.Command.{Command}
-use Rattle.map_core.specs.declared.command.Command.TheVariants.{Publish, Revert, Collect, Checkpoint}
+use Rattle.map_core.specs.declared.command.Command.TheVariants.{Publish, Revert, Collect}
+use Rattle.map_core.specs.declared.command.Command.TheVariants.{Checkpoint}
 use Rattle.map_core.specs.Drawing.{IsDraw}
 use Rattle.map_core.specs.Ledger.{refused_by_ledger}
 use Rattle.grid.specs.Strokes.{IsStroke}

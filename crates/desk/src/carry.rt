@@ -26,7 +26,8 @@ fn work<Id: StoreName>(
     requires in_hand { IsInHand Id.store keeper.old holding.old asked.now.by asked.now.command }
     requires place_each { length announced.old.items ≡ readers_of Id.store }
     requires judged { IsJudged holding.old asked.now.command judged }
-    ensures worked { IsWorked Id.store keeper.old holding.old asked.now.by asked.now.command result keeper.new holding.new }
+    ensures worked { IsWorked Id.store keeper.old holding.old asked.now.by asked.now.command result
+        keeper.new holding.new }
     ensures scanned { KeepsScanned holding.old asked.now.command holding.new announced.new.items }
     ensures place_each { length announced.new.items ≡ readers_of Id.store }
 {
@@ -54,7 +55,8 @@ pub fn carry<Id: StoreName>(
     requires caller { asked.now.by < readers_of Id.store }
     requires place_each { length announced.old.items ≡ readers_of Id.store }
     requires judged { IsJudged holding.old asked.now.command judged }
-    ensures carried { IsCarried keeper.old holding.old asked.now.by asked.now.command result keeper.new holding.new }
+    ensures carried { IsCarried keeper.old holding.old asked.now.by asked.now.command result
+        keeper.new holding.new }
     ensures scanned { KeepsScanned holding.old asked.now.command holding.new announced.new.items }
     ensures place_each { length announced.new.items ≡ readers_of Id.store }
 {

@@ -37,6 +37,7 @@ impl<Id: StoreName> Model for Desk<Id> {
 
     ghost view = { λ d. record { log = d.keeper.log; scanned = d.announced.items } };
 
-    ghost invariant = { λ d. IsDesk Id.store record { log = d.keeper.log; scanned = d.announced.items }
+    ghost invariant = { λ d. IsDesk Id.store
+        record { log = d.keeper.log; scanned = d.announced.items }
         d.keeper d.holding d.log.items };
 }

@@ -35,7 +35,8 @@ impl Holding {
     /// Allocates everything here. Fails only when out of memory.
     pub fn of(alloc: Global, setting: Setting, map: &Bitmap) -> Result<Holding, Refusal>
         requires { bad_field (tile_count map.now) setting ≡ None }
-        ensures opened { IfOk result (IsToldByLog record { setting = setting; opening = map.now } []) }
+        ensures opened { IfOk result
+            (IsToldByLog record { setting = setting; opening = map.now } []) }
         ensures memory { IfErr result (λ refusal. refusal ≡ Memory) }
     {
         // Asking for a side brings the proof that `map` is a bitmap.

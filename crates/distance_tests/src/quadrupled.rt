@@ -2,7 +2,9 @@
 //! are computed by the stack only.
 
 ghost use Rattle.metric.specs.Lanes.{added};
-ghost use Rattle.distance_tests.specs.Quadrupled.{no_reach, quadrupled, quadrupled_grows, quadrupled_reaches, quadrupled_small, quadrupled_stays_nearer};
+ghost use Rattle.distance_tests.specs.Quadrupled.{no_reach, quadrupled, quadrupled_grows};
+ghost use Rattle.distance_tests.specs.Quadrupled.{quadrupled_reaches, quadrupled_small};
+ghost use Rattle.distance_tests.specs.Quadrupled.{quadrupled_stays_nearer};
 
 use metric::{Euclid2, Metric};
 use std::simd::prelude::*;

@@ -1,53 +1,76 @@
 -- Bytes that are taken from a stream, and put into a buffer or written to another stream.
-use Rattle.std.proofs.Common.{◌≡◌, ◌≢◌, ℕ, List, [], ◌∷◌, ◌++◌, Option, Some, Result, Ok, Err, OnOk, OnErr, inl, inr, refl, ap, arith, ◌∙◌, append_assoc}
+use Rattle.std.proofs.Common.{◌≡◌, ◌≢◌, ℕ, List, [], ◌∷◌, ◌++◌, Option, Some, Result, Ok, Err, OnOk}
+use Rattle.std.proofs.Common.{OnErr, inl, inr, refl, ap, arith, ◌∙◌, append_assoc}
 use Rattle.metric.specs.Stream.{Takes, TakesByte, Appends, AppendsFront, Counts}
 use Rattle.metric.proofs.Appending.{Appends-nothing, Appends-more, AppendsFront-whole}
 use Rattle.metric.proofs.Taking.{Takes-nothing, Takes-more, Takes-behind}
-use Rattle.engines.specs.streams.Passing.{BreaksOff, EndsEarly, Gathers, IsEndLine, PassesOn, PassesFront, stop_text}
+use Rattle.engines.specs.streams.Passing.{BreaksOff, EndsEarly, Gathers, IsEndLine, PassesOn}
+use Rattle.engines.specs.streams.Passing.{PassesFront, stop_text}
 use Rattle.engines.specs.words.Refusals.{memory_text, net_text}
 use Rattle.engines.specs.declared.ask.Stop.{Stop}
 use Rattle.engines.specs.declared.ask.Stop.TheVariants as stops
 use Rattle.engines.proofs.RefusalLines.{front_first, front_second}
 
 -- a byte that was met is one that was taken
-pub Takes-byte : (old new : Option (List ℕ)) (byte : ℕ) → TakesByte old (Some byte) new → Takes old (byte ∷ []) new
+pub Takes-byte : (old new : Option (List ℕ)) (byte : ℕ) → TakesByte old (Some byte) new
+    → Takes old (byte ∷ []) new
 Takes-byte old new byte next = Takes-more old old new [] byte (Takes-nothing old) next
 
 -- what is gathered in two parts, one after the other, is gathered as one
-pub Gathers-both : (old between new : Option (List ℕ)) (before middle after : List ℕ) → Gathers old before middle between → Gathers between middle after new → Gathers old before after new
+pub Gathers-both : (old between new : Option (List ℕ)) (before middle after : List ℕ)
+    → Gathers old before middle between → Gathers between middle after new
+    → Gathers old before after new
 Gathers-both old between new before middle after one two = record {
   bytes = one.bytes ++ two.bytes;
   taken = Takes-behind old between new one.bytes two.bytes one.taken two.taken;
-  after_is = two.after_is ∙ (ap (λ t. t ++ two.bytes) one.after_is ∙ append_assoc before one.bytes two.bytes);
+  after_is = two.after_is
+      ∙ (ap (λ t. t ++ two.bytes) one.after_is ∙ append_assoc before one.bytes two.bytes);
 }
 
 -- where bytes were gathered, and then more were taken, all of them were taken
-pub taken_behind : (old between new : Option (List ℕ)) (before after : List ℕ) → Gathers old before after between → ((bytes : List ℕ) × Takes between bytes new) → (bytes : List ℕ) × Takes old bytes new
-taken_behind old between new before after one (bytes, two) = (one.bytes ++ bytes, Takes-behind old between new one.bytes bytes one.taken two)
+pub taken_behind : (old between new : Option (List ℕ)) (before after : List ℕ)
+    → Gathers old before after between → ((bytes : List ℕ) × Takes between bytes new)
+    → (bytes : List ℕ) × Takes old bytes new
+taken_behind old between new before after one (bytes, two) =
+    (one.bytes ++ bytes, Takes-behind old between new one.bytes bytes one.taken two)
 
 -- what is gathered in an empty buffer is what was taken
-pub Gathers-taken : (unread left : Option (List ℕ)) (before after : List ℕ) → before ≡ [] → Gathers unread before after left → Takes unread after left
+pub Gathers-taken : (unread left : Option (List ℕ)) (before after : List ℕ) → before ≡ []
+    → Gathers unread before after left → Takes unread after left
 Gathers-taken unread left before after empty all =
-    let same : after ≡ all.bytes = all.after_is ∙ ap (λ t. t ++ all.bytes) empty in rw same all.taken
+    let same : after ≡ all.bytes = all.after_is ∙ ap (λ t. t ++ all.bytes) empty in
+    rw same all.taken
 
 -- where nothing is written, a prefix of any bytes is
 front_nothing : (held : Option (List ℕ)) (bytes : List ℕ) → AppendsFront held bytes held
-front_nothing held bytes = record { front = []; back = bytes; whole = refl; appended = Appends-nothing held }
+front_nothing held bytes =
+    record { front = []; back = bytes; whole = refl; appended = Appends-nothing held }
 
 -- where nothing is read and nothing is written, all that was read is written
 pub PassesOn-nothing : (unread held : Option (List ℕ)) → PassesOn unread unread held held
-PassesOn-nothing unread held = record { bytes = []; taken = Takes-nothing unread; written = Appends-nothing held }
+PassesOn-nothing unread held =
+    record { bytes = []; taken = Takes-nothing unread; written = Appends-nothing held }
 
 -- where bytes were read and nothing was written, a prefix of what was read was written
-pub PassesFront-read : (unread left held : Option (List ℕ)) → ((bytes : List ℕ) × Takes unread bytes left) → PassesFront unread left held held
-PassesFront-read unread left held (bytes, taken) = record { bytes = bytes; taken = taken; written = front_nothing held bytes }
+pub PassesFront-read : (unread left held : Option (List ℕ))
+    → ((bytes : List ℕ) × Takes unread bytes left) → PassesFront unread left held held
+PassesFront-read unread left held (bytes, taken) =
+    record { bytes = bytes; taken = taken; written = front_nothing held bytes }
 
 -- where all that was read was written, a prefix of it was
-pub PassesFront-whole : (unread left before after : Option (List ℕ)) → PassesOn unread left before after → PassesFront unread left before after
-PassesFront-whole unread left before after whole = record { bytes = whole.bytes; taken = whole.taken; written = AppendsFront-whole before after whole.bytes whole.written }
+pub PassesFront-whole : (unread left before after : Option (List ℕ))
+    → PassesOn unread left before after → PassesFront unread left before after
+PassesFront-whole unread left before after whole =
+    record {
+      bytes = whole.bytes;
+      taken = whole.taken;
+      written = AppendsFront-whole before after whole.bytes whole.written;
+    }
 
 -- what is read and written in two parts, one after the other, is read and written as one
-pub PassesOn-both : (unread between left before middle after : Option (List ℕ)) → PassesOn unread between before middle → PassesOn between left middle after → PassesOn unread left before after
+pub PassesOn-both : (unread between left before middle after : Option (List ℕ))
+    → PassesOn unread between before middle → PassesOn between left middle after
+    → PassesOn unread left before after
 PassesOn-both unread between left before middle after one two = record {
   bytes = one.bytes ++ two.bytes;
   taken = Takes-behind unread between left one.bytes two.bytes one.taken two.taken;
@@ -55,7 +78,9 @@ PassesOn-both unread between left before middle after one two = record {
 }
 
 -- a part that is written whole, and a prefix of the next, are a prefix of what was read in both
-pub PassesFront-both : (unread between left before middle after : Option (List ℕ)) → PassesOn unread between before middle → PassesFront between left middle after → PassesFront unread left before after
+pub PassesFront-both : (unread between left before middle after : Option (List ℕ))
+    → PassesOn unread between before middle → PassesFront between left middle after
+    → PassesFront unread left before after
 PassesFront-both unread between left before middle after one two = record {
   bytes = one.bytes ++ two.bytes;
   taken = Takes-behind unread between left one.bytes two.bytes one.taken two.taken;
@@ -63,13 +88,16 @@ PassesFront-both unread between left before middle after one two = record {
 }
 
 -- a run of `ask` that stops, though no standard stream failed, tells why in such a line
-end_line : (sound : Type 0) (stop : Stop) → stop ≢ stops.Standard → (stop ≢ stops.Net → sound) → IsEndLine sound (stop_text stop)
+end_line : (sound : Type 0) (stop : Stop) → stop ≢ stops.Standard → (stop ≢ stops.Net → sound)
+    → IsEndLine sound (stop_text stop)
 end_line sound stops.Standard other calm = absurd (other refl)
 end_line sound stops.Net other calm = inl refl
 end_line sound stops.Memory other calm = inr (refl, calm (λ e. absurd cc))
 
 -- a prefix of what was read, and then the line that tells why it ended, end a run of `ask` early
-pub EndsEarly-line : (sound : Type 0) (unread left before middle after : Option (List ℕ)) (stop : Stop) → stop ≢ stops.Standard → (stop ≢ stops.Net → sound) → PassesFront unread left before middle → Appends middle (stop_text stop) after
+pub EndsEarly-line : (sound : Type 0) (unread left before middle after : Option (List ℕ))
+    (stop : Stop) → stop ≢ stops.Standard → (stop ≢ stops.Net → sound)
+    → PassesFront unread left before middle → Appends middle (stop_text stop) after
     → EndsEarly sound unread left before after
 EndsEarly-line sound unread left before middle after stop other calm part last = record {
   bytes = part.bytes;
@@ -79,11 +107,14 @@ EndsEarly-line sound unread left before middle after stop other calm part last =
   taken = part.taken;
   bytes_are = part.written.whole;
   line_is = end_line sound stop other calm;
-  written = Appends-more before middle after part.written.front (stop_text stop) part.written.appended last;
+  written = Appends-more before middle after part.written.front
+      (stop_text stop) part.written.appended last;
 }
 
 -- a prefix of what was read, and then a prefix of such a line, break a run of `ask` off
-BreaksOff-line : (sound : Type 0) (unread left before middle after : Option (List ℕ)) (line : List ℕ) → IsEndLine sound line → PassesFront unread left before middle → AppendsFront middle line after → BreaksOff sound unread left before after
+BreaksOff-line : (sound : Type 0) (unread left before middle after : Option (List ℕ))
+    (line : List ℕ) → IsEndLine sound line → PassesFront unread left before middle
+    → AppendsFront middle line after → BreaksOff sound unread left before after
 BreaksOff-line sound unread left before middle after line is part last = record {
   bytes = part.bytes;
   front = part.written.front;
@@ -95,20 +126,33 @@ BreaksOff-line sound unread left before middle after line is part last = record 
   written = front_second before middle after part.written.front line part.written.appended last;
 }
 
--- a prefix of what was read, and then a prefix of what a run tells that stops, break a run of `ask` off
-pub BreaksOff-stop : (sound : Type 0) (unread left before middle after : Option (List ℕ)) (stop : Stop) → (stop ≢ stops.Net → sound) → PassesFront unread left before middle → AppendsFront middle (stop_text stop) after
+-- a prefix of what was read, and then a prefix of what a run tells that stops, break a run of `ask`
+-- off
+pub BreaksOff-stop : (sound : Type 0) (unread left before middle after : Option (List ℕ))
+    (stop : Stop) → (stop ≢ stops.Net → sound) → PassesFront unread left before middle
+    → AppendsFront middle (stop_text stop) after
     → BreaksOff sound unread left before after
-BreaksOff-stop sound unread left before middle after stops.Standard calm part last = BreaksOff-line sound unread left before middle after net_text (inl refl) part (front_first middle after [] net_text last)
-BreaksOff-stop sound unread left before middle after stops.Net calm part last = BreaksOff-line sound unread left before middle after net_text (inl refl) part last
-BreaksOff-stop sound unread left before middle after stops.Memory calm part last = BreaksOff-line sound unread left before middle after memory_text (inr (refl, calm (λ e. absurd cc))) part last
+BreaksOff-stop sound unread left before middle after stops.Standard calm part last =
+    BreaksOff-line sound unread left before middle after net_text (inl refl) part
+    (front_first middle after [] net_text last)
+BreaksOff-stop sound unread left before middle after stops.Net calm part last =
+    BreaksOff-line sound unread left before middle after net_text (inl refl) part last
+BreaksOff-stop sound unread left before middle after stops.Memory calm part last =
+    BreaksOff-line sound unread left before middle after memory_text
+    (inr (refl, calm (λ e. absurd cc))) part last
 
 -- a text was written whole where no write failed
-pub written_whole : {T E : Type 0} (failed_before failed_after : ℕ) (before after : Option (List ℕ)) (text : List ℕ) (result : Result T E) → Counts failed_before result failed_after → OnOk result (Appends before text after)
+pub written_whole : {T E : Type 0} (failed_before failed_after : ℕ) (before after : Option (List ℕ))
+    (text : List ℕ) (result : Result T E) → Counts failed_before result failed_after
+    → OnOk result (Appends before text after)
     → failed_after ≡ failed_before → Appends before text after
 written_whole failed_before failed_after before after text (Ok value) counts whole same = whole
-written_whole failed_before failed_after before after text (Err fault) counts whole same = absurd (omega (arith, counts, same))
+written_whole failed_before failed_after before after text (Err fault) counts whole same =
+    absurd (omega (arith, counts, same))
 
 -- a text that was written whole or in part was written in part
-pub written_either : {T E : Type 0} (before after : Option (List ℕ)) (text : List ℕ) (result : Result T E) → OnOk result (Appends before text after) → OnErr result (AppendsFront before text after) → AppendsFront before text after
+pub written_either : {T E : Type 0} (before after : Option (List ℕ)) (text : List ℕ)
+    (result : Result T E) → OnOk result (Appends before text after)
+    → OnErr result (AppendsFront before text after) → AppendsFront before text after
 written_either before after text (Ok value) whole front = AppendsFront-whole before after text whole
 written_either before after text (Err fault) whole front = front

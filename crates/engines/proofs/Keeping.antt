@@ -11,8 +11,12 @@ use Rattle.engines.specs.steps.Steps.{Keeps}
 use Rattle.map_core.proofs.steps.RunLemmas.{run-push}
 
 -- a run of steps of the keeper, and one Keep event after it, are a run of one more step
-pub Keeps-more : (count : ℕ) (old mid new : State) (first second : Result StepReply NotEnabled) → Keeps count old first mid → SafeStep mid events.Keep second new → Keeps (count + 1) old second new
+pub Keeps-more : (count : ℕ) (old mid new : State) (first second : Result StepReply NotEnabled)
+    → Keeps count old first mid → SafeStep mid events.Keep second new
+    → Keeps (count + 1) old second new
 Keeps-more count old mid new first second kept step = record {
   before = kept.before ++ first ∷ [];
-  run = rw (← replicate_more count events.Keep) (run-push old mid new (replicate count events.Keep) (kept.before ++ first ∷ []) events.Keep second kept.run step);
+  run = rw (← replicate_more count events.Keep)
+      (run-push old mid new (replicate count events.Keep)
+      (kept.before ++ first ∷ []) events.Keep second kept.run step);
 }

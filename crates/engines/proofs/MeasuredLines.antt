@@ -1,5 +1,7 @@
 -- The line of a row's distances is that of its nearest obstacles.
-use Rattle.std.proofs.Common.{◌≡◌, ℕ, ◌+◌, ◌-◌, ◌*◌, ◌<◌, ◌≤◌, ◌==◌, suc, List, [], ◌∷◌, ◌++◌, map, false, Option, Some, None, refl, sym, subst, ap, arith, slice_index_or}
+use Rattle.std.proofs.Common.{◌≡◌, ℕ, ◌+◌, ◌-◌, ◌*◌, ◌<◌, ◌≤◌, ◌==◌, suc, List, [], ◌∷◌, ◌++◌, map}
+use Rattle.std.proofs.Common.{false, Option, Some, None, refl, sym, subst, ap, arith}
+use Rattle.std.proofs.Common.{slice_index_or}
 use Rattle.std.proofs.Math.Nat.{mul-le-mul}
 use Rattle.std.specs.List.{join_with_byte, flat_map, slice_range}
 use Rattle.metric.specs.Kind.{distance_of}
@@ -14,21 +16,30 @@ use Rattle.engines.proofs.Lines.{join_with_byte-cons}
 
 -- in a table whose first row is row 0 a row stands where its number says
 pub row_of_table : {A : Type 0} (nears : List A) (y y0 across width : ℕ) → y0 ≡ 0 → across ≡ width
-    → slice_range nears ((y - y0) * across) ((y - y0) * across + across) ≡ slice_range nears (y * width) (y * width + width)
+    → slice_range nears ((y - y0) * across) ((y - y0) * across + across)
+    ≡ slice_range nears (y * width) (y * width + width)
 row_of_table nears y y0 across width from same =
     let here : y - y0 ≡ y = omega (arith, from) in
     rw (here, same) refl
 
--- measured numbers are the distances of the nearest obstacles, where all distances are below the number that stands for none
-pub AreDistances-measured : (distance : ℕ → ℕ → ℕ) (nears : List (Option Near)) (numbers : List ℕ) → IsBelowNone distance → AreMeasured distance nears numbers → AreDistances nears numbers
+-- measured numbers are the distances of the nearest obstacles, where all distances are below the
+-- number that stands for none
+pub AreDistances-measured : (distance : ℕ → ℕ → ℕ) (nears : List (Option Near)) (numbers : List ℕ)
+    → IsBelowNone distance → AreMeasured distance nears numbers → AreDistances nears numbers
 AreDistances-measured distance nears numbers below are = record {
   as_many = are.as_many;
-  each = λ x inside. one (slice_index_or nears x None) (slice_index_or numbers x 0) (are.each x inside);
+  each = λ x inside. one (slice_index_or nears x None) (slice_index_or numbers x 0)
+      (are.each x inside);
 }
   where
-    one : (near : Option Near) (number : ℕ) → IsMeasured distance near number → IsDistanceOf near number
+    one : (near : Option Near) (number : ℕ) → IsMeasured distance near number
+        → IsDistanceOf near number
     one None number is = is
-    one (Some near) number (is, far) = (is, subst (λ (n : ℕ). n < 4294967295) (sym far.is) (below far.columns far.rows far.few_columns far.few_rows))
+    one (Some near) number (is, far) = (
+      is,
+      subst (λ (n : ℕ). n < 4294967295) (sym far.is)
+          (below far.columns far.rows far.few_columns far.few_rows),
+    )
 
 -- each metric's distances are below the number that stands for none
 pub below_none : (metric : MetricKind) → IsBelowNone (distance_of metric)
@@ -40,7 +51,8 @@ below_none City columns rows across down = omega arith
 below_none Chess columns rows across down = omega arith
 
 -- what is printed for a distance is what is printed for its nearest obstacle
-distance_text-near : (near : Option Near) (number : ℕ) → IsDistanceOf near number → distance_text number ≡ entry_text false near
+distance_text-near : (near : Option Near) (number : ℕ) → IsDistanceOf near number
+    → distance_text number ≡ entry_text false near
 distance_text-near None number is = rw is refl
 distance_text-near (Some near) number is =
     let less = is.1 in
@@ -48,20 +60,32 @@ distance_text-near (Some near) number is =
     rw (other, is.0) refl
 
 -- what is printed for each distance of a line is what is printed for each of its nearest obstacles
-entries_text : (nears : List (Option Near)) (numbers : List ℕ) → AreDistances nears numbers → map distance_text numbers ≡ map (entry_text false) nears
+entries_text : (nears : List (Option Near)) (numbers : List ℕ) → AreDistances nears numbers
+    → map distance_text numbers ≡ map (entry_text false) nears
 entries_text [] [] are = refl
 entries_text [] (number ∷ numbers) are = let many = are.as_many in absurd (omega (arith, many))
 entries_text (near ∷ nears) [] are = let many = are.as_many in absurd (omega (arith, many))
 entries_text (near ∷ nears) (number ∷ numbers) are =
     let many = are.as_many in
-    let first : distance_text number ≡ entry_text false near = distance_text-near near number (are.each 0 (omega arith)) in
-    let others : map distance_text numbers ≡ map (entry_text false) nears = entries_text nears numbers (record { as_many = omega (arith, many); each = λ x inside. are.each (suc x) (omega (arith, inside)) }) in
+    let first : distance_text number ≡ entry_text false near =
+    distance_text-near near number (are.each 0 (omega arith)) in
+    let others : map distance_text numbers ≡ map (entry_text false) nears =
+    entries_text nears numbers
+    (record {
+      as_many = omega (arith, many);
+      each = λ x inside. are.each (suc x) (omega (arith, inside));
+    }) in
     rw (first, others) refl
 
 -- the line of the distances is that of the nearest obstacles
-pub distances_line-nears : (nears : List (Option Near)) (numbers : List ℕ) → AreDistances nears numbers → distances_line numbers ≡ row_line false nears
-distances_line-nears nears numbers are = ap (λ entries. join_with_byte 32 entries ++ 10 ∷ []) (entries_text nears numbers are)
+pub distances_line-nears : (nears : List (Option Near)) (numbers : List ℕ)
+    → AreDistances nears numbers → distances_line numbers ≡ row_line false nears
+distances_line-nears nears numbers are =
+    ap (λ entries. join_with_byte 32 entries ++ 10 ∷ []) (entries_text nears numbers are)
 
 -- the line of a row's distances is the first of them, then each other one after a blank, and LF
-pub distances_line-cons : (first : ℕ) (others : List ℕ) → distances_line (first ∷ others) ≡ (distance_text first ++ flat_map (λ distance. 32 ∷ distance_text distance) others) ++ 10 ∷ []
-distances_line-cons first others = ap (λ t. t ++ 10 ∷ []) (join_with_byte-cons 32 distance_text first others)
+pub distances_line-cons : (first : ℕ) (others : List ℕ)
+    → distances_line (first ∷ others)
+    ≡ (distance_text first ++ flat_map (λ distance. 32 ∷ distance_text distance) others) ++ 10 ∷ []
+distances_line-cons first others =
+    ap (λ t. t ++ 10 ∷ []) (join_with_byte-cons 32 distance_text first others)

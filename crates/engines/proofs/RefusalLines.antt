@@ -5,7 +5,8 @@ use Rattle.metric.specs.Stream.{Appends, AppendsFront}
 use Rattle.metric.proofs.Appending.{AppendsFront-more}
 
 -- a prefix of the first text is a prefix of both
-pub front_first : (before after : Option (List ℕ)) (first second : List ℕ) → AppendsFront before first after → AppendsFront before (first ++ second) after
+pub front_first : (before after : Option (List ℕ)) (first second : List ℕ)
+    → AppendsFront before first after → AppendsFront before (first ++ second) after
 front_first before after first second part = record {
   front = part.front;
   back = part.back ++ second;
@@ -14,5 +15,8 @@ front_first before after first second part = record {
 }
 
 -- the first text, and a prefix of the second, are a prefix of both
-pub front_second : (before between after : Option (List ℕ)) (first second : List ℕ) → Appends before first between → AppendsFront between second after → AppendsFront before (first ++ second) after
-front_second before between after first second one two = rw (← append-nil second) (AppendsFront-more before between after first second [] one two)
+pub front_second : (before between after : Option (List ℕ)) (first second : List ℕ)
+    → Appends before first between → AppendsFront between second after
+    → AppendsFront before (first ++ second) after
+front_second before between after first second one two =
+    rw (← append-nil second) (AppendsFront-more before between after first second [] one two)

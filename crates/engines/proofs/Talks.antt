@@ -9,7 +9,8 @@ use Rattle.metric.specs.Stream.{Appends, AppendsFront, Takes}
 use Rattle.metric.proofs.Appending.{Appends-more, Appends-nothing}
 use Rattle.metric.proofs.Taking.{Takes-nothing, Takes-behind}
 use Rattle.engines.specs.ask.Asking.{IsRequest}
-use Rattle.engines.specs.ask.Talking.{Breaks, Converses, Exchange, Exchanges, IsCutOff, IsExchange, IsLastLine, IsReplyTo, Talk}
+use Rattle.engines.specs.ask.Talking.{Breaks, Converses, Exchange, Exchanges, IsCutOff, IsExchange}
+use Rattle.engines.specs.ask.Talking.{IsLastLine, IsReplyTo, Talk}
 use Rattle.engines.specs.streams.Passing.{stop_text}
 use Rattle.engines.specs.declared.ask.Stop.{Stop}
 use Rattle.engines.specs.declared.ask.Stop.TheVariants as stops
@@ -26,11 +27,15 @@ Exchanges-nothing talk = record {
 }
 
 -- a request that was read and sent, and its reply, which was received and printed, are one exchange
-pub Exchanges-one : (before after : Talk) (request reply : List ℕ) → IsRequest request → IsReplyTo request reply → Takes before.unread request after.unread → Appends before.sent request after.sent
-    → Takes before.unheard reply after.unheard → Appends before.printed reply after.printed → Exchanges before after
+pub Exchanges-one : (before after : Talk) (request reply : List ℕ) → IsRequest request
+    → IsReplyTo request reply → Takes before.unread request after.unread
+    → Appends before.sent request after.sent
+    → Takes before.unheard reply after.unheard → Appends before.printed reply after.printed
+    → Exchanges before after
 Exchanges-one before after request reply request_is reply_is read sent heard printed = record {
   exchanges = record { request = request; reply = reply } ∷ [];
-  are = All-cons IsExchange record { request = request; reply = reply } [] record { request_is = request_is; reply_is = reply_is } (All-nil IsExchange);
+  are = All-cons IsExchange record { request = request; reply = reply } []
+      record { request_is = request_is; reply_is = reply_is } (All-nil IsExchange);
   read = rw (append-nil request) read;
   sent = rw (append-nil request) sent;
   heard = rw (append-nil reply) heard;
@@ -38,25 +43,33 @@ Exchanges-one before after request reply request_is reply_is read sent heard pri
 }
 
 -- the bytes of two lists of exchanges are those of both lists, one after the other
-bytes-append : (part : Exchange → List ℕ) (one two : List Exchange) → concat (map part (one ++ two)) ≡ concat (map part one) ++ concat (map part two)
-bytes-append part one two = ap concat (map-append part one two) ∙ concat-append (map part one) (map part two)
+bytes-append : (part : Exchange → List ℕ) (one two : List Exchange)
+    → concat (map part (one ++ two)) ≡ concat (map part one) ++ concat (map part two)
+bytes-append part one two =
+    ap concat (map-append part one two) ∙ concat-append (map part one) (map part two)
 
 -- exchanges, and then more of them, are exchanges
-pub Exchanges-both : (before between after : Talk) → Exchanges before between → Exchanges between after → Exchanges before after
+pub Exchanges-both : (before between after : Talk) → Exchanges before between
+    → Exchanges between after → Exchanges before after
 Exchanges-both before between after one two =
     let requests = sym (bytes-append (λ e. e.request) one.exchanges two.exchanges) in
     let replies = sym (bytes-append (λ e. e.reply) one.exchanges two.exchanges) in
     record {
       exchanges = one.exchanges ++ two.exchanges;
       are = All-append IsExchange one.exchanges two.exchanges one.are two.are;
-      read = subst (λ (t : List ℕ). Takes before.unread t after.unread) requests (Takes-behind before.unread between.unread after.unread _ _ one.read two.read);
-      sent = subst (λ (t : List ℕ). Appends before.sent t after.sent) requests (Appends-more before.sent between.sent after.sent _ _ one.sent two.sent);
-      heard = subst (λ (t : List ℕ). Takes before.unheard t after.unheard) replies (Takes-behind before.unheard between.unheard after.unheard _ _ one.heard two.heard);
-      printed = subst (λ (t : List ℕ). Appends before.printed t after.printed) replies (Appends-more before.printed between.printed after.printed _ _ one.printed two.printed);
+      read = subst (λ (t : List ℕ). Takes before.unread t after.unread) requests
+          (Takes-behind before.unread between.unread after.unread _ _ one.read two.read);
+      sent = subst (λ (t : List ℕ). Appends before.sent t after.sent) requests
+          (Appends-more before.sent between.sent after.sent _ _ one.sent two.sent);
+      heard = subst (λ (t : List ℕ). Takes before.unheard t after.unheard) replies
+          (Takes-behind before.unheard between.unheard after.unheard _ _ one.heard two.heard);
+      printed = subst (λ (t : List ℕ). Appends before.printed t after.printed) replies
+          (Appends-more before.printed between.printed after.printed _ _ one.printed two.printed);
     }
 
 -- exchanges, and then some that end with one that is cut off, are exchanges that end so
-pub Breaks-behind : (before between after : Talk) → Exchanges before between → Breaks between after → Breaks before after
+pub Breaks-behind : (before between after : Talk) → Exchanges before between → Breaks between after
+    → Breaks before after
 Breaks-behind before between after one two = record {
   between = two.between;
   exchanges = Exchanges-both before between two.between one two.exchanges;
@@ -65,35 +78,64 @@ Breaks-behind before between after one two = record {
 
 -- where one exchange was begun and cut off, no other was
 pub Breaks-first : (before after : Talk) → IsCutOff before after → Breaks before after
-Breaks-first before after cut = record { between = before; exchanges = Exchanges-nothing before; cut = cut }
+Breaks-first before after cut =
+    record { between = before; exchanges = Exchanges-nothing before; cut = cut }
 
 -- after whole exchanges, the next one was cut off before anything of it was read
 pub Breaks-none : (before after : Talk) → Exchanges before after → Breaks before after
 Breaks-none before after all = record {
   between = after;
   exchanges = all;
-  cut = inl record { part = []; read = Takes-nothing after.unread; sent = refl; heard = refl; printed = refl };
+  cut = inl record {
+    part = [];
+    read = Takes-nothing after.unread;
+    sent = refl;
+    heard = refl;
+    printed = refl;
+  };
 }
 
 -- an exchange whose request wasn't sent whole, or whose reply wasn't received whole, was cut off so
-pub cut_off_wire : (before after : Talk) (request : List ℕ) → IsRequest request → Takes before.unread request after.unread → AppendsFront before.sent request after.sent
-    → ((part : List ℕ) × Takes before.unheard part after.unheard) → (after.unheard ≡ before.unheard) ⊎ Appends before.sent request after.sent → after.printed ≡ before.printed → IsCutOff before after
+pub cut_off_wire : (before after : Talk) (request : List ℕ) → IsRequest request
+    → Takes before.unread request after.unread → AppendsFront before.sent request after.sent
+    → ((part : List ℕ) × Takes before.unheard part after.unheard) → (after.unheard ≡ before.unheard)
+    ⊎ Appends before.sent request after.sent → after.printed ≡ before.printed
+    → IsCutOff before after
 cut_off_wire before after request is read front some (inl none) printed =
-    inr (inl record { request = request; request_is = is; read = read; sent = front; heard = none; printed = printed })
+    inr (inl record {
+      request = request;
+      request_is = is;
+      read = read;
+      sent = front;
+      heard = none;
+      printed = printed;
+    })
 cut_off_wire before after request is read front some (inr sent) printed =
-    inr (inr (inl record { request = request; part = some.0; request_is = is; read = read; sent = sent; heard = some.1; printed = printed }))
+    inr (inr (inl record {
+      request = request;
+      part = some.0;
+      request_is = is;
+      read = read;
+      sent = sent;
+      heard = some.1;
+      printed = printed;
+    }))
 
 -- an exchange whose reply wasn't printed whole was cut off so
-pub cut_off_printing : (before after : Talk) (request reply : List ℕ) → IsRequest request → IsReplyTo request reply → Takes before.unread request after.unread → Appends before.sent request after.sent
-    → Takes before.unheard reply after.unheard → AppendsFront before.printed reply after.printed → IsCutOff before after
-cut_off_printing before after request reply request_is reply_is read sent heard printed = inr (inr (inr record {
-  exchange = record { request = request; reply = reply };
-  whole = record { request_is = request_is; reply_is = reply_is };
-  read = read;
-  sent = sent;
-  heard = heard;
-  printed = printed;
-}))
+pub cut_off_printing : (before after : Talk) (request reply : List ℕ) → IsRequest request
+    → IsReplyTo request reply → Takes before.unread request after.unread
+    → Appends before.sent request after.sent
+    → Takes before.unheard reply after.unheard → AppendsFront before.printed reply after.printed
+    → IsCutOff before after
+cut_off_printing before after request reply request_is reply_is read sent heard printed =
+    inr (inr (inr record {
+      exchange = record { request = request; reply = reply };
+      whole = record { request_is = request_is; reply_is = reply_is };
+      read = read;
+      sent = sent;
+      heard = heard;
+      printed = printed;
+    }))
 
 -- what a run of `ask` tells at its end is one of its lines, or nothing
 last_line : (stop : Stop) → IsLastLine (stop_text stop)
@@ -102,10 +144,21 @@ last_line stops.Net = inr (inl refl)
 last_line stops.Memory = inr (inr refl)
 
 -- a run that stops tells no more than why
-pub Converses-stop : (before cut after : Talk) (stop : Stop) → Breaks before cut → AppendsFront cut.printed (stop_text stop) after.printed → after.unread ≡ cut.unread → after.sent ≡ cut.sent → after.unheard ≡ cut.unheard
+pub Converses-stop : (before cut after : Talk) (stop : Stop) → Breaks before cut
+    → AppendsFront cut.printed (stop_text stop) after.printed → after.unread ≡ cut.unread
+    → after.sent ≡ cut.sent → after.unheard ≡ cut.unheard
     → Converses before after
 Converses-stop before cut after stop breaks told unread sent unheard =
-    record { cut = cut; line = stop_text stop; breaks = breaks; line_is = last_line stop; told = told; unread = unread; sent = sent; unheard = unheard }
+    record {
+      cut = cut;
+      line = stop_text stop;
+      breaks = breaks;
+      line_is = last_line stop;
+      told = told;
+      unread = unread;
+      sent = sent;
+      unheard = unheard;
+    }
 
 -- a run that is done tells nothing more
 pub Converses-done : (before after : Talk) → Breaks before after → Converses before after

@@ -1,9 +1,11 @@
 //! The command `ask`: sends lines to a server, and prints its replies.
 
-ghost use Rattle.std.specs.Prelude.{◌≡◌, ◌≢◌, ◌≤◌, ◌+◌, ◌++◌, ◌∷◌, [], IfOk, OnOk, OnErr, IfErr, Err, Ok, true, false, bytes_eq, codes};
+ghost use Rattle.std.specs.Prelude.{◌≡◌, ◌≢◌, ◌≤◌, ◌+◌, ◌++◌, ◌∷◌, [], IfOk, OnOk, OnErr, IfErr};
+ghost use Rattle.std.specs.Prelude.{Err, Ok, true, false, bytes_eq, codes};
 ghost use Rattle.metric.specs.Stream.{Appends, AppendsFront, CanFail, Counts};
 ghost use Rattle.engines.specs.ask.Talking.{Breaks, Converses, Exchanges, talk_at};
-ghost use Rattle.engines.specs.streams.Passing.{Asks, AsksAll, BreaksOff, EndsEarly, PassesFront, PassesOn, stop_text};
+ghost use Rattle.engines.specs.streams.Passing.{Asks, AsksAll, BreaksOff, EndsEarly, PassesFront};
+ghost use Rattle.engines.specs.streams.Passing.{PassesOn, stop_text};
 ghost use Rattle.engines.specs.declared.ask.Stop.TheVariants.{Net, Standard};
 
 mod exchange;
@@ -46,34 +48,44 @@ pub fn ask_run<S: Stream, R: Source, W: Sink>(
     requires writer { CanFail (W.failed_writes writer.old) }
 
     // What was sent is a prefix of what was read.
-    ensures sent { PassesFront (R.rest reader.old) (R.rest reader.new) (S.held stream.old) (S.held stream.new) }
+    ensures sent { PassesFront (R.rest reader.old) (R.rest reader.new) (S.held stream.old)
+        (S.held stream.new) }
 
     // A run that succeeds has sent each request that there was, until the server said BYE.
-    ensures asked { result ≡ 0 → AsksAll (R.rest reader.old) (R.rest reader.new) (S.held stream.old) (S.held stream.new)
+    ensures asked { result ≡ 0
+        → AsksAll (R.rest reader.old) (R.rest reader.new) (S.held stream.old) (S.held stream.new)
         (W.held writer.old) (W.held writer.new) }
 
     // A run that succeeds has written all that the server said, and nothing else.
-    ensures printed { result ≡ 0 → PassesOn (S.rest stream.old) (S.rest stream.new) (W.held writer.old) (W.held writer.new) }
+    ensures printed { result ≡ 0
+        → PassesOn (S.rest stream.old) (S.rest stream.new) (W.held writer.old) (W.held writer.new) }
     ensures well { result ≡ 0 → (R.failed_reads reader.new ≡ R.failed_reads reader.old)
         × (W.failed_writes writer.new ≡ W.failed_writes writer.old)
-        × (S.failed_reads stream.new ≡ S.failed_reads stream.old) × (S.failed_writes stream.new ≡ S.failed_writes stream.old) }
+        × (S.failed_reads stream.new ≡ S.failed_reads stream.old)
+        × (S.failed_writes stream.new ≡ S.failed_writes stream.old) }
 
     // If a read failed, a prefix of that was written, and nothing after it.
     ensures failed_read { R.failed_reads reader.new ≢ R.failed_reads reader.old
-        → PassesFront (S.rest stream.old) (S.rest stream.new) (W.held writer.old) (W.held writer.new) × (result ≡ 1) }
+        → PassesFront (S.rest stream.old) (S.rest stream.new) (W.held writer.old)
+        (W.held writer.new) × (result ≡ 1) }
 
     // If a write failed, a prefix of that was written, and after it at most a prefix of why the run
     // ended.
     ensures failed_write { W.failed_writes writer.new ≢ W.failed_writes writer.old
-        → BreaksOff ((S.failed_reads stream.new ≡ S.failed_reads stream.old) × (S.failed_writes stream.new ≡ S.failed_writes stream.old))
-        (S.rest stream.old) (S.rest stream.new) (W.held writer.old) (W.held writer.new) × (result ≡ 1) }
+        → BreaksOff ((S.failed_reads stream.new ≡ S.failed_reads stream.old)
+        × (S.failed_writes stream.new ≡ S.failed_writes stream.old))
+        (S.rest stream.old) (S.rest stream.new) (W.held writer.old) (W.held writer.new)
+        × (result ≡ 1) }
 
     // If neither failed, a run that doesn't succeed has written a prefix of that, and after it the
     // line of why it ended.
-    ensures ended { R.failed_reads reader.new ≡ R.failed_reads reader.old → W.failed_writes writer.new ≡ W.failed_writes writer.old
+    ensures ended { R.failed_reads reader.new ≡ R.failed_reads reader.old
+        → W.failed_writes writer.new ≡ W.failed_writes writer.old
         → result ≢ 0
-        → EndsEarly ((S.failed_reads stream.new ≡ S.failed_reads stream.old) × (S.failed_writes stream.new ≡ S.failed_writes stream.old))
-        (S.rest stream.old) (S.rest stream.new) (W.held writer.old) (W.held writer.new) × (result ≡ 1) }
+        → EndsEarly ((S.failed_reads stream.new ≡ S.failed_reads stream.old)
+        × (S.failed_writes stream.new ≡ S.failed_writes stream.old))
+        (S.rest stream.old) (S.rest stream.new) (W.held writer.old) (W.held writer.new)
+        × (result ≡ 1) }
     // Each request was sent after the reply to the one before it was received and printed.
     ensures order { Converses
         (talk_at (R.rest reader.old) (S.held stream.old) (S.rest stream.old) (W.held writer.old))
@@ -107,7 +119,8 @@ fn write_end<W: Sink>(writer: &mut W, stop: Stop) -> Result<u8, WriteFault>
     requires { stop ≢ Standard → CanFail (W.failed_writes writer.old) }
     ensures status { IfOk result (λ status. status ≡ 1) }
     ensures whole { OnOk result (Appends (W.held writer.old) (stop_text stop) (W.held writer.new)) }
-    ensures front { OnErr result (AppendsFront (W.held writer.old) (stop_text stop) (W.held writer.new)) }
+    ensures front { OnErr result
+        (AppendsFront (W.held writer.old) (stop_text stop) (W.held writer.new)) }
     ensures counts { Counts (W.failed_writes writer.old) result (W.failed_writes writer.new) }
     ensures standard { stop ≡ Standard → writer.new ≡ writer.old }
 {
@@ -144,16 +157,24 @@ fn ask_lines<S: Stream, R: Source, W: Sink>(
     requires stream_writes { CanFail (S.failed_writes stream.old) }
     requires reader { CanFail (R.failed_reads reader.old) }
     requires writer { CanFail (W.failed_writes writer.old) }
-    ensures sent { PassesFront (R.rest reader.old) (R.rest reader.new) (S.held stream.old) (S.held stream.new) }
-    ensures printed { OnOk result (PassesOn (S.rest stream.old) (S.rest stream.new) (W.held writer.old) (W.held writer.new)) }
-    ensures cut { OnErr result (PassesFront (S.rest stream.old) (S.rest stream.new) (W.held writer.old) (W.held writer.new)) }
-    ensures stream_reads { result ≢ Err Net → S.failed_reads stream.new ≡ S.failed_reads stream.old }
-    ensures stream_writes { result ≢ Err Net → S.failed_writes stream.new ≡ S.failed_writes stream.old }
+    ensures sent { PassesFront (R.rest reader.old) (R.rest reader.new) (S.held stream.old)
+        (S.held stream.new) }
+    ensures printed { OnOk result
+        (PassesOn (S.rest stream.old) (S.rest stream.new) (W.held writer.old) (W.held writer.new)) }
+    ensures cut { OnErr result
+        (PassesFront (S.rest stream.old) (S.rest stream.new) (W.held writer.old)
+        (W.held writer.new)) }
+    ensures stream_reads { result ≢ Err Net
+        → S.failed_reads stream.new ≡ S.failed_reads stream.old }
+    ensures stream_writes { result ≢ Err Net
+        → S.failed_writes stream.new ≡ S.failed_writes stream.old }
     ensures reader { result ≢ Err Standard → R.failed_reads reader.new ≡ R.failed_reads reader.old }
-    ensures writer { result ≢ Err Standard → W.failed_writes writer.new ≡ W.failed_writes writer.old }
+    ensures writer { result ≢ Err Standard
+        → W.failed_writes writer.new ≡ W.failed_writes writer.old }
     ensures failed { result ≡ Err Standard → R.failed_reads reader.new + W.failed_writes writer.new
         ≡ R.failed_reads reader.old + W.failed_writes writer.old + 1 }
-    ensures asked { OnOk result (AsksAll (R.rest reader.old) (R.rest reader.new) (S.held stream.old) (S.held stream.new)
+    ensures asked { OnOk result
+        (AsksAll (R.rest reader.old) (R.rest reader.new) (S.held stream.old) (S.held stream.new)
         (W.held writer.old) (W.held writer.new)) }
     ensures order { Breaks
         (talk_at (R.rest reader.old) (S.held stream.old) (S.rest stream.old) (W.held writer.old))
@@ -180,16 +201,25 @@ fn ask_line<S: Stream, R: Source, W: Sink>(
     requires stream_writes { CanFail (S.failed_writes stream.old) }
     requires reader { CanFail (R.failed_reads reader.old) }
     requires writer { CanFail (W.failed_writes writer.old) }
-    ensures went { result ≡ Ok true → Asks (R.rest reader.old) (R.rest reader.new) (S.held stream.old) (S.held stream.new) }
-    ensures over { result ≡ Ok false → AsksAll (R.rest reader.old) (R.rest reader.new) (S.held stream.old) (S.held stream.new)
+    ensures went { result ≡ Ok true
+        → Asks (R.rest reader.old) (R.rest reader.new) (S.held stream.old) (S.held stream.new) }
+    ensures over { result ≡ Ok false
+        → AsksAll (R.rest reader.old) (R.rest reader.new) (S.held stream.old) (S.held stream.new)
         (W.held writer.old) (W.held writer.new) }
-    ensures sent { PassesFront (R.rest reader.old) (R.rest reader.new) (S.held stream.old) (S.held stream.new) }
-    ensures printed { OnOk result (PassesOn (S.rest stream.old) (S.rest stream.new) (W.held writer.old) (W.held writer.new)) }
-    ensures cut { OnErr result (PassesFront (S.rest stream.old) (S.rest stream.new) (W.held writer.old) (W.held writer.new)) }
-    ensures stream_reads { result ≢ Err Net → S.failed_reads stream.new ≡ S.failed_reads stream.old }
-    ensures stream_writes { result ≢ Err Net → S.failed_writes stream.new ≡ S.failed_writes stream.old }
+    ensures sent { PassesFront (R.rest reader.old) (R.rest reader.new) (S.held stream.old)
+        (S.held stream.new) }
+    ensures printed { OnOk result
+        (PassesOn (S.rest stream.old) (S.rest stream.new) (W.held writer.old) (W.held writer.new)) }
+    ensures cut { OnErr result
+        (PassesFront (S.rest stream.old) (S.rest stream.new) (W.held writer.old)
+        (W.held writer.new)) }
+    ensures stream_reads { result ≢ Err Net
+        → S.failed_reads stream.new ≡ S.failed_reads stream.old }
+    ensures stream_writes { result ≢ Err Net
+        → S.failed_writes stream.new ≡ S.failed_writes stream.old }
     ensures reader { result ≢ Err Standard → R.failed_reads reader.new ≡ R.failed_reads reader.old }
-    ensures writer { result ≢ Err Standard → W.failed_writes writer.new ≡ W.failed_writes writer.old }
+    ensures writer { result ≢ Err Standard
+        → W.failed_writes writer.new ≡ W.failed_writes writer.old }
     ensures failed { result ≡ Err Standard → R.failed_reads reader.new + W.failed_writes writer.new
         ≡ R.failed_reads reader.old + W.failed_writes writer.old + 1 }
     ensures exchanged { result ≡ Ok true → Exchanges

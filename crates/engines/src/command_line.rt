@@ -1,13 +1,18 @@
 //! The words that the program accepts, by `clap`.
 
-ghost use Rattle.std.specs.Prelude.{◌≡◌, ℕ, List, [], ◌∷◌, IfOk, IfErr, OnErr, MatchResult, true, false, map, option_and_then, Some, None, codes};
-ghost use Rattle.clap.specs.Words.{HasMatchesOf, app_of, first_of, first_value, found_of, kind_of, rows_of, rule_of, takes};
+ghost use Rattle.std.specs.Prelude.{◌≡◌, ℕ, List, [], ◌∷◌, IfOk, IfErr, OnErr, MatchResult, true};
+ghost use Rattle.std.specs.Prelude.{false, map, option_and_then, Some, None, codes};
+ghost use Rattle.clap.specs.Words.{HasMatchesOf, app_of, first_of, first_value, found_of, kind_of};
+ghost use Rattle.clap.specs.Words.{rows_of, rule_of, takes};
 ghost use Rattle.clap.specs.declared.builder.command.Command.TheViews.{out-Command};
 ghost use Rattle.clap.specs.declared.error.kind.ErrorKind.TheVariants.{OutOfMemory};
 ghost use Rattle.metric.specs.Kind.{metric_named};
 ghost use Rattle.engines.specs.declared.command_line.arguments.Fault.TheVariants.{Memory};
 ghost use Rattle.engines.specs.declared.command_line.arguments.Options.TheVariants.{Dist, Steps};
-ghost use Rattle.engines.specs.words.CommandLine.{AreDistOptions, AreNoDistOptions, AreOptions, AreTaken, default_options, dist_app, metric_rule, nearest_rule, program_app, query_rule, steps_app, texts_of};
+ghost use Rattle.engines.specs.words.CommandLine.{AreDistOptions, AreNoDistOptions, AreOptions};
+ghost use Rattle.engines.specs.words.CommandLine.{AreTaken, default_options, dist_app, metric_rule};
+ghost use Rattle.engines.specs.words.CommandLine.{nearest_rule, program_app, query_rule, steps_app};
+ghost use Rattle.engines.specs.words.CommandLine.{texts_of};
 ghost use Rattle.engines.specs.words.ServeLine.{default_rule};
 
 pub mod arguments;
@@ -66,7 +71,8 @@ fn dist_options<'a>(flags: &ArgMatches<'a>) -> Result<DistOptions<'a>, Fault<'a>
 
 /// The metric that `--metric` names.
 fn metric_given(flags: &ArgMatches<'_>) -> Option<MetricKind>
-    ensures { result ≡ option_and_then metric_named (first_value (found_of flags.now) (codes "metric")) }
+    ensures { result ≡ option_and_then metric_named
+        (first_value (found_of flags.now) (codes "metric")) }
 {
     flags
         .get_str("metric")
@@ -76,7 +82,8 @@ fn metric_given(flags: &ArgMatches<'_>) -> Option<MetricKind>
 /// What the words say, by the program's commands and flags.
 fn matches_of<'a>(alloc: Global, words: &'a [&'a str]) -> Result<ArgMatches<'a>, Error>
     ensures found { IfOk result (HasMatchesOf program_app (texts_of words.entry.now)) }
-    ensures passes { IfErr result (λ error. takes program_app (texts_of words.entry.now) ≡ true → kind_of error ≡ OutOfMemory) }
+    ensures passes { IfErr result (λ error. takes program_app (texts_of words.entry.now) ≡ true
+        → kind_of error ≡ OutOfMemory) }
 {
     program(alloc)?.try_get_matches_from(words)
 }

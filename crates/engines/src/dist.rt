@@ -4,7 +4,8 @@ ghost use Rattle.std.specs.Prelude.{◌≡◌, ◌≢◌, ◌+◌, ◌≤◌, �
 ghost use Rattle.metric.specs.Kind.{distance_of};
 ghost use Rattle.metric.specs.Refusal.{image_text};
 ghost use Rattle.metric.specs.Stream.{Appends, AppendsFront, Counts, CanFail};
-ghost use Rattle.engines.specs.dist.Dist.{AnswersImage, AnswersMap, BeginsToAnswerImage, BeginsToAnswerMap};
+ghost use Rattle.engines.specs.dist.Dist.{AnswersImage, AnswersMap, BeginsToAnswerImage};
+ghost use Rattle.engines.specs.dist.Dist.{BeginsToAnswerMap};
 ghost use Rattle.engines.specs.dist.Parts.{AreShares};
 ghost use Rattle.engines.specs.dist.Table.{table_text};
 
@@ -52,17 +53,22 @@ pub fn dist_run<R: Source, W: Sink, T: Threads + Sync>(
     requires writer { CanFail (W.failed_writes writer.old) }
 
     // If no call failed, the whole answer was written.
-    ensures answers { R.failed_reads reader.new ≡ R.failed_reads reader.old → W.failed_writes writer.new ≡ W.failed_writes writer.old
-        → AnswersImage options.now (R.rest reader.old) (W.held writer.old) (W.held writer.new) result }
+    ensures answers { R.failed_reads reader.new ≡ R.failed_reads reader.old
+        → W.failed_writes writer.new ≡ W.failed_writes writer.old
+        → AnswersImage options.now (R.rest reader.old) (W.held writer.old)
+        (W.held writer.new) result }
 
     // If a read failed, nothing was written.
     ensures failed_read { R.failed_reads reader.new ≢ R.failed_reads reader.old
-        → (W.held writer.new ≡ W.held writer.old) × (W.failed_writes writer.new ≡ W.failed_writes writer.old) × (result ≡ 1) }
+        → (W.held writer.new ≡ W.held writer.old)
+        × (W.failed_writes writer.new ≡ W.failed_writes writer.old) × (result ≡ 1) }
 
     // If a write failed, a prefix of the answer was written.
     ensures failed_write { W.failed_writes writer.new ≢ W.failed_writes writer.old
-        → BeginsToAnswerImage options.now (R.rest reader.old) (W.held writer.old) (W.held writer.new) × (result ≡ 1) }
-    ensures one_failure { R.failed_reads reader.new + W.failed_writes writer.new ≤ R.failed_reads reader.old + W.failed_writes writer.old + 1 }
+        → BeginsToAnswerImage options.now (R.rest reader.old) (W.held writer.old)
+        (W.held writer.new) × (result ≡ 1) }
+    ensures one_failure { R.failed_reads reader.new + W.failed_writes writer.new
+        ≤ R.failed_reads reader.old + W.failed_writes writer.old + 1 }
 {
     match read_source(alloc, reader) {
         Ok(map) => write_answer(rt, alloc, options, &map, writer).unwrap_or(REFUSED),
@@ -81,8 +87,10 @@ fn write_answer<W: Sink, T: Threads + Sync>(
     writer: &mut W,
 ) -> Result<u8, WriteFault>
     requires { CanFail (W.failed_writes writer.old) }
-    ensures whole { IfOk result (AnswersMap options.now map.now (W.held writer.old) (W.held writer.new)) }
-    ensures front { OnErr result (BeginsToAnswerMap options.now map.now (W.held writer.old) (W.held writer.new)) }
+    ensures whole { IfOk result
+        (AnswersMap options.now map.now (W.held writer.old) (W.held writer.new)) }
+    ensures front { OnErr result
+        (BeginsToAnswerMap options.now map.now (W.held writer.old) (W.held writer.new)) }
     ensures counts { Counts (W.failed_writes writer.old) result (W.failed_writes writer.new) }
 {
     match options.query {
@@ -109,8 +117,10 @@ fn write_map<M: Metric + Sync, W: Sink, T: Threads + Sync>(
     requires writer { CanFail (W.failed_writes writer.old) }
     requires table { options.now.query ≡ None }
     requires metric { M.distance ≡ distance_of options.now.metric }
-    ensures whole { IfOk result (AnswersMap options.now map.now (W.held writer.old) (W.held writer.new)) }
-    ensures front { OnErr result (BeginsToAnswerMap options.now map.now (W.held writer.old) (W.held writer.new)) }
+    ensures whole { IfOk result
+        (AnswersMap options.now map.now (W.held writer.old) (W.held writer.new)) }
+    ensures front { OnErr result
+        (BeginsToAnswerMap options.now map.now (W.held writer.old) (W.held writer.new)) }
     ensures counts { Counts (W.failed_writes writer.old) result (W.failed_writes writer.new) }
 {
     let workers = workers_of(options.workers);
@@ -143,9 +153,11 @@ fn write_rows<M: Metric + Sync, W: Sink, T: Threads + Sync>(
         print.free.items }
     ensures status { IfOk result (λ status. status ≡ 0) }
     ensures whole { OnOk result (Appends (W.held writer.old) (table_text print.printer.nearest
-        print.printer.table.width print.printer.table.height print.printer.table.nears) (W.held writer.new)) }
+        print.printer.table.width print.printer.table.height print.printer.table.nears)
+        (W.held writer.new)) }
     ensures front { OnErr result (AppendsFront (W.held writer.old) (table_text print.printer.nearest
-        print.printer.table.width print.printer.table.height print.printer.table.nears) (W.held writer.new)) }
+        print.printer.table.width print.printer.table.height print.printer.table.nears)
+        (W.held writer.new)) }
     ensures counts { Counts (W.failed_writes writer.old) result (W.failed_writes writer.new) }
 {
     let mut print = print;
@@ -158,8 +170,10 @@ fn write_rows<M: Metric + Sync, W: Sink, T: Threads + Sync>(
 fn write_fault<W: Sink>(writer: &mut W, fault: PbmFault) -> Result<u8, WriteFault>
     requires { CanFail (W.failed_writes writer.old) }
     ensures status { IfOk result (λ status. status ≡ 1) }
-    ensures whole { OnOk result (Appends (W.held writer.old) (image_text fault ++ 10 ∷ []) (W.held writer.new)) }
-    ensures front { OnErr result (AppendsFront (W.held writer.old) (image_text fault ++ 10 ∷ []) (W.held writer.new)) }
+    ensures whole { OnOk result
+        (Appends (W.held writer.old) (image_text fault ++ 10 ∷ []) (W.held writer.new)) }
+    ensures front { OnErr result
+        (AppendsFront (W.held writer.old) (image_text fault ++ 10 ∷ []) (W.held writer.new)) }
     ensures counts { Counts (W.failed_writes writer.old) result (W.failed_writes writer.new) }
 {
     write_refusal(writer, Refusal::BadImage(fault))

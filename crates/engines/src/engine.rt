@@ -35,23 +35,29 @@ pub fn run_words<R: Source, W: Sink, E: Sink, T: Threads + Sync>(
 
     // If no call failed, the words were run, or the reason why not was reported.
     ensures done { R.failed_reads reader.new ≡ R.failed_reads reader.old
-        → W.failed_writes writer.new ≡ W.failed_writes writer.old → E.failed_writes errors.new ≡ E.failed_writes errors.old
-        → IsRunOf (texts_of words.entry.now) (R.rest reader.old) (W.held writer.old) (W.held writer.new) (E.held errors.old)
+        → W.failed_writes writer.new ≡ W.failed_writes writer.old
+        → E.failed_writes errors.new ≡ E.failed_writes errors.old
+        → IsRunOf (texts_of words.entry.now) (R.rest reader.old) (W.held writer.old)
+        (W.held writer.new) (E.held errors.old)
         (E.held errors.new) result }
 
     // If a read failed, nothing was written.
     ensures failed_read { R.failed_reads reader.new ≢ R.failed_reads reader.old
-        → (W.held writer.new ≡ W.held writer.old) × (E.held errors.new ≡ E.held errors.old) × (result ≡ 1) }
+        → (W.held writer.new ≡ W.held writer.old) × (E.held errors.new ≡ E.held errors.old)
+        × (result ≡ 1) }
 
     // If a write failed, a prefix of what these words ask for was written.
     ensures failed_write { W.failed_writes writer.new ≢ W.failed_writes writer.old
-        → BeginsRunOf (texts_of words.entry.now) (R.rest reader.old) (W.held writer.old) (W.held writer.new)
+        → BeginsRunOf (texts_of words.entry.now) (R.rest reader.old) (W.held writer.old)
+        (W.held writer.new)
         × (E.held errors.new ≡ E.held errors.old) × (result ≡ 1) }
 
     // If the mistake couldn't be reported, a prefix of its text was.
     ensures failed_error { E.failed_writes errors.new ≢ E.failed_writes errors.old
-        → Begins (E.held errors.old) (E.held errors.new) × (W.held writer.new ≡ W.held writer.old) × (result ≡ 1) }
-    ensures one_failure { R.failed_reads reader.new + W.failed_writes writer.new + E.failed_writes errors.new
+        → Begins (E.held errors.old) (E.held errors.new) × (W.held writer.new ≡ W.held writer.old)
+        × (result ≡ 1) }
+    ensures one_failure { R.failed_reads reader.new + W.failed_writes writer.new
+        + E.failed_writes errors.new
         ≤ R.failed_reads reader.old + W.failed_writes writer.old + E.failed_writes errors.old + 1 }
 {
     run_said(rt, alloc, options(alloc, words), reader, writer, errors)
@@ -70,16 +76,21 @@ pub fn run_said<R: Source, W: Sink, E: Sink, T: Threads + Sync>(
     requires writer { CanFail (W.failed_writes writer.old) }
     requires errors { CanFail (E.failed_writes errors.old) }
     ensures done { R.failed_reads reader.new ≡ R.failed_reads reader.old
-        → W.failed_writes writer.new ≡ W.failed_writes writer.old → E.failed_writes errors.new ≡ E.failed_writes errors.old
-        → IsDoneFor said.entry (R.rest reader.old) (W.held writer.old) (W.held writer.new) (E.held errors.old) (E.held errors.new) result }
+        → W.failed_writes writer.new ≡ W.failed_writes writer.old
+        → E.failed_writes errors.new ≡ E.failed_writes errors.old
+        → IsDoneFor said.entry (R.rest reader.old) (W.held writer.old) (W.held writer.new)
+        (E.held errors.old) (E.held errors.new) result }
     ensures failed_read { R.failed_reads reader.new ≢ R.failed_reads reader.old
-        → (W.held writer.new ≡ W.held writer.old) × (E.held errors.new ≡ E.held errors.old) × (result ≡ 1) }
+        → (W.held writer.new ≡ W.held writer.old) × (E.held errors.new ≡ E.held errors.old)
+        × (result ≡ 1) }
     ensures failed_write { W.failed_writes writer.new ≢ W.failed_writes writer.old
         → BeginsFor said.entry (R.rest reader.old) (W.held writer.old) (W.held writer.new)
         × (E.held errors.new ≡ E.held errors.old) × (result ≡ 1) }
     ensures failed_error { E.failed_writes errors.new ≢ E.failed_writes errors.old
-        → IsErr said.entry × Begins (E.held errors.old) (E.held errors.new) × (W.held writer.new ≡ W.held writer.old) × (result ≡ 1) }
-    ensures one_failure { R.failed_reads reader.new + W.failed_writes writer.new + E.failed_writes errors.new
+        → IsErr said.entry × Begins (E.held errors.old) (E.held errors.new)
+        × (W.held writer.new ≡ W.held writer.old) × (result ≡ 1) }
+    ensures one_failure { R.failed_reads reader.new + W.failed_writes writer.new
+        + E.failed_writes errors.new
         ≤ R.failed_reads reader.old + W.failed_writes writer.old + E.failed_writes errors.old + 1 }
 {
     match said {

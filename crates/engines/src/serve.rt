@@ -7,7 +7,8 @@ ghost use Rattle.metric.specs.Stream.{CanFail, Counts};
 ghost use Rattle.metric.specs.declared.refusal.Refusal.TheVariants.{BadSetting};
 ghost use Rattle.bits.specs.Tiles.{tile_count};
 ghost use Rattle.map_core.specs.Setting.{bad_field};
-ghost use Rattle.engines.specs.serve.Serving.{BeginsServed, WritesOnly, WritesServed, setting_served};
+ghost use Rattle.engines.specs.serve.Serving.{BeginsServed, WritesOnly, WritesServed};
+ghost use Rattle.engines.specs.serve.Serving.{setting_served};
 
 mod accepted;
 mod lines;
@@ -96,7 +97,8 @@ pub fn serve_run<R: Clock + Wait + Threads + Sync, W: Sink>(
 
     // If the setting is out of its limits, nothing is served, and one line says so.
     ensures setting { IfSome (bad_field (tile_count map) (setting_served options.now)) (λ field.
-        WritesOnly (refusal_text (BadSetting field) ++ 10 ∷ []) (W.failed_writes writer.old) (W.failed_writes writer.new)
+        WritesOnly (refusal_text (BadSetting field) ++ 10 ∷ []) (W.failed_writes writer.old)
+        (W.failed_writes writer.new)
         (W.held writer.old) (W.held writer.new) × (result ≡ 1)) }
 
     // Otherwise the port is printed, and how many connections were served; or why nothing is
@@ -106,7 +108,8 @@ pub fn serve_run<R: Clock + Wait + Threads + Sync, W: Sink>(
         → WritesServed place.port place.connections (W.held writer.old) (W.held writer.new) result }
     ensures failed { bad_field (tile_count map) (setting_served options.now) ≡ None
         → W.failed_writes writer.new ≢ W.failed_writes writer.old
-        → BeginsServed place.port place.connections (W.held writer.old) (W.held writer.new) × (result ≡ 1) }
+        → BeginsServed place.port place.connections (W.held writer.old) (W.held writer.new)
+        × (result ≡ 1) }
     ensures one_failure { W.failed_writes writer.new ≤ W.failed_writes writer.old + 1 }
 {
     serve_at(rt, alloc, place, map, options.setting(), writer).unwrap_or(REFUSED)
@@ -123,12 +126,15 @@ fn serve_at<R: Clock + Wait + Threads + Sync, W: Sink>(
 ) -> Result<u8, WriteFault>
     requires { CanFail (W.failed_writes writer.old) }
     ensures setting { IfSome (bad_field (tile_count map) setting) (λ field.
-        WritesOnly (refusal_text (BadSetting field) ++ 10 ∷ []) (W.failed_writes writer.old) (W.failed_writes writer.new)
+        WritesOnly (refusal_text (BadSetting field) ++ 10 ∷ []) (W.failed_writes writer.old)
+        (W.failed_writes writer.new)
         (W.held writer.old) (W.held writer.new) × IfOk result (λ status. status ≡ 1)) }
     ensures served { bad_field (tile_count map) setting ≡ None
-        → IfOk result (WritesServed place.port place.connections (W.held writer.old) (W.held writer.new)) }
+        → IfOk result (WritesServed place.port place.connections (W.held writer.old)
+        (W.held writer.new)) }
     ensures begun { bad_field (tile_count map) setting ≡ None
-        → OnErr result (BeginsServed place.port place.connections (W.held writer.old) (W.held writer.new)) }
+        → OnErr result (BeginsServed place.port place.connections (W.held writer.old)
+        (W.held writer.new)) }
     ensures counts { Counts (W.failed_writes writer.old) result (W.failed_writes writer.new) }
 {
     match Blank::of(alloc, setting, map) {
@@ -147,8 +153,10 @@ fn serve_blank<Id: StoreName + Send + Sync, R: Clock + Wait + Threads + Sync, W:
 ) -> Result<u8, WriteFault>
     requires name { blank ≡ Id.store }
     requires writer { CanFail (W.failed_writes writer.old) }
-    ensures served { IfOk result (WritesServed place.port place.connections (W.held writer.old) (W.held writer.new)) }
-    ensures begun { OnErr result (BeginsServed place.port place.connections (W.held writer.old) (W.held writer.new)) }
+    ensures served { IfOk result
+        (WritesServed place.port place.connections (W.held writer.old) (W.held writer.new)) }
+    ensures begun { OnErr result
+        (BeginsServed place.port place.connections (W.held writer.old) (W.held writer.new)) }
     ensures counts { Counts (W.failed_writes writer.old) result (W.failed_writes writer.new) }
 {
     match Store::<Id>::open(alloc, blank) {
@@ -170,8 +178,10 @@ fn serve_store<Id: StoreName + Send + Sync, R: Clock + Wait + Threads + Sync, W:
     writer: &mut W,
 ) -> Result<u8, WriteFault>
     requires { CanFail (W.failed_writes writer.old) }
-    ensures served { IfOk result (WritesServed place.port place.connections (W.held writer.old) (W.held writer.new)) }
-    ensures begun { OnErr result (BeginsServed place.port place.connections (W.held writer.old) (W.held writer.new)) }
+    ensures served { IfOk result
+        (WritesServed place.port place.connections (W.held writer.old) (W.held writer.new)) }
+    ensures begun { OnErr result
+        (BeginsServed place.port place.connections (W.held writer.old) (W.held writer.new)) }
     ensures counts { Counts (W.failed_writes writer.old) result (W.failed_writes writer.new) }
 {
     let mut text = match Text::new(alloc) {

@@ -27,16 +27,19 @@ pub fn steps_run<R: Source, W: Sink>(alloc: Global, reader: &mut R, writer: &mut
     requires writer { CanFail (W.failed_writes writer.old) }
 
     // If no call failed, each line has its answer.
-    ensures answers { R.failed_reads reader.new ≡ R.failed_reads reader.old → W.failed_writes writer.new ≡ W.failed_writes writer.old
+    ensures answers { R.failed_reads reader.new ≡ R.failed_reads reader.old
+        → W.failed_writes writer.new ≡ W.failed_writes writer.old
         → AnswersText (R.rest reader.old) (W.held writer.old) (W.held writer.new) result }
 
     // If a read failed, nothing was written.
     ensures failed_read { R.failed_reads reader.new ≢ R.failed_reads reader.old
-        → (W.held writer.new ≡ W.held writer.old) × (W.failed_writes writer.new ≡ W.failed_writes writer.old) × (result ≡ 1) }
+        → (W.held writer.new ≡ W.held writer.old)
+        × (W.failed_writes writer.new ≡ W.failed_writes writer.old) × (result ≡ 1) }
 
     // If a write failed, a prefix of the answers to a prefix of the lines was written.
     ensures failed_write { W.failed_writes writer.new ≢ W.failed_writes writer.old
-        → BeginsToAnswerText (R.rest reader.old) (W.held writer.old) (W.held writer.new) × (result ≡ 1) }
+        → BeginsToAnswerText (R.rest reader.old) (W.held writer.old) (W.held writer.new)
+        × (result ≡ 1) }
     ensures one_failure { R.failed_reads reader.new + W.failed_writes writer.new
         ≤ R.failed_reads reader.old + W.failed_writes writer.old + 1 }
 {

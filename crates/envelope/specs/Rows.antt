@@ -11,11 +11,16 @@ use Rattle.bits.specs.Edges.{IsBlocked}
 use Rattle.envelope.specs.Answer.{Reading}
 
 -- the nearest obstacles of the first cells of row y, from the left, or none
-pub record AreRowNears (distance : ℕ → ℕ → ℕ) (cells : Cells) (edge : Edge) (y count : ℕ) (nears : List (Option Near)) : Type 0 where
+pub record AreRowNears (distance : ℕ → ℕ → ℕ) (cells : Cells) (edge : Edge) (y count : ℕ)
+    (nears : List (Option Near)) : Type 0 where
   pub as_many : length nears ≡ count
-  pub each : (x : ℕ) → x < count → IsNear distance (IsBlocked cells edge) x y (slice_index_or nears x None)
+  pub each : (x : ℕ) → x < count
+      → IsNear distance (IsBlocked cells edge) x y (slice_index_or nears x None)
 
 -- the answers are the nearest obstacles of the first cells of row y, from the left, or none
-pub record AreRowAnswers {T : Type 0} (told : Reading T) (nothing : T) (distance : ℕ → ℕ → ℕ) (cells : Cells) (edge : Edge) (y count : ℕ) (answers : List T) : Type 0 where
+pub record AreRowAnswers {T : Type 0} (told : Reading T) (nothing : T) (distance : ℕ → ℕ → ℕ)
+    (cells : Cells) (edge : Edge) (y count : ℕ) (answers : List T) : Type 0 where
   pub as_many : length answers ≡ count
-  pub each : (x : ℕ) → x < count → IsNear distance (IsBlocked cells edge) x y (told distance x y (slice_index_or answers x nothing))
+  pub each : (x : ℕ) → x < count
+      → IsNear distance (IsBlocked cells edge) x y
+      (told distance x y (slice_index_or answers x nothing))

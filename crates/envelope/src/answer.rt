@@ -25,7 +25,8 @@ pub trait CellAnswer: Copy {
         requires column { near.cell.x ≤ℤ pos 4097 }
         requires top { negsuc 0 ≤ℤ near.cell.y }
         requires row { near.cell.y ≤ℤ pos 4097 }
-        ensures { (distance : ℕ → ℕ → ℕ) (x y : ℕ) → near.dist ≡ spot_distance distance x y near.cell.x near.cell.y
+        ensures { (distance : ℕ → ℕ → ℕ) (x y : ℕ)
+            → near.dist ≡ spot_distance distance x y near.cell.x near.cell.y
             → told distance x y result ≡ Some near };
 
     /// `nothing` means no obstacle.

@@ -7,7 +7,8 @@
 //! columns without an obstacle, have the part for no obstacle. A column is named by its offset
 //! from 128 columns to the left of the cell.
 
-ghost use Rattle.std.specs.Prelude.{◌≡◌, ℕ, negsuc, pos, ◌+◌, ◌-◌, ◌*◌, ◌≤ℤ◌, ◌<◌, ◌≤◌, ◌⊎◌, length, slice_index, slice_index_or, Some, IfSome};
+ghost use Rattle.std.specs.Prelude.{◌≡◌, ℕ, negsuc, pos, ◌+◌, ◌-◌, ◌*◌, ◌≤ℤ◌, ◌<◌, ◌≤◌, ◌⊎◌};
+ghost use Rattle.std.specs.Prelude.{length, slice_index, slice_index_or, Some, IfSome};
 ghost use Rattle.metric.specs.Edge.{shift, spot_of};
 ghost use Rattle.envelope.specs.Beside.{AreBestNear, AreDecided, AreColumnParts, AreSmall, AreTold};
 ghost use Rattle.envelope.specs.Columns.{AreEntries, AreNearColumns, IsNearColumn};
@@ -203,8 +204,10 @@ fn search<M: Metric>(parts: &[u16], at: usize, most: u16) -> Option<(Eight, Eigh
     requires small { AreSmall parts.now }
     requires left { 128 ≤ at }
     requires right { at + 144 ≤ length parts.now }
-    ensures low { IfSome result (λ both. AreDecided M.distance M.joined parts.now at both.0.best both.0.away) }
-    ensures high { IfSome result (λ both. AreDecided M.distance M.joined parts.now (at + 8) both.1.best both.1.away) }
+    ensures low { IfSome result
+        (λ both. AreDecided M.distance M.joined parts.now at both.0.best both.0.away) }
+    ensures high { IfSome result
+        (λ both. AreDecided M.distance M.joined parts.now (at + 8) both.1.best both.1.away) }
 {
     let mut low = look_here::<M>(parts, at);
     let mut high = look_here::<M>(parts, at + 8);
@@ -290,7 +293,8 @@ fn fill_eight<M: Metric, A: CellAnswer, B: Border>(
     requires row { shift B.EDGE ≤ y }
     requires width { length answers.old + 2 * shift B.EDGE ≡ length entries.now }
     requires start { start ≤ 4113 }
-    requires told { AreTold M.distance entries.now y B.EDGE (start + shift B.EDGE) eight.best eight.away }
+    requires told { AreTold M.distance entries.now y B.EDGE
+        (start + shift B.EDGE) eight.best eight.away }
     ensures len { length answers.new ≡ length answers.old }
     ensures filled { (x : ℕ) → start ≤ x → x < start + 8 → x < length answers.old
         → IsNearColumn M.distance entries.now y B.EDGE (x + shift B.EDGE)
@@ -317,7 +321,10 @@ fn near(entries: &[u16], edge: Edge, x: usize, best: u16, away: u16) -> Near
     requires cell { x ≤ LAST_FRAMED }
     requires inside { x + away - 128 < length entries.now }
     requires row { slice_index entries.now (x + away - 128) ≤ LAST_FRAMED }
-    ensures near { result ≡ record { dist = best; cell = spot_of edge (x + away - 128) (slice_index entries.now (x + away - 128)) } }
+    ensures near { result ≡ record {
+      dist = best;
+      cell = spot_of edge (x + away - 128) (slice_index entries.now (x + away - 128));
+    } }
     ensures left { negsuc 0 ≤ℤ result.cell.x }
     ensures column { result.cell.x ≤ℤ pos LAST_FRAMED }
     ensures top { negsuc 0 ≤ℤ result.cell.y }

@@ -58,7 +58,8 @@ fn put_on<M: Metric>(
     requires room { length entries.now ≤ length spans.old }
     requires column { IsColumnFrom entries.now piece.first (length entries.now) column }
     requires few { count ≤ column }
-    requires covered { IsCovered M.distance (gap_of entries.now y) (IsColumnFrom entries.now piece.first column) spans.old count piece.end }
+    requires covered { IsCovered M.distance (gap_of entries.now y)
+        (IsColumnFrom entries.now piece.first column) spans.old count piece.end }
     ensures few { result ≤ column + 1 }
     ensures covered { IsCovered M.distance (gap_of entries.now y)
         (IsColumnFrom entries.now piece.first (column + 1)) spans.new result piece.end }
@@ -80,7 +81,8 @@ fn start_of<M: Metric>(entries: &[u16], y: u16, column: u16, spans: &[Span], kep
     requires entries { AreEntries entries.now y }
     requires room { kept ≤ length spans.now }
     requires column { IsAmong entries.now (length entries.now) column }
-    requires top { 0 < kept → let top = span_at spans.now (kept - 1) in AreColumns top.column top.gap column (gap_of entries.now y column) }
+    requires top { 0 < kept → let top = span_at spans.now (kept - 1) in
+        AreColumns top.column top.gap column (gap_of entries.now y column) }
     ensures { IsStart M.distance (gap_of entries.now y) spans.now kept column result }
 {
     if kept == 0 {

@@ -1,9 +1,11 @@
 //! Reads the spans of a piece of a row back: each cell with its nearest obstacle.
 
-ghost use Rattle.std.specs.Prelude.{◌≡◌, ℕ, negsuc, pos, ◌+◌, ◌-◌, ◌*◌, ◌<◌, ◌≤◌, ◌≤ℤ◌, ◌⊎◌, length, slice_index_or, Some};
+ghost use Rattle.std.specs.Prelude.{◌≡◌, ℕ, negsuc, pos, ◌+◌, ◌-◌, ◌*◌, ◌<◌, ◌≤◌, ◌≤ℤ◌, ◌⊎◌};
+ghost use Rattle.std.specs.Prelude.{length, slice_index_or, Some};
 ghost use Rattle.metric.specs.Edge.{shift};
 ghost use Rattle.metric.specs.Nearest.{spot_distance};
-ghost use Rattle.envelope.specs.Columns.{AreEntries, IsAmong, IsColumnFrom, IsNearColumn, gap_of, near_from};
+ghost use Rattle.envelope.specs.Columns.{AreEntries, IsAmong, IsColumnFrom, IsNearColumn, gap_of};
+ghost use Rattle.envelope.specs.Columns.{near_from};
 ghost use Rattle.envelope.specs.Envelope.{IsCovered};
 ghost use Rattle.envelope.specs.Pieces.{IsEnough, IsPiece};
 
@@ -32,7 +34,8 @@ pub fn fill<M: Metric, A: CellAnswer, B: Border>(
     requires width { length answers.old + 2 * shift B.EDGE ≡ length entries.now }
     requires covered { IsCovered M.distance (gap_of entries.now y)
         (IsColumnFrom entries.now piece.first piece.last) spans.now (length spans.now) piece.end }
-    ensures filled { (x : ℕ) → piece.from ≤ x + shift B.EDGE → x + shift B.EDGE < piece.end → x < length answers.old
+    ensures filled { (x : ℕ) → piece.from ≤ x + shift B.EDGE → x + shift B.EDGE < piece.end
+        → x < length answers.old
         → IsNearColumn M.distance entries.now y B.EDGE (x + shift B.EDGE)
         (A.told M.distance x (y - shift B.EDGE) (slice_index_or answers.new x A.nothing)) }
     ensures others { (x : ℕ) → (x + shift B.EDGE < piece.from) ⊎ (piece.end ≤ x + shift B.EDGE)
@@ -57,8 +60,10 @@ pub fn fill<M: Metric, A: CellAnswer, B: Border>(
 /// Fills these cells with none.
 fn fill_none<A: CellAnswer>(from: usize, end: usize, answers: &mut [A])
     requires within { end ≤ length answers.old }
-    ensures none { (x : ℕ) → from ≤ x → x < end → slice_index_or answers.new x A.nothing ≡ A.nothing }
-    ensures others { (x : ℕ) → (x < from) ⊎ (end ≤ x) → slice_index_or answers.new x A.nothing ≡ slice_index_or answers.old x A.nothing }
+    ensures none { (x : ℕ) → from ≤ x → x < end
+        → slice_index_or answers.new x A.nothing ≡ A.nothing }
+    ensures others { (x : ℕ) → (x < from) ⊎ (end ≤ x)
+        → slice_index_or answers.new x A.nothing ≡ slice_index_or answers.old x A.nothing }
 {
     for x in from..end {
         answers[x] = A::none();
@@ -80,8 +85,10 @@ fn fill_span<M: Metric, A: CellAnswer, B: Border>(
     requires row { shift B.EDGE ≤ y }
     requires width { length answers.old + 2 * shift B.EDGE ≡ length entries.now }
     requires within { end ≤ length entries.now }
-    ensures filled { (x : ℕ) → span.start ≤ x + shift B.EDGE → from ≤ x + shift B.EDGE → x + shift B.EDGE < end
-        → x < length answers.old → A.told M.distance x (y - shift B.EDGE) (slice_index_or answers.new x A.nothing)
+    ensures filled { (x : ℕ) → span.start ≤ x + shift B.EDGE → from ≤ x + shift B.EDGE
+        → x + shift B.EDGE < end
+        → x < length answers.old
+        → A.told M.distance x (y - shift B.EDGE) (slice_index_or answers.new x A.nothing)
         ≡ Some (near_from M.distance entries.now y B.EDGE span.column (x + shift B.EDGE)) }
     ensures others { (x : ℕ) → (x + shift B.EDGE < from) ⊎ (end ≤ x + shift B.EDGE)
         → slice_index_or answers.new x A.nothing ≡ slice_index_or answers.old x A.nothing }

@@ -1,6 +1,7 @@
 //! Vectors of eight 16-bit numbers: the lanes of the row phase without branches.
 
-ghost use Rattle.std.specs.Prelude.{◌≡◌, ℕ, ◌+◌, ◌<◌, ◌≤◌, ◌==◌, min, length, slice_index, true, if◌then◌else◌};
+ghost use Rattle.std.specs.Prelude.{◌≡◌, ℕ, ◌+◌, ◌<◌, ◌≤◌, ◌==◌, min, length, slice_index, true};
+ghost use Rattle.std.specs.Prelude.{if◌then◌else◌};
 
 use std::simd::prelude::*;
 
@@ -32,7 +33,8 @@ pub fn least(a: u16x8, b: u16x8) -> u16x8
 /// In each of eight lanes, the first number if `a` and `b` are equal, otherwise the second.
 #[inline(always)]
 pub fn chosen(a: u16x8, b: u16x8, equal: u16x8, other: u16x8) -> u16x8
-    ensures { (i : ℕ) → i < 8 → slice_index result i ≡ (if slice_index a i == slice_index b i then slice_index equal i
+    ensures { (i : ℕ) → i < 8
+        → slice_index result i ≡ (if slice_index a i == slice_index b i then slice_index equal i
         else slice_index other i) }
 {
     a.simd_eq(b).select(equal, other)

@@ -35,7 +35,8 @@ pub fn fill_piece<M: Metric, A: CellAnswer, B: Border>(
     requires enough { IsEnough M.distance entries.now y piece }
     requires room { length entries.now ≤ length spans.old }
     requires width { length answers.old + 2 * shift B.EDGE ≡ length entries.now }
-    ensures filled { (x : ℕ) → piece.from ≤ x + shift B.EDGE → x + shift B.EDGE < piece.end → x < length answers.old
+    ensures filled { (x : ℕ) → piece.from ≤ x + shift B.EDGE → x + shift B.EDGE < piece.end
+        → x < length answers.old
         → IsNearColumn M.distance entries.now y B.EDGE (x + shift B.EDGE)
         (A.told M.distance x (y - shift B.EDGE) (slice_index_or answers.new x A.nothing)) }
     ensures others { (x : ℕ) → (x + shift B.EDGE < piece.from) ⊎ (piece.end ≤ x + shift B.EDGE)

@@ -6,11 +6,13 @@
 //! that order, and in the bits below it the column's number. The least word so far is that of the
 //! nearest column, and of the left one of two equally near.
 
-ghost use Rattle.std.specs.Prelude.{◌≡◌, ◌≢◌, ℕ, negsuc, pos, ◌+◌, ◌-◌, ◌*◌, ◌/◌, ◌%◌, ◌<◌, ◌≤◌, ◌≤ℤ◌, length, min, slice_index, true};
+ghost use Rattle.std.specs.Prelude.{◌≡◌, ◌≢◌, ℕ, negsuc, pos, ◌+◌, ◌-◌, ◌*◌, ◌/◌, ◌%◌, ◌<◌, ◌≤◌};
+ghost use Rattle.std.specs.Prelude.{◌≤ℤ◌, length, min, slice_index, true};
 ghost use Rattle.metric.specs.Distance.{IsSum};
 ghost use Rattle.metric.specs.Edge.{shift, spot_of};
 ghost use Rattle.envelope.specs.Columns.{AreEntries, AreNearColumns};
-ghost use Rattle.envelope.specs.Scans.{AreLeftLeast, AreRightLeast, AreToldBy, HasColumn, IsLeast, left_word, right_word, word_of};
+ghost use Rattle.envelope.specs.Scans.{AreLeftLeast, AreRightLeast, AreToldBy, HasColumn, IsLeast};
+ghost use Rattle.envelope.specs.Scans.{left_word, right_word, word_of};
 
 use crate::answer::CellAnswer;
 use crate::border::Border;
@@ -86,8 +88,10 @@ fn set_words(entries: &[u16], y: u16, left: &mut [u32], right: &mut [u32])
     requires few { length entries.now ≤ 4098 }
     requires left { length entries.now ≤ length left.old }
     requires right { length entries.now ≤ length right.old }
-    ensures left { (column : ℕ) → column < length entries.now → slice_index left.new column ≡ left_word entries.now y column }
-    ensures right { (column : ℕ) → column < length entries.now → slice_index right.new column ≡ right_word entries.now y column }
+    ensures left { (column : ℕ) → column < length entries.now
+        → slice_index left.new column ≡ left_word entries.now y column }
+    ensures right { (column : ℕ) → column < length entries.now
+        → slice_index right.new column ≡ right_word entries.now y column }
 {
     'columns: for column in 0..entries.len() {
         let entry = entries[column];
@@ -117,8 +121,10 @@ fn word(entry: u16, far: u32, column: u32) -> u32
 fn scan(count: usize, left: &mut [u32], right: &mut [u32])
     requires left { count ≤ length left.old }
     requires right { count ≤ length right.old }
-    ensures left { (x : ℕ) → x < count → IsLeast (λ place. slice_index left.old place) 0 (x + 1) (slice_index left.new x) }
-    ensures right { (x : ℕ) → x < count → IsLeast (λ place. slice_index right.old place) x count (slice_index right.new x) }
+    ensures left { (x : ℕ) → x < count
+        → IsLeast (λ place. slice_index left.old place) 0 (x + 1) (slice_index left.new x) }
+    ensures right { (x : ℕ) → x < count
+        → IsLeast (λ place. slice_index right.old place) x count (slice_index right.new x) }
 {
     let (mut low, mut high) = (NO_WORD, NO_WORD);
     'places: for place in 0..count {
@@ -193,7 +199,10 @@ fn near_of(entries: &[u16], edge: Edge, word: u32) -> Near
     requires inside { word % 8192 < length entries.now }
     requires few { length entries.now ≤ 4098 }
     requires row { slice_index entries.now (word % 8192) ≤ 4097 }
-    ensures near { result ≡ record { dist = word / 8192; cell = spot_of edge (word % 8192) (slice_index entries.now (word % 8192)) } }
+    ensures near { result ≡ record {
+      dist = word / 8192;
+      cell = spot_of edge (word % 8192) (slice_index entries.now (word % 8192));
+    } }
     ensures left { negsuc 0 ≤ℤ result.cell.x }
     ensures column { result.cell.x ≤ℤ pos 4097 }
     ensures top { negsuc 0 ≤ℤ result.cell.y }

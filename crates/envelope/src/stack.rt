@@ -51,7 +51,9 @@ impl Model for Stack {
 
     ghost view = { λ stack. length stack.spans.items };
 
-    ghost invariant = { λ stack. (length stack.parts.items ≡ length stack.spans.items + 272) × (length stack.left.items ≡ length stack.spans.items) × (length stack.right.items ≡ length stack.spans.items) };
+    ghost invariant = { λ stack. (length stack.parts.items ≡ length stack.spans.items + 272)
+        × (length stack.left.items ≡ length stack.spans.items)
+        × (length stack.right.items ≡ length stack.spans.items) };
 }
 
 impl Stack {
@@ -84,7 +86,8 @@ pub fn row<M: Metric>(table: &ColumnTable, y: u16, stack: &mut Stack, nears: &mu
     requires row { y < table.now.cells.height }
     requires stack { table.now.cells.width + 2 * shift table.now.edge ≤ stack.old }
     requires width { length nears.old ≡ table.now.cells.width }
-    ensures nears { AreRowNears M.distance table.now.cells table.now.edge y table.now.cells.width nears.new }
+    ensures nears { AreRowNears M.distance table.now.cells table.now.edge y table.now.cells.width
+        nears.new }
     ensures stack { stack.new ≡ stack.old }
 {
     let edge = table.edge();
@@ -108,7 +111,8 @@ pub fn row_from<M: Metric, A: CellAnswer>(
     requires row { shift edge ≤ y }
     requires stack { length entries.now ≤ stack.old }
     requires width { length answers.old + 2 * shift edge ≡ length entries.now }
-    ensures answers { (cells : Cells) (row : ℕ) → IsBitmap cells → row < cells.height → y ≡ row + shift edge
+    ensures answers { (cells : Cells) (row : ℕ) → IsBitmap cells → row < cells.height
+        → y ≡ row + shift edge
         → IsRowOfTable (framed edge cells) y entries.now
         → AreRowAnswers A.told A.nothing M.distance cells edge row cells.width answers.new }
     ensures stack { stack.new ≡ stack.old }

@@ -29,13 +29,19 @@ pub record HasRoom {T : Type 0} (cells : Cells) (from to : ℕ) (answers : List 
 
 -- there is room for the answers of a batch's bands after the first `above`, up to band `below`
 abbrev pub HasBandRoom : {T : Type 0} → Batch → ℕ → ℕ → ℕ → List T → Type 0
-HasBandRoom batch count above below answers = HasRoom batch.bitmap.now (row_behind batch.y0 batch.y1 count above) (row_behind batch.y0 batch.y1 count below) answers
+HasBandRoom batch count above below answers =
+    HasRoom batch.bitmap.now (row_behind batch.y0 batch.y1 count above)
+    (row_behind batch.y0 batch.y1 count below) answers
 
 -- the first answers are the nearest obstacles of the cells of rows `from` to `to - 1`, in order
-pub record AreFilled {T : Type 0} (told : Reading T) (nothing : T) (distance : ℕ → ℕ → ℕ) (cells : Cells) (edge : Edge) (from to : ℕ) (answers : List T) : Type 0 where
-  pub each : (x y : ℕ) → x < cells.width → from ≤ y → y < to → IsNear distance (IsBlocked cells edge) x y (told distance x y (slice_index_or answers ((y - from) * cells.width + x) nothing))
+pub record AreFilled {T : Type 0} (told : Reading T) (nothing : T) (distance : ℕ → ℕ → ℕ)
+    (cells : Cells) (edge : Edge) (from to : ℕ) (answers : List T) : Type 0 where
+  pub each : (x y : ℕ) → x < cells.width → from ≤ y → y < to
+      → IsNear distance (IsBlocked cells edge) x y
+      (told distance x y (slice_index_or answers ((y - from) * cells.width + x) nothing))
 
 -- the answers are the nearest obstacles of all cells of rows `from` to `to - 1`
-pub record AreAnswers {T : Type 0} (told : Reading T) (nothing : T) (distance : ℕ → ℕ → ℕ) (cells : Cells) (edge : Edge) (from to : ℕ) (answers : List T) : Type 0 where
+pub record AreAnswers {T : Type 0} (told : Reading T) (nothing : T) (distance : ℕ → ℕ → ℕ)
+    (cells : Cells) (edge : Edge) (from to : ℕ) (answers : List T) : Type 0 where
   pub as_many : length answers ≡ (to - from) * cells.width
   pub filled : AreFilled told nothing distance cells edge from to answers

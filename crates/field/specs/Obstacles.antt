@@ -1,6 +1,8 @@
 -- A table that keeps only the position of each cell's nearest obstacle, from which the distance
 -- follows: this project's own rule.
-use Rattle.std.specs.Prelude.{◌≡◌, ℕ, ℤ, pos, negsuc, ◌<ℤ◌, ◌≤ℤ◌, int_lt, ◌+◌, ◌-◌, ◌*◌, ◌/◌, ◌%◌, ◌<◌, ◌≤◌, [], List, length, map, min, slice_index_or, Option, Some, None, if◌then◌else◌}
+use Rattle.std.specs.Prelude.{◌≡◌, ℕ, ℤ, pos, negsuc, ◌<ℤ◌, ◌≤ℤ◌, int_lt, ◌+◌, ◌-◌, ◌*◌, ◌/◌, ◌%◌}
+use Rattle.std.specs.Prelude.{◌<◌, ◌≤◌, [], List, length, map, min, slice_index_or, Option, Some}
+use Rattle.std.specs.Prelude.{None, if◌then◌else◌}
 use Rattle.std.specs.List.{range_with_len}
 use Rattle.metric.specs.declared.spot.Spot.{Spot}
 use Rattle.metric.specs.declared.near.Near.{Near}
@@ -20,7 +22,8 @@ pub record IsKeptSpot (x y : ℤ) : Type 0 where
 -- the obstacle seen from cell (x, y), or none
 abbrev pub seen_from : (ℕ → ℕ → ℕ) → ℕ → ℕ → Option Spot → Option Near
 seen_from distance x y None = None
-seen_from distance x y (Some spot) = Some (record { dist = spot_distance distance x y spot.x spot.y; cell = spot })
+seen_from distance x y (Some spot) =
+    Some (record { dist = spot_distance distance x y spot.x spot.y; cell = spot })
 
 -- a table has the obstacles of rows y0 to y1 - 1, in row-major order
 pub record Obstacles : Type 0 where
@@ -42,21 +45,27 @@ rows_before rows height strip = min rows (strip * height)
 
 -- the cell at this index, in row-major order, in strips of this height with rows of this width
 abbrev pub cell_in : ℕ → ℕ → List (List (Option Spot)) → ℕ → Option Spot
-cell_in width height strips place = slice_index_or (slice_index_or strips (place / (height * width)) []) (place % (height * width)) None
+cell_in width height strips place =
+    slice_index_or (slice_index_or strips (place / (height * width)) [])
+    (place % (height * width)) None
 
 -- the cells of this many rows in strips, in row-major order
 abbrev pub cells_in : ℕ → ℕ → ℕ → List (List (Option Spot)) → List (Option Spot)
-cells_in width height rows strips = map (cell_in width height strips) (range_with_len 0 (rows * width))
+cells_in width height rows strips =
+    map (cell_in width height strips) (range_with_len 0 (rows * width))
 
 -- the strips of this height hold this many rows of this width
 pub record AreStrips (width height rows : ℕ) (strips : List (List (Option Spot))) : Type 0 where
   pub some : 1 ≤ height
   pub enough : rows ≤ length strips * height
-  pub each : (strip : ℕ) → strip < length strips → length (slice_index_or strips strip []) ≡ (rows_before rows height (strip + 1) - rows_before rows height strip) * width
+  pub each : (strip : ℕ) → strip < length strips
+      → length (slice_index_or strips strip [])
+      ≡ (rows_before rows height (strip + 1) - rows_before rows height strip) * width
 
 -- rows y0 to y1 - 1 in strips of this height
 abbrev pub in_strips : ℕ → ℕ → ℕ → ℕ → List (List (Option Spot)) → Obstacles
-in_strips width y0 y1 height strips = record { width = width; y0 = y0; y1 = y1; cells = cells_in width height (y1 - y0) strips }
+in_strips width y0 y1 height strips =
+    record { width = width; y0 = y0; y1 = y1; cells = cells_in width height (y1 - y0) strips }
 
 -- the strips have rows y0 to y1 - 1 of a map
 pub record HaveRows (width y0 y1 height : ℕ) (strips : List (List (Option Spot))) : Type 0 where
@@ -71,15 +80,21 @@ strip_row batch height strip = batch.y0 + rows_before (batch.y1 - batch.y0) heig
 
 -- the cells are the nearest obstacles of the rows of one strip of a batch
 abbrev pub IsStripAnswer : (ℕ → ℕ → ℕ) → Batch → ℕ → ℕ → List (Option Spot) → Type 0
-IsStripAnswer distance batch height strip cells = AreAnswers seen_from None distance batch.bitmap.now batch.edge (strip_row batch height strip) (strip_row batch height (strip + 1)) cells
+IsStripAnswer distance batch height strip cells =
+    AreAnswers seen_from None distance batch.bitmap.now batch.edge (strip_row batch height strip)
+    (strip_row batch height (strip + 1)) cells
 
 -- each strip has the nearest obstacles of its rows
-pub record AreStripAnswers (distance : ℕ → ℕ → ℕ) (batch : Batch) (height : ℕ) (strips : List (List (Option Spot))) : Type 0 where
-  pub each : (strip : ℕ) → strip < length strips → IsStripAnswer distance batch height strip (slice_index_or strips strip [])
+pub record AreStripAnswers (distance : ℕ → ℕ → ℕ) (batch : Batch) (height : ℕ)
+    (strips : List (List (Option Spot))) : Type 0 where
+  pub each : (strip : ℕ) → strip < length strips
+      → IsStripAnswer distance batch height strip (slice_index_or strips strip [])
 
 -- the nearest obstacles in a table, in row-major order, by this distance
 abbrev pub nears_told : (ℕ → ℕ → ℕ) → Obstacles → List (Option Near)
-nears_told distance table = map (λ k. seen_from distance (k % table.width) (table.y0 + k / table.width) (slice_index_or table.cells k None)) (range_with_len 0 (length table.cells))
+nears_told distance table =
+    map (λ k. seen_from distance (k % table.width) (table.y0 + k / table.width)
+    (slice_index_or table.cells k None)) (range_with_len 0 (length table.cells))
 
 -- this is a distance of two cells at most 4097 columns and rows apart, the most in a framed map
 pub record IsDistance (distance : ℕ → ℕ → ℕ) (number : ℕ) : Type 0 where
@@ -95,6 +110,8 @@ IsMeasured distance None number = number ≡ 4294967295
 IsMeasured distance (Some near) number = (number ≡ near.dist) × IsDistance distance number
 
 -- the numbers are the distances of these nearest obstacles, one by one
-pub record AreMeasured (distance : ℕ → ℕ → ℕ) (nears : List (Option Near)) (numbers : List ℕ) : Type 0 where
+pub record AreMeasured (distance : ℕ → ℕ → ℕ) (nears : List (Option Near)) (numbers : List ℕ) :
+    Type 0 where
   pub as_many : length numbers ≡ length nears
-  pub each : (x : ℕ) → x < length nears → IsMeasured distance (slice_index_or nears x None) (slice_index_or numbers x 0)
+  pub each : (x : ℕ) → x < length nears
+      → IsMeasured distance (slice_index_or nears x None) (slice_index_or numbers x 0)

@@ -114,9 +114,11 @@ fn work_beside<M: Metric + Sync, G: Gate + Sync, R: Threads + Sync>(
 ) -> Result<(), Refusal>
     requires upper_bands { AreBands shared.now.workers.count halves.above halves.middle }
     requires lower_bands { AreBands shared.now.workers.count halves.middle halves.below }
-    requires upper { HasBandRoom shared.now.batch.now shared.now.workers.count halves.above halves.middle
+    requires upper { HasBandRoom shared.now.batch.now shared.now.workers.count halves.above
+        halves.middle
         upper.old }
-    requires lower { HasBandRoom shared.now.batch.now shared.now.workers.count halves.middle halves.below
+    requires lower { HasBandRoom shared.now.batch.now shared.now.workers.count halves.middle
+        halves.below
         lower.old }
     ensures upper { OnOk result (AreBandNears M.distance shared.now.batch.now
         shared.now.workers.count halves.above halves.middle upper.new) }

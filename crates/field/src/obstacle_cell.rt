@@ -30,7 +30,10 @@ impl Model for ObstacleCell {
 
     ghost invariant = { λ kept. IsKeptSpot kept.x kept.y };
 
-    ghost inverse = { elim [ None ↦ record { x = negsuc 1; y = negsuc 1 } | Some cell ↦ record { x = cell.x; y = cell.y } ] };
+    ghost inverse = { elim [
+      | None ↦ record { x = negsuc 1; y = negsuc 1 }
+      | Some cell ↦ record { x = cell.x; y = cell.y }
+    ] };
 }
 
 impl ObstacleCell {

@@ -1,7 +1,8 @@
 //! The nearest obstacles of all cells of a range of rows in a third of the memory: only positions,
 //! from which the distances follow.
 
-ghost use Rattle.std.specs.Prelude.{◌≡◌, ◌↔◌, ℕ, ◌+◌, ◌-◌, ◌*◌, ◌<◌, ◌≤◌, true, IfErr, IfOk, None, length, slice_index_or, slice_range};
+ghost use Rattle.std.specs.Prelude.{◌≡◌, ◌↔◌, ℕ, ◌+◌, ◌-◌, ◌*◌, ◌<◌, ◌≤◌, true, IfErr, IfOk, None};
+ghost use Rattle.std.specs.Prelude.{length, slice_index_or, slice_range};
 ghost use Rattle.field.specs.Obstacles.{AreMeasured, IsMeasured, nears_told, seen_from};
 ghost use Rattle.field.specs.Rows.{AreNears};
 ghost use Rattle.metric.specs.declared.refusal.Refusal.TheVariants.{Memory};
@@ -34,9 +35,11 @@ impl<M> Model for ObstacleTable<M> {
 
     ghost Value = { Obstacles };
 
-    ghost view = { λ t. in_strips t.width t.y0 t.y1 t.height (map (λ strip. strip.items) t.strips.items) };
+    ghost view = { λ t. in_strips t.width t.y0 t.y1 t.height
+        (map (λ strip. strip.items) t.strips.items) };
 
-    ghost invariant = { λ t. HaveRows t.width t.y0 t.y1 t.height (map (λ strip. strip.items) t.strips.items) };
+    ghost invariant = { λ t. HaveRows t.width t.y0 t.y1 t.height
+        (map (λ strip. strip.items) t.strips.items) };
 }
 
 impl<M: Metric + Sync> ObstacleTable<M> {
@@ -92,7 +95,8 @@ impl<M: Metric + Sync> ObstacleTable<M> {
         requires column { x < self.now.width }
         requires from { self.now.y0 ≤ y }
         requires to { y < self.now.y1 }
-        ensures { result ≡ slice_index_or (nears_told M.distance self.now) ((y - self.now.y0) * self.now.width + x) None }
+        ensures { result ≡ slice_index_or (nears_told M.distance self.now)
+            ((y - self.now.y0) * self.now.width + x) None }
     {
         near_from::<M>(x, y, self.line(y - self.y0)[usize::from(x)])
     }
@@ -102,7 +106,9 @@ impl<M: Metric + Sync> ObstacleTable<M> {
         requires from { self.now.y0 ≤ y }
         requires to { y < self.now.y1 }
         requires width { length nears.old ≡ self.now.width }
-        ensures { nears.new ≡ slice_range (nears_told M.distance self.now) ((y - self.now.y0) * self.now.width) ((y - self.now.y0) * self.now.width + self.now.width) }
+        ensures { nears.new ≡ slice_range (nears_told M.distance self.now)
+            ((y - self.now.y0) * self.now.width)
+            ((y - self.now.y0) * self.now.width + self.now.width) }
     {
         fill_line::<M>(y, self.line(y - self.y0), nears);
     }
@@ -113,7 +119,9 @@ impl<M: Metric + Sync> ObstacleTable<M> {
         requires from { self.now.y0 ≤ y }
         requires to { y < self.now.y1 }
         requires width { length distances.old ≡ self.now.width }
-        ensures { AreMeasured M.distance (slice_range (nears_told M.distance self.now) ((y - self.now.y0) * self.now.width) ((y - self.now.y0) * self.now.width + self.now.width)) distances.new }
+        ensures { AreMeasured M.distance
+            (slice_range (nears_told M.distance self.now) ((y - self.now.y0) * self.now.width)
+            ((y - self.now.y0) * self.now.width + self.now.width)) distances.new }
     {
         measure_line::<M>(y, self.line(y - self.y0), distances);
     }
@@ -122,7 +130,8 @@ impl<M: Metric + Sync> ObstacleTable<M> {
     fn line(&self, row: u16) -> &[ObstacleCell]
         requires row { row < self.now.y1 - self.now.y0 }
         ensures len { length result.now ≡ self.now.width }
-        ensures line { result.now ≡ slice_range self.now.cells (row * self.now.width) (row * self.now.width + self.now.width) }
+        ensures line { result.now ≡ slice_range self.now.cells (row * self.now.width)
+            (row * self.now.width + self.now.width) }
     {
         let width = usize::from(self.width);
         let strip = &self.strips[usize::from(row / self.height)];
@@ -137,7 +146,9 @@ fn fill_line<M: Metric>(y: u16, cells: &[ObstacleCell], nears: &mut [Option<Near
     requires few { length cells.now ≤ 4096 }
     requires width { length nears.old ≡ length cells.now }
     ensures len { length nears.new ≡ length cells.now }
-    ensures seen { (x : ℕ) → x < length cells.now → slice_index_or nears.new x None ≡ seen_from M.distance x y (slice_index_or cells.now x None) }
+    ensures seen { (x : ℕ) → x < length cells.now
+        → slice_index_or nears.new x None ≡ seen_from M.distance x y
+        (slice_index_or cells.now x None) }
 {
     for x in 0..nears.len() {
         nears[x] = near_from::<M>(x as u16, y, cells[x]);
@@ -150,7 +161,9 @@ pub fn measure_line<M: Metric>(y: u16, cells: &[ObstacleCell], distances: &mut [
     requires few { length cells.now ≤ 4096 }
     requires width { length distances.old ≡ length cells.now }
     ensures len { length distances.new ≡ length cells.now }
-    ensures each { (x : ℕ) → x < length cells.now → IsMeasured M.distance (seen_from M.distance x y (slice_index_or cells.now x None)) (slice_index_or distances.new x 0) }
+    ensures each { (x : ℕ) → x < length cells.now
+        → IsMeasured M.distance (seen_from M.distance x y (slice_index_or cells.now x None))
+        (slice_index_or distances.new x 0) }
 {
     for x in 0..distances.len() {
         distances[x] = cells[x].measure::<M>(x as u16, y);

@@ -1,7 +1,8 @@
 //! The nearest obstacles of a range of rows in strips of equal height, each computed by a thread of
 //! its own into memory of its own.
 
-ghost use Rattle.std.specs.Prelude.{◌≡◌, ◌+◌, ◌-◌, ◌<◌, ◌≤◌, All, IfErr, IfOk, None, Ok, map, vec_len};
+ghost use Rattle.std.specs.Prelude.{◌≡◌, ◌+◌, ◌-◌, ◌<◌, ◌≤◌, All, IfErr, IfOk, None, Ok, map};
+ghost use Rattle.std.specs.Prelude.{vec_len};
 ghost use Rattle.field.specs.Bands.{IsWorkers};
 ghost use Rattle.field.specs.Obstacles.{AreStripAnswers, IsStripAnswer, strip_row};
 ghost use Rattle.metric.specs.declared.refusal.Refusal.TheVariants.{Memory};

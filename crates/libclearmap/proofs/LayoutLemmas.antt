@@ -1,10 +1,13 @@
 -- The words of a map that lies in the caller's memory.
-use Rattle.std.proofs.Common.{◌/◌, ◌%◌, nat_le, ◌&&◌, ◌==◌, ◌≡◌, ℕ, suc, ◌+◌, ◌-◌, ◌*◌, ◌^◌, ◌<◌, ◌≤◌, min, inl, inr, Bool, true, false, cond, List, length, get_or, if◌then◌else◌, refl, sym, ap, ◌∙◌, arith, take, drop}
+use Rattle.std.proofs.Common.{◌/◌, ◌%◌, nat_le, ◌&&◌, ◌==◌, ◌≡◌, ℕ, suc, ◌+◌, ◌-◌, ◌*◌, ◌^◌, ◌<◌}
+use Rattle.std.proofs.Common.{◌≤◌, min, inl, inr, Bool, true, false, cond, List, length, get_or}
+use Rattle.std.proofs.Common.{if◌then◌else◌, refl, sym, ap, ◌∙◌, arith, take, drop}
 use Rattle.std.specs.Int.{bit_at}
 use Rattle.std.proofs.lemmas.Bool.{and_parts, cases_lt, eqb-true}
 use Rattle.std.proofs.lemmas.Bool.Decides.{nat_tests}
 use lib.Bits.{bit_and}
-use Rattle.std.proofs.lemmas.Nat.Bits.{bit_at-lt, bit_at-zero, bit_at_and, bit_at_cat_high, same_from_bits_below}
+use Rattle.std.proofs.lemmas.Nat.Bits.{bit_at-lt, bit_at-zero, bit_at_and, bit_at_cat_high}
+use Rattle.std.proofs.lemmas.Nat.Bits.{same_from_bits_below}
 use Rattle.std.proofs.lemmas.List.{length-take-le, length-drop, get_or-take, get_or-drop}
 use Rattle.std.proofs.Math.Nat.{pow-le-pow_right, pow-suc, mul-le-mul_right}
 use Rattle.bits.specs.Bands.{IsBanded}
@@ -12,13 +15,15 @@ use Rattle.bits.specs.Cells.{IsSide, has}
 use Rattle.bits.specs.Stored.{is_stored}
 use Rattle.bits.specs.Words.{words_across}
 use Rattle.bits.specs.Tiles.{word_where}
-use Rattle.bits.proofs.CellsLemmas.{IsBitmap-cells_where, has-cells_where, has-cells_where_right, has-outside}
+use Rattle.bits.proofs.CellsLemmas.{IsBitmap-cells_where, has-cells_where, has-cells_where_right}
+use Rattle.bits.proofs.CellsLemmas.{has-outside}
 use Rattle.bits.proofs.TileLemmas.{bit_at-word_where, word_where-lt}
 use Rattle.clearance.specs.Rows.{words_of_row}
 use Rattle.clearance.proofs.RowWords.{word_in_row}
 use Rattle.libclearmap.specs.declared.layout.ClearmapBytes.{ClearmapBytes}
 use Rattle.libclearmap.specs.declared.layout.ClearmapBits.{ClearmapBits}
-use Rattle.libclearmap.specs.Layouts.{IsShape, cells_of_bits, cells_of_bytes, is_dark, is_in_band, is_marked, is_obstacle_byte}
+use Rattle.libclearmap.specs.Layouts.{IsShape, cells_of_bits, cells_of_bytes, is_dark, is_in_band}
+use Rattle.libclearmap.specs.Layouts.{is_marked, is_obstacle_byte}
 
 -- the bits of a number from its size on are 0
 bit_high : (n k i : ℕ) → n < 2 ^ k → k ≤ i → bit_at n i ≡ 0

@@ -1,6 +1,7 @@
 -- A cell's nearest obstacle, or only its distance, as C sees it: this project's own rule. Where
 -- there is no obstacle, the distance is the largest 32-bit number.
-use Rattle.std.specs.Prelude.{ℕ, ◌==◌, ◌&&◌, negsuc, int_lt, Option, Some, None, option_map, if◌then◌else◌}
+use Rattle.std.specs.Prelude.{ℕ, ◌==◌, ◌&&◌, negsuc, int_lt, Option, Some, None, option_map}
+use Rattle.std.specs.Prelude.{if◌then◌else◌}
 use Rattle.metric.specs.declared.cell.Cell.{Cell}
 use Rattle.metric.specs.declared.near.Near.{Near}
 use Rattle.libclearmap.specs.declared.near.ClearmapNear.{ClearmapNear}

@@ -1,6 +1,7 @@
 -- The layout of a map in the caller's memory: this project's own rule. Its rows lie one after
 -- another from the top, a fixed number of bytes or words apart.
-use Rattle.std.specs.Prelude.{ℕ, ◌+◌, ◌-◌, ◌*◌, ◌/◌, ◌^◌, ◌≤◌, ◌<◌, ◌==◌, ◌&&◌, nat_le, Bool, List, slice_index}
+use Rattle.std.specs.Prelude.{ℕ, ◌+◌, ◌-◌, ◌*◌, ◌/◌, ◌^◌, ◌≤◌, ◌<◌, ◌==◌, ◌&&◌, nat_le, Bool, List}
+use Rattle.std.specs.Prelude.{slice_index}
 use Rattle.std.specs.Int.{bit_at}
 use Rattle.bits.specs.Cells.{Cells, IsSide, cells_where}
 use Rattle.bits.specs.Stored.{is_stored}

@@ -16,7 +16,8 @@ use metric::{BAND_ROWS, MOST_SIDE};
 pub struct BitMap<'a> {
     pub words: &'a [u64],
     pub map: ClearmapBits,
-    ghost shape: { IsShape map.width map.height (words_across map.width) map.stride (length words.now) },
+    ghost shape: { IsShape map.width map.height (words_across map.width) map.stride
+        (length words.now) },
 }
 
 impl<'a> BitMap<'a> {

@@ -1,6 +1,7 @@
 //! A map in the caller's bytes, read in place.
 
-ghost use Rattle.std.specs.Prelude.{◌≡◌, ◌≢◌, ◌≤◌, ◌<◌, ℕ, IfErr, IfOk, cond, length, nat_le, slice_index, slice_index_or};
+ghost use Rattle.std.specs.Prelude.{◌≡◌, ◌≢◌, ◌≤◌, ◌<◌, ℕ, IfErr, IfOk, cond, length, nat_le};
+ghost use Rattle.std.specs.Prelude.{slice_index, slice_index_or};
 ghost use Rattle.std.specs.Int.{bit_at};
 ghost use Rattle.bits.specs.Tiles.{word_where};
 ghost use Rattle.libclearmap.specs.Layouts.{IsShape, is_obstacle_byte};

@@ -45,7 +45,8 @@ fn copy_row<R: Rows>(bitmap: &mut Bitmap, rows: &mut R, y: u16)
 
 /// Writes the words of all rows, one row after another. Returns which bands may have an obstacle.
 pub fn pack_rows<R: Rows>(rows: &mut R, words: &mut [u64]) -> u64
-    requires { (R.cells rows.old).height * words_across (R.cells rows.old).width ≤ length words.old }
+    requires { (R.cells rows.old).height * words_across (R.cells rows.old).width
+        ≤ length words.old }
     ensures packed { cells_stored (R.cells rows.old).width (R.cells rows.old).height words.new
         ≡ R.cells rows.old }
     ensures bands { IsBanded (R.cells rows.old) result }

@@ -1,6 +1,7 @@
 //! The calls that convert a map from bytes to bits, and back.
 
-ghost use Rattle.std.specs.Prelude.{◌≡◌, ◌≢◌, ℕ, ◌<◌, ◌≤◌, ◌+◌, ◌*◌, length, slice_index, if◌then◌else◌};
+ghost use Rattle.std.specs.Prelude.{◌≡◌, ◌≢◌, ℕ, ◌<◌, ◌≤◌, ◌+◌, ◌*◌, length, slice_index};
+ghost use Rattle.std.specs.Prelude.{if◌then◌else◌};
 ghost use Rattle.bits.specs.Cells.{has};
 ghost use Rattle.bits.specs.Words.{words_across};
 ghost use Rattle.libclearmap.specs.Layouts.{cells_of_bits, cells_of_bytes};
@@ -61,7 +62,8 @@ pub extern "C" fn clearmap_unpack(
     bytes: &mut [u8],
 ) -> u32
     ensures cells { (x y : ℕ) → result ≡ DONE → x < map.now.width → y < map.now.height
-        → slice_index bytes.new (y * map.now.width + x) ≡ (if has (cells_of_bits map.now words.now) x y then obstacle else free) }
+        → slice_index bytes.new (y * map.now.width + x)
+        ≡ (if has (cells_of_bits map.now words.now) x y then obstacle else free) }
     ensures rest { (k : ℕ) → map.now.height * map.now.width ≤ k → slice_index bytes.new k
         ≡ slice_index bytes.old k }
     ensures status { result ≡ first_wrong (bits_status map.now words.now)

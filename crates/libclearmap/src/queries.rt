@@ -8,7 +8,8 @@ ghost use Rattle.clearance.specs.Answers.{IsClearOf, IsLeastOf, cells_of_rect};
 ghost use Rattle.clearance.specs.Paths.{cells_of_path};
 ghost use Rattle.libclearmap.specs.Kept.{found_kept, near_kept};
 ghost use Rattle.libclearmap.specs.Settings.{distance_numbered, edge_numbered};
-ghost use Rattle.libclearmap.specs.Statuses.{cell_status, first_wrong, path_status, rect_status, setting_status};
+ghost use Rattle.libclearmap.specs.Statuses.{cell_status, first_wrong, path_status, rect_status};
+ghost use Rattle.libclearmap.specs.Statuses.{setting_status};
 
 use crate::near::{ClearmapFound, ClearmapNear, found_of, kept_of};
 use crate::setting::{Corners, Setting, along_by, at_by, clear_by, edge_of, kind_of, least_by};

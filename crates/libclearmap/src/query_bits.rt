@@ -8,7 +8,8 @@ ghost use Rattle.clearance.specs.Paths.{cells_of_path};
 ghost use Rattle.libclearmap.specs.Kept.{found_kept, near_kept};
 ghost use Rattle.libclearmap.specs.Layouts.{cells_of_bits};
 ghost use Rattle.libclearmap.specs.Settings.{distance_numbered, edge_numbered};
-ghost use Rattle.libclearmap.specs.Statuses.{bits_status, cell_status, first_wrong, path_status, rect_status, setting_status};
+ghost use Rattle.libclearmap.specs.Statuses.{bits_status, cell_status, first_wrong, path_status};
+ghost use Rattle.libclearmap.specs.Statuses.{rect_status, setting_status};
 
 use crate::bit_map::BitMap;
 use crate::layout::ClearmapBits;
@@ -30,7 +31,8 @@ pub extern "C" fn clearmap_bits_at(
     near: &mut ClearmapNear,
 ) -> u32
     ensures near { result ≡ DONE → IsNear (distance_numbered metric)
-        (IsBlocked (cells_of_bits map.now words.now) (edge_numbered edge)) x y (near_kept near.new) }
+        (IsBlocked (cells_of_bits map.now words.now) (edge_numbered edge)) x y
+        (near_kept near.new) }
     ensures status { result ≡ first_wrong (bits_status map.now words.now)
         (first_wrong (setting_status metric edge) (cell_status (cells_of_bits map.now words.now) x
         y)) }

@@ -8,7 +8,8 @@ ghost use Rattle.clearance.specs.Paths.{cells_of_path};
 ghost use Rattle.libclearmap.specs.Kept.{found_kept, near_kept};
 ghost use Rattle.libclearmap.specs.Layouts.{cells_of_bytes};
 ghost use Rattle.libclearmap.specs.Settings.{distance_numbered, edge_numbered};
-ghost use Rattle.libclearmap.specs.Statuses.{bytes_status, cell_status, first_wrong, path_status, rect_status, setting_status};
+ghost use Rattle.libclearmap.specs.Statuses.{bytes_status, cell_status, first_wrong, path_status};
+ghost use Rattle.libclearmap.specs.Statuses.{rect_status, setting_status};
 
 use crate::byte_map::ByteMap;
 use crate::layout::ClearmapBytes;

@@ -5,7 +5,8 @@ ghost use Rattle.metric.specs.Kind.{distance_of};
 ghost use Rattle.metric.specs.Nearest.{IsNear};
 ghost use Rattle.bits.specs.Cells.{IsInside};
 ghost use Rattle.bits.specs.Edges.{IsBlocked};
-ghost use Rattle.clearance.specs.Answers.{IsClearOf, IsLeastOf, IsRefusalFor, LiesIn, cells_of_rect};
+ghost use Rattle.clearance.specs.Answers.{IsClearOf, IsLeastOf, IsRefusalFor, LiesIn};
+ghost use Rattle.clearance.specs.Answers.{cells_of_rect};
 ghost use Rattle.clearance.specs.Paths.{IsPathRefusal, cells_of_path, path_refusal};
 ghost use Rattle.libclearmap.specs.Settings.{edge_numbered, kind_numbered};
 

@@ -3,7 +3,8 @@
 
 ghost use Rattle.std.specs.Prelude.{◌≡◌, ◌≤◌};
 ghost use Rattle.libclearmap.specs.Layouts.{IsShape};
-ghost use Rattle.libclearmap.specs.Statuses.{refusal_status, room_status, setting_status, shape_status};
+ghost use Rattle.libclearmap.specs.Statuses.{refusal_status, room_status, setting_status};
+ghost use Rattle.libclearmap.specs.Statuses.{shape_status};
 
 use metric::{MOST_SIDE, Refusal};
 

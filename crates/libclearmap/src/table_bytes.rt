@@ -1,6 +1,7 @@
 //! The calls for all cells of a range of rows of a map in bytes.
 
-ghost use Rattle.std.specs.Prelude.{◌≡◌, ◌≢◌, ℕ, ◌-◌, ◌*◌, ◌≤◌, length, slice_index, slice_index_or, take};
+ghost use Rattle.std.specs.Prelude.{◌≡◌, ◌≢◌, ℕ, ◌-◌, ◌*◌, ◌≤◌, length, slice_index};
+ghost use Rattle.std.specs.Prelude.{slice_index_or, take};
 ghost use Rattle.field.specs.Bands.{AreAnswers};
 ghost use Rattle.libclearmap.specs.Distances.{AreDistances};
 ghost use Rattle.libclearmap.specs.Kept.{kept_nothing, near_kept};

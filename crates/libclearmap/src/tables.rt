@@ -1,6 +1,7 @@
 //! The answers of all cells of a range of rows, over a map that is read word by word.
 
-ghost use Rattle.std.specs.Prelude.{◌≡◌, ◌≢◌, ℕ, ◌-◌, ◌*◌, ◌≤◌, IfErr, IfOk, length, slice_index_or, take};
+ghost use Rattle.std.specs.Prelude.{◌≡◌, ◌≢◌, ℕ, ◌-◌, ◌*◌, ◌≤◌, IfErr, IfOk, length};
+ghost use Rattle.std.specs.Prelude.{slice_index_or, take};
 ghost use Rattle.libclearmap.specs.Settings.{distance_numbered, edge_numbered};
 ghost use Rattle.libclearmap.specs.Statuses.{IsStatus, table_status};
 

@@ -1,6 +1,7 @@
 //! A map that is read word by word, written as bytes.
 
-ghost use Rattle.std.specs.Prelude.{◌≡◌, ℕ, ◌<◌, ◌≤◌, ◌+◌, ◌*◌, ◌⊎◌, length, slice_index, if◌then◌else◌};
+ghost use Rattle.std.specs.Prelude.{◌≡◌, ℕ, ◌<◌, ◌≤◌, ◌+◌, ◌*◌, ◌⊎◌, length, slice_index};
+ghost use Rattle.std.specs.Prelude.{if◌then◌else◌};
 ghost use Rattle.bits.specs.Cells.{has};
 ghost use Rattle.bits.specs.TileWords.{is_bit};
 
@@ -18,7 +19,8 @@ pub struct Shades {
 pub fn unpack_rows<R: Rows>(rows: &mut R, shades: Shades, bytes: &mut [u8])
     requires { (R.cells rows.old).height * (R.cells rows.old).width ≤ length bytes.old }
     ensures cells { (x y : ℕ) → x < (R.cells rows.old).width → y < (R.cells rows.old).height
-        → slice_index bytes.new (y * (R.cells rows.old).width + x) ≡ (if has (R.cells rows.old) x y then shades.obstacle else shades.free) }
+        → slice_index bytes.new (y * (R.cells rows.old).width + x)
+        ≡ (if has (R.cells rows.old) x y then shades.obstacle else shades.free) }
     ensures rest { (k : ℕ) → (R.cells rows.old).height * (R.cells rows.old).width ≤ k → slice_index
         bytes.new k ≡ slice_index bytes.old k }
 {
@@ -33,7 +35,8 @@ fn unpack_row<R: Rows>(rows: &mut R, y: u16, start: usize, shades: Shades, bytes
     requires row { y < (R.cells rows.old).height }
     requires room { start + (R.cells rows.old).width ≤ length bytes.old }
     ensures cells { (x : ℕ) → x < (R.cells rows.old).width
-        → slice_index bytes.new (start + x) ≡ (if has (R.cells rows.old) x y then shades.obstacle else shades.free) }
+        → slice_index bytes.new (start + x)
+        ≡ (if has (R.cells rows.old) x y then shades.obstacle else shades.free) }
     ensures others { (k : ℕ) → (k < start) ⊎ (start + (R.cells rows.old).width ≤ k) → slice_index
         bytes.new k ≡ slice_index bytes.old k }
     ensures rows { rows.new ≡ rows.old }

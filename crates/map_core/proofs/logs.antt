@@ -1,4 +1,5 @@
--- Lemmas on logs: what they tell of the draft, of versions and of replies, and what is kept of them.
+-- Lemmas on logs: what they tell of the draft, of versions and of replies, and what is kept of
+-- them.
 pub mod DrawLemmas
 pub mod JudgeLemmas
 pub mod KeptAfter

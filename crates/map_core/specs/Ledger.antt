@@ -1,9 +1,12 @@
 -- What a ledger counts of a log, and which commands it refuses: this project's own rule.
-use Rattle.std.specs.Prelude.{◌≡◌, ◌^◌, ◌-◌, ◌<◌, ◌≤◌, ◌&&◌, nat_le, Bool, true, false, length, slice_index, Option, Some, None, if◌then◌else◌}
+use Rattle.std.specs.Prelude.{◌≡◌, ◌^◌, ◌-◌, ◌<◌, ◌≤◌, ◌&&◌, nat_le, Bool, true, false, length}
+use Rattle.std.specs.Prelude.{slice_index, Option, Some, None, if◌then◌else◌}
 use Rattle.metric.specs.declared.refusal.Refusal.{Refusal}
-use Rattle.metric.specs.declared.refusal.Refusal.TheVariants.{OutOfRange, VersionsFull, LogFull, PlacesUsed}
+use Rattle.metric.specs.declared.refusal.Refusal.TheVariants.{OutOfRange, VersionsFull, LogFull}
+use Rattle.metric.specs.declared.refusal.Refusal.TheVariants.{PlacesUsed}
 use Rattle.map_core.specs.declared.command.Command.{Command}
-use Rattle.map_core.specs.declared.command.Command.TheVariants.{Paint, Stamp, Publish, Revert, Collect, Checkpoint}
+use Rattle.map_core.specs.declared.command.Command.TheVariants.{Paint, Stamp, Publish, Revert}
+use Rattle.map_core.specs.declared.command.Command.TheVariants.{Collect, Checkpoint}
 use Rattle.map_core.specs.declared.ledger.Ledger.{Ledger}
 use Rattle.map_core.specs.declared.setting.Setting.{Setting}
 use Rattle.map_core.specs.Kept.{members}
@@ -72,7 +75,10 @@ refused_slots l Checkpoint = None
 
 -- the reason why a ledger refuses a command, blocks aside
 unfoldable pub refused_by_ledger : Ledger → Command → Option Refusal
-refused_by_ledger l c = if lies_within l.width l.height c then (if takes_room c && has_no_room l then Some LogFull else (if has_no_place l then Some PlacesUsed else refused_slots l c)) else Some OutOfRange
+refused_by_ledger l c =
+    if lies_within l.width l.height c
+    then (if takes_room c && has_no_room l then Some LogFull
+    else (if has_no_place l then Some PlacesUsed else refused_slots l c)) else Some OutOfRange
 
 -- the refusal of a command if too few blocks are free; only a paint or a stamp takes some
 abbrev pub refused_draw_blocks : Setting → Story → Command → Option Refusal

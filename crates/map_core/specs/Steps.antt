@@ -1,15 +1,20 @@
 -- What an event does if it is enabled: this project's own rule. Each event except an order is one
 -- load or one store of one word.
-use Rattle.std.specs.Prelude.{ℕ, ◌+◌, ◌-◌, ◌*◌, ◌/◌, ◌%◌, ◌&&◌, nat_lt, List, [], ◌∷◌, ◌++◌, length, map, slice_get, slice_index, slice_set, Option, Some, None, is_some, is_none, if◌then◌else◌}
+use Rattle.std.specs.Prelude.{ℕ, ◌+◌, ◌-◌, ◌*◌, ◌/◌, ◌%◌, ◌&&◌, nat_lt, List, [], ◌∷◌, ◌++◌, length}
+use Rattle.std.specs.Prelude.{map, slice_get, slice_index, slice_set, Option, Some, None, is_some}
+use Rattle.std.specs.Prelude.{is_none, if◌then◌else◌}
 use Rattle.bits.specs.Tiles.{row_word}
 use Rattle.metric.specs.declared.refusal.Refusal.{Refusal}
 use Rattle.map_core.specs.declared.command.Command.{Command}
-use Rattle.map_core.specs.declared.command.Command.TheVariants.{Paint, Stamp, Publish, Revert, Collect, Checkpoint}
+use Rattle.map_core.specs.declared.command.Command.TheVariants.{Paint, Stamp, Publish, Revert}
+use Rattle.map_core.specs.declared.command.Command.TheVariants.{Collect, Checkpoint}
 use Rattle.map_core.specs.declared.command.Reply.{Reply}
-use Rattle.map_core.specs.declared.command.Reply.TheVariants.{Painted, Published, Reverted, Collected, Checkpointed}
+use Rattle.map_core.specs.declared.command.Reply.TheVariants.{Painted, Published, Reverted}
+use Rattle.map_core.specs.declared.command.Reply.TheVariants.{Collected, Checkpointed}
 use Rattle.map_core.specs.declared.command.Entry.{Entry}
 use Rattle.map_core.specs.declared.event.Event.{Event}
-use Rattle.map_core.specs.declared.event.Event.TheVariants.{Announce, Load, LookMap, LookTile, Leave, Confirm, Order, Keep}
+use Rattle.map_core.specs.declared.event.Event.TheVariants.{Announce, Load, LookMap, LookTile}
+use Rattle.map_core.specs.declared.event.Event.TheVariants.{Leave, Confirm, Order, Keep}
 use Rattle.map_core.specs.declared.event.StepReply.{StepReply}
 use Rattle.map_core.specs.declared.event.StepReply.TheVariants as says
 use Rattle.map_core.specs.declared.kept.Kept.{Kept}
@@ -20,7 +25,8 @@ use Rattle.map_core.specs.Drawing.{cells_changed}
 use Rattle.map_core.specs.Story.{Story, newest, with_kept, inuse}
 use Rattle.map_core.specs.Legal.{refused, told}
 use Rattle.map_core.specs.Blocks.{Blocks, own_list, mapped, directory_of, is_mapped}
-use Rattle.map_core.specs.Words.{Base, tiles, now_at, pin_at, map_at, tile_at, place_told, version_told, now_of, pin_word, seen_in, slot_of, next_slot}
+use Rattle.map_core.specs.Words.{Base, tiles, now_at, pin_at, map_at, tile_at, place_told}
+use Rattle.map_core.specs.Words.{version_told, now_of, pin_word, seen_in, slot_of, next_slot}
 use Rattle.map_core.specs.Views.{Hand, Reader, State, story_of, blocks_of_state, newest_seen}
 
 -- the outcome of an event: the state after it, its answer, and the word it has stored, if any
@@ -49,7 +55,13 @@ announce w r None = None
 announce w r (Some x) =
     if is_some x.announced then None
     else (let version = newest_seen w.base x in
-    Some record { state = with_word_stored (with_reader w r record x { announced = Some (From version) }) (pin_at r) (pin_word (Some (From version))); answer = says.Announced version; stored = Some (pin_at r) })
+    Some record {
+      state = with_word_stored
+          (with_reader w r record x { announced = Some (From version) }) (pin_at r)
+          (pin_word (Some (From version)));
+      answer = says.Announced version;
+      stored = Some (pin_at r);
+    })
 
 -- a reader that loads a version holds that one if it had announced and held none
 abbrev pub next_hold : Reader → ℕ → Option ℕ
@@ -60,19 +72,28 @@ unfoldable pub load : State → ℕ → Option Reader → Option Outcome
 load w r None = None
 load w r (Some x) =
     let word = slice_index w.words now_at in
-    Some record { state = with_reader w r record x { seen = w.keeper.log; holds = next_hold x (version_told word) }; answer = says.Now (place_told word) (version_told word); stored = None }
+    Some record {
+      state = with_reader w r record x {
+        seen = w.keeper.log;
+        holds = next_hold x (version_told word);
+      };
+      answer = says.Now (place_told word) (version_told word);
+      stored = None;
+    }
 
 -- a reader that holds a version gets the block of a position there
 unfoldable pub look_map : State → ℕ → Option ℕ → Option Outcome
 look_map w p None = None
 look_map w p (Some v) =
-    if nat_lt p (tiles w.base) then answers w (says.Block (slice_index w.words (map_at w.base (slot_of w.base (story_of w) v) p))) else None
+    if nat_lt p (tiles w.base) then answers w
+    (says.Block (slice_index w.words (map_at w.base (slot_of w.base (story_of w) v) p))) else None
 
 -- a reader that holds a version gets a row of a block that the version maps
 unfoldable pub look_tile : State → ℕ → ℕ → Option ℕ → Option Outcome
 look_tile w b i None = None
 look_tile w b i (Some v) =
-    if is_mapped (blocks_of_state w) v b && nat_lt i 64 then answers w (says.Word (slice_index w.words (tile_at w.base b i))) else None
+    if is_mapped (blocks_of_state w) v b && nat_lt i 64
+    then answers w (says.Word (slice_index w.words (tile_at w.base b i))) else None
 
 -- what a reader holds, if it exists
 abbrev pub hold_of : Option Reader → Option ℕ
@@ -84,7 +105,12 @@ unfoldable pub leave : State → ℕ → Option Reader → Option Outcome
 leave w r None = None
 leave w r (Some x) =
     if is_some x.announced
-    then Some record { state = with_word_stored (with_reader w r record x { announced = None; holds = None }) (pin_at r) (pin_word None); answer = says.Left; stored = Some (pin_at r) }
+    then Some record {
+      state = with_word_stored
+          (with_reader w r record x { announced = None; holds = None }) (pin_at r) (pin_word None);
+      answer = says.Left;
+      stored = Some (pin_at r);
+    }
     else None
 
 -- the version that a reader has to confirm: the one it holds, if its announcement isn't exact
@@ -97,7 +123,12 @@ to_confirm (Some (Exact v)) holds = None
 abbrev pub confirm_held : State → ℕ → Reader → Option ℕ → Option Outcome
 confirm_held w r x None = None
 confirm_held w r x (Some v) =
-    Some record { state = with_word_stored (with_reader w r record x { announced = Some (Exact v) }) (pin_at r) (pin_word (Some (Exact v))); answer = says.Confirmed v; stored = Some (pin_at r) }
+    Some record {
+      state = with_word_stored (with_reader w r record x { announced = Some (Exact v) })
+          (pin_at r) (pin_word (Some (Exact v)));
+      answer = says.Confirmed v;
+      stored = Some (pin_at r);
+    }
 
 -- a reader that holds a version which it hasn't announced exactly announces it exactly
 unfoldable pub confirm : State → ℕ → Option Reader → Option Outcome
@@ -133,15 +164,23 @@ own_positions k (Some b ∷ own) = k ∷ own_positions (k + 1) own
 -- the n-th of these words is a row of the draft's own blocks, by position and then by row
 unfoldable pub tile_write : Base → Story → Blocks → ℕ → Write
 tile_write k s m n =
-    record { at = tile_at k (slice_index (own_list m.own) (n / 64)) (n % 64); word = row_word s.draft (slice_index (own_positions 0 m.own) (n / 64)) (n % 64) }
+    record {
+      at = tile_at k (slice_index (own_list m.own) (n / 64)) (n % 64);
+      word = row_word s.draft (slice_index (own_positions 0 m.own) (n / 64)) (n % 64);
+    }
 
 -- the word of position p in the next slot's directory
 unfoldable pub map_write : Base → Story → Blocks → ℕ → Write
-map_write k s m p = record { at = map_at k (next_slot k s) p; word = slice_index (mapped m.own (directory_of m (newest s))) p }
+map_write k s m p =
+    record {
+      at = map_at k (next_slot k s) p;
+      word = slice_index (mapped m.own (directory_of m (newest s))) p;
+    }
 
 -- the n-th word that a publish stores: of a row, or after all rows of the directory
 abbrev pub write_of : Base → Story → Blocks → ℕ → Write
-write_of k s m n = if nat_lt n (tile_steps m) then tile_write k s m n else map_write k s m (n - tile_steps m)
+write_of k s m n = if nat_lt n (tile_steps m) then tile_write k s m n
+    else map_write k s m (n - tile_steps m)
 
 -- the versions kept by a collect whose scan saw these words
 unfoldable pub kept_scanned : Story → List ℕ → Kept
@@ -153,7 +192,9 @@ reply_of s (Paint r black) words = Painted (s.places + 1) (cells_changed s.draft
 reply_of s (Stamp x y b) words = Painted (s.places + 1) (cells_changed s.draft (Stamp x y b))
 reply_of s Publish words = Published (s.places + 1) (newest s + 1)
 reply_of s Revert words = Reverted (s.places + 1)
-reply_of s Collect words = Collected (s.places + 1) (least_kept (newest s) (kept_scanned s words)) (inuse s - inuse (with_kept s (kept_scanned s words))) (kept_scanned s words)
+reply_of s Collect words =
+    Collected (s.places + 1) (least_kept (newest s) (kept_scanned s words))
+    (inuse s - inuse (with_kept s (kept_scanned s words))) (kept_scanned s words)
 reply_of s Checkpoint words = Checkpointed (s.places + 1)
 
 -- the entry that the current command commits
@@ -164,19 +205,44 @@ entry_of s h = record { command = h.command; reply = reply_of s h.command h.scan
 abbrev pub write : State → Hand → Outcome
 write w h =
     let next = write_of w.base (story_of w) (blocks_of_state w) h.done in
-    record { state = record (with_word_stored w next.at next.word) { keeper = record { log = w.keeper.log; hand = Some record h { done = h.done + 1 } } }; answer = says.Written; stored = Some next.at }
+    record {
+      state = record (with_word_stored w next.at next.word) {
+        keeper =
+            record { log = w.keeper.log; hand = Some record h { done = h.done + 1 } };
+      };
+      answer = says.Written;
+      stored = Some next.at;
+    }
 
 -- a step of a collect loads the next reader's word
 abbrev pub scan : State → Hand → Outcome
 scan w h =
     let word = slice_index w.words (pin_at h.done) in
-    record { state = record w { keeper = record { log = w.keeper.log; hand = Some record h { done = h.done + 1; scanned = h.scanned ++ word ∷ [] } } }; answer = says.Scanned h.done word; stored = None }
+    record {
+      state = record w {
+        keeper =
+            record {
+              log = w.keeper.log;
+              hand = Some record h { done = h.done + 1; scanned = h.scanned ++ word ∷ [] };
+            };
+      };
+      answer = says.Scanned h.done word;
+      stored = None;
+    }
 
 -- the last step of a command stores NOW, and the log has the command with its reply
 abbrev pub commit : State → Hand → Outcome
 commit w h =
     let entry = entry_of (story_of w) h in
-    record { state = record (with_word_stored w now_at (now_of (told (story_of w) entry.command entry.reply))) { keeper = record { log = w.keeper.log ++ entry ∷ []; hand = None } }; answer = says.Committed entry.reply; stored = Some now_at }
+    record {
+      state = record (with_word_stored w now_at
+          (now_of (told (story_of w) entry.command entry.reply))) {
+            keeper =
+                record { log = w.keeper.log ++ entry ∷ []; hand = None };
+          };
+      answer = says.Committed entry.reply;
+      stored = Some now_at;
+    }
 
 -- a step of a command before its last writes or scans: only publish and collect have any
 abbrev pub step_before : State → Hand → Command → Outcome
@@ -187,13 +253,24 @@ step_before w h c = scan w h
 unfoldable pub keep : State → Option Hand → Option Outcome
 keep w None = None
 keep w (Some h) =
-    if nat_lt h.done (steps_before w.base (blocks_of_state w) h.command) then Some (step_before w h h.command) else Some (commit w h)
+    if nat_lt h.done (steps_before w.base (blocks_of_state w) h.command)
+    then Some (step_before w h h.command) else Some (commit w h)
 
 -- a refused order is answered with its refusal; an accepted one becomes the current command
 abbrev pub ordered : State → Command → Option Refusal → Outcome
 ordered w c (Some refusal) = record { state = w; answer = says.Refused refusal; stored = None }
 ordered w c None =
-    record { state = record w { keeper = record { log = w.keeper.log; hand = Some record { command = c; done = 0; scanned = [] } } }; answer = says.Ordered (steps_before w.base (blocks_of_state w) c + 1); stored = None }
+    record {
+      state = record w {
+        keeper =
+            record {
+              log = w.keeper.log;
+              hand = Some record { command = c; done = 0; scanned = [] };
+            };
+      };
+      answer = says.Ordered (steps_before w.base (blocks_of_state w) c + 1);
+      stored = None;
+    }
 
 -- an order is enabled if there is no current command
 unfoldable pub order : State → Command → Option Hand → Option Outcome

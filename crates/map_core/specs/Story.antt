@@ -1,6 +1,8 @@
 -- What a log says of the map (the draft and the published bitmaps, what changed, which versions are
 -- kept, and how many blocks that takes): this project's own rule.
-use Rattle.std.specs.Prelude.{ℕ, zero, suc, ◌+◌, ◌-◌, ◌==◌, ◌&&◌, ◌||◌, Bool, true, false, not, cond, List, [], ◌∷◌, length, map, replicate, sum_by, slice_index_or, if◌then◌else◌}
+use Rattle.std.specs.Prelude.{ℕ, zero, suc, ◌+◌, ◌-◌, ◌==◌, ◌&&◌, ◌||◌, Bool, true, false, not}
+use Rattle.std.specs.Prelude.{cond, List, [], ◌∷◌, length, map, replicate, sum_by, slice_index_or}
+use Rattle.std.specs.Prelude.{if◌then◌else◌}
 use Rattle.std.specs.List.{list_any, range_with_len}
 use Rattle.bits.specs.Cells.{Cells}
 use Rattle.bits.specs.Tiles.{tile_count}
@@ -27,7 +29,17 @@ pub record Story : Type 0 where
 
 -- at the opening the draft and version 0 are the opening bitmap
 unfoldable pub opened : Cells → Story
-opened b = record { places = 0; base = 0; draft = b; published = b ∷ []; changed = replicate (tile_count b) false; changes = []; kept = first_kept; slots = 0 ∷ [] }
+opened b =
+    record {
+      places = 0;
+      base = 0;
+      draft = b;
+      published = b ∷ [];
+      changed = replicate (tile_count b) false;
+      changes = [];
+      kept = first_kept;
+      slots = 0 ∷ [];
+    }
 
 -- the most entries of a log, since places count no higher
 abbrev pub most_places : ℕ

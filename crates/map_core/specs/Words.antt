@@ -1,7 +1,8 @@
 -- The layout of a world's words: this project's own rule. First comes NOW, then a word per reader,
 -- each followed by seven unused words. The slots' directories come next, and then the blocks, 64
 -- words each.
-use Rattle.std.specs.Prelude.{◌≡◌, ℕ, ◌+◌, ◌-◌, ◌*◌, ◌/◌, ◌%◌, ◌^◌, ◌==◌, List, slice_index, Option, Some, None, if◌then◌else◌}
+use Rattle.std.specs.Prelude.{◌≡◌, ℕ, ◌+◌, ◌-◌, ◌*◌, ◌/◌, ◌%◌, ◌^◌, ◌==◌, List, slice_index, Option}
+use Rattle.std.specs.Prelude.{Some, None, if◌then◌else◌}
 use Rattle.std.specs.Int.{bit_at}
 use Rattle.bits.specs.Cells.{Cells, cells_where}
 use Rattle.bits.specs.Tiles.{tile_count, tile_of}
@@ -74,7 +75,9 @@ pin_word (Some (Exact version)) = 2 * version + 2
 
 -- what a word announces
 unfoldable pub seen_in : ℕ → Option Seen
-seen_in word = if word == 0 then None else (if word % 2 == 1 then Some (From (word / 2)) else Some (Exact (word / 2 - 1)))
+seen_in word =
+    if word == 0 then None else (if word % 2 == 1 then Some (From (word / 2))
+    else Some (Exact (word / 2 - 1)))
 
 -- the slot of a version
 unfoldable pub slot_of : Base → Story → ℕ → ℕ
@@ -88,4 +91,6 @@ next_slot k s = first_free s.kept.slots
 unfoldable pub shown : Base → List ℕ → ℕ → Cells
 shown k words slot =
     cells_where k.opening.width k.opening.height
-    (λ x y. bit_at (slice_index words (tile_at k (slice_index words (map_at k slot (tile_of k.opening x y))) (y % 64))) (x % 64) == 1)
+    (λ x y. bit_at
+    (slice_index words (tile_at k (slice_index words (map_at k slot (tile_of k.opening x y)))
+    (y % 64))) (x % 64) == 1)

@@ -1,9 +1,12 @@
 //! The versions that are kept, each in its slot.
 
-ghost use Rattle.std.specs.Prelude.{◌≡◌, ℕ, ◌+◌, ◌^◌, ◌<◌, ◌≤◌, fold, length, map, slice_index, Some, Contains};
+ghost use Rattle.std.specs.Prelude.{◌≡◌, ℕ, ◌+◌, ◌^◌, ◌<◌, ◌≤◌, fold, length, map, slice_index};
+ghost use Rattle.std.specs.Prelude.{Some, Contains};
 ghost use Rattle.map_core.specs.declared.kept.Seen.TheVariants.{From, Exact};
 ghost use Rattle.map_core.specs.Words.{pin_word, seen_in};
-ghost use Rattle.map_core.specs.Kept.{members, IsIn, first_free, first_kept, with_version, lowered, slots_after, kept_after, is_stay, slot_after, asks, is_spanned, IsPartOfKept, IsApart, AreExact, announcements};
+ghost use Rattle.map_core.specs.Kept.{members, IsIn, first_free, first_kept, with_version, lowered};
+ghost use Rattle.map_core.specs.Kept.{slots_after, kept_after, is_stay, slot_after, asks};
+ghost use Rattle.map_core.specs.Kept.{is_spanned, IsPartOfKept, IsApart, AreExact, announcements};
 
 /// The versions that are kept, at most 64: for each slot, 0 if it is free, or its version plus 1.
 #[derive(Clone, Copy, Debug, PartialEq, Eq)]
@@ -209,7 +212,10 @@ impl Kept {
 
     /// The versions kept after a collect whose scan saw these words.
     pub fn after_scan(&self, newest: u32, words: &[u64]) -> Kept
-        ensures { result ≡ record { slots = slots_after newest (map seen_in words.now) self.now.slots } }
+        ensures { result ≡ record {
+          slots = slots_after newest
+              (map seen_in words.now) self.now.slots;
+        } }
     {
         let mut slots = self.slots;
         for place in 0..64usize {
@@ -226,10 +232,13 @@ impl Kept {
     pub fn after(&self, newest: u32, seen: &[Option<Seen>]) -> Kept
         ensures kept { result ≡ kept_after self.now newest seen.now }
         ensures newest { IsIn self.now newest → IsIn result newest }
-        ensures exact { (v : ℕ) → Contains seen.now (Some (Exact v)) → IsIn self.now v → IsIn result v }
-        ensures from { (a v : ℕ) → Contains seen.now (Some (From a)) → a ≤ v → IsIn self.now v → IsIn result v }
+        ensures exact { (v : ℕ) → Contains seen.now (Some (Exact v)) → IsIn self.now v
+            → IsIn result v }
+        ensures from { (a v : ℕ) → Contains seen.now (Some (From a)) → a ≤ v → IsIn self.now v
+            → IsIn result v }
         ensures part { IsPartOfKept result.slots self.now.slots }
-        ensures few { IsApart self.now → AreExact seen.now → length (members result.slots) ≤ 1 + announcements seen.now }
+        ensures few { IsApart self.now → AreExact seen.now
+            → length (members result.slots) ≤ 1 + announcements seen.now }
     {
         self.stays(newest, seen)
     }

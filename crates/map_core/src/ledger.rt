@@ -3,7 +3,8 @@
 ghost use Rattle.std.specs.Prelude.{◌≡◌, ◌+◌, ◌^◌, ◌<◌, length, Some, None, if◌then◌else◌};
 ghost use Rattle.map_core.specs.Kept.{members, first_free, first_kept, with_version, least_kept};
 ghost use Rattle.metric.specs.declared.refusal.Refusal.TheVariants.{VersionsFull};
-ghost use Rattle.map_core.specs.declared.command.Reply.TheVariants.{Painted, Published, Reverted, Collected, Checkpointed};
+ghost use Rattle.map_core.specs.declared.command.Reply.TheVariants.{Painted, Published, Reverted};
+ghost use Rattle.map_core.specs.declared.command.Reply.TheVariants.{Collected, Checkpointed};
 ghost use Rattle.map_core.specs.Ledger.{HasPlace, IsBalanced, has_no_slot, refused_by_ledger};
 ghost use Rattle.map_core.specs.Words.{now_word};
 
@@ -157,7 +158,8 @@ impl Ledger {
     pub fn enter_collect(&mut self, kept: Kept, freed: u32) -> Reply
         requires { HasPlace self.old }
         ensures entered { self.new ≡ record self.old { places = self.old.places + 1; kept = kept } }
-        ensures reply { result ≡ Collected (self.old.places + 1) (least_kept self.old.newest kept) freed kept }
+        ensures reply { result ≡ Collected (self.old.places + 1)
+            (least_kept self.old.newest kept) freed kept }
     {
         self.places += 1;
         self.kept = kept;
@@ -172,7 +174,10 @@ impl Ledger {
     /// Enters a checkpoint: `Reply::Checkpointed`, with its place, which is then the base place.
     pub fn enter_checkpoint(&mut self) -> Reply
         requires { HasPlace self.old }
-        ensures entered { self.new ≡ record self.old { places = self.old.places + 1; base = self.old.places + 1 } }
+        ensures entered { self.new ≡ record self.old {
+          places = self.old.places + 1;
+          base = self.old.places + 1;
+        } }
         ensures reply { result ≡ Checkpointed (self.old.places + 1) }
     {
         self.places += 1;

@@ -59,9 +59,28 @@ impl Model for World {
     ghost use Rattle.std.specs.Vec.{vec_capacity};
     ghost use Rattle.std.specs.VecDeque.{deque_capacity};
 
-    ghost view = { λ a. state_of a.ledger.setting a.opening a.words.items a.log.items a.hand a.done a.scanned.items a.readers.items };
+    ghost view = { λ a. state_of a.ledger.setting a.opening a.words.items a.log.items a.hand a.done
+        a.scanned.items a.readers.items };
 
-    ghost invariant = { λ a. IsConsistent (state_of a.ledger.setting a.opening a.words.items a.log.items a.hand a.done a.scanned.items a.readers.items) a.hand a.steps a.readers.items record { ledger = a.ledger; draft = a.draft; published = a.published; came = a.came.items; own = a.own.items; free = a.free.items; retired = a.retired.items } record { log = vec_capacity a.log; scanned = vec_capacity a.scanned; free = deque_capacity a.free; retired = vec_capacity a.retired; scratch = a.scratch } };
+    ghost invariant = { λ a. IsConsistent
+        (state_of a.ledger.setting a.opening a.words.items a.log.items a.hand a.done a.scanned.items
+        a.readers.items) a.hand a.steps a.readers.items
+        record {
+          ledger = a.ledger;
+          draft = a.draft;
+          published = a.published;
+          came = a.came.items;
+          own = a.own.items;
+          free = a.free.items;
+          retired = a.retired.items;
+        }
+        record {
+          log = vec_capacity a.log;
+          scanned = vec_capacity a.scanned;
+          free = deque_capacity a.free;
+          retired = vec_capacity a.retired;
+          scratch = a.scratch;
+        } };
 }
 
 impl World {

@@ -2,8 +2,10 @@
 use Rattle.std.proofs.Common.{◌≡◌, ℕ, ◌<◌, ◌⊎◌, inl, inr, ◌∙◌, arith}
 use Rattle.metric.specs.Cellwise.{Key, IsAtMost}
 
--- an order by a number, and by the rest where numbers are equal, is transitive where the order of the rest is
-first_transitive : {R S T : Type 0} (a b c : ℕ) → (R → S → T) → ((a < b) ⊎ ((a ≡ b) × R)) → ((b < c) ⊎ ((b ≡ c) × S)) → (a < c) ⊎ ((a ≡ c) × T)
+-- an order by a number, and by the rest where numbers are equal, is transitive where the order of
+-- the rest is
+first_transitive : {R S T : Type 0} (a b c : ℕ) → (R → S → T) → ((a < b) ⊎ ((a ≡ b) × R))
+    → ((b < c) ⊎ ((b ≡ c) × S)) → (a < c) ⊎ ((a ≡ c) × T)
 first_transitive a b c rest (inl low) (inl high) = inl (omega arith)
 first_transitive a b c rest (inl low) (inr high) = let same = high.0 in inl (omega arith)
 first_transitive a b c rest (inr low) (inl high) = let same = low.0 in inl (omega arith)

@@ -1,19 +1,24 @@
 -- The order of keys, and what it makes of the nearest obstacle.
-use Rattle.std.proofs.Common.{◌≡◌, ℕ, ◌<◌, ◌≤◌, ◌⊎◌, ℤ, ◌<ℤ◌, inl, inr, Option, Some, None, refl, sym, ap, ◌∙◌, arith}
+use Rattle.std.proofs.Common.{◌≡◌, ℕ, ◌<◌, ◌≤◌, ◌⊎◌, ℤ, ◌<ℤ◌, inl, inr, Option, Some, None, refl}
+use Rattle.std.proofs.Common.{sym, ap, ◌∙◌, arith}
 use Rattle.std.specs.Option.{option_map}
 use Rattle.std.proofs.lemmas.Int.{ints}
 use Rattle.metric.specs.declared.near.Near.{Near}
 use Rattle.metric.specs.Nearest.{SpotKey, spot_key, IsLeastDistance, IsNoGreater, IsNear}
 
--- two natural numbers of which each comes first before the other are equal, and what decides further holds both ways
-first_both : {R S : Type 0} (a b : ℕ) → ((a < b) ⊎ ((a ≡ b) × R)) → ((b < a) ⊎ ((b ≡ a) × S)) → (a ≡ b) × R × S
+-- two natural numbers of which each comes first before the other are equal, and what decides
+-- further holds both ways
+first_both : {R S : Type 0} (a b : ℕ) → ((a < b) ⊎ ((a ≡ b) × R)) → ((b < a) ⊎ ((b ≡ a) × S))
+    → (a ≡ b) × R × S
 first_both a b (inl less) (inl more) = absurd (omega arith)
 first_both a b (inl less) (inr back) = let same = back.0 in absurd (omega arith)
 first_both a b (inr there) (inl more) = let same = there.0 in absurd (omega arith)
 first_both a b (inr there) (inr back) = (there.0, there.1, back.1)
 
--- two whole numbers of which each comes first before the other are equal, and what decides further holds both ways
-whole_both : {R S : Type 0} (a b : ℤ) → ((a <ℤ b) ⊎ ((a ≡ b) × R)) → ((b <ℤ a) ⊎ ((b ≡ a) × S)) → (a ≡ b) × R × S
+-- two whole numbers of which each comes first before the other are equal, and what decides further
+-- holds both ways
+whole_both : {R S : Type 0} (a b : ℤ) → ((a <ℤ b) ⊎ ((a ≡ b) × R)) → ((b <ℤ a) ⊎ ((b ≡ a) × S))
+    → (a ≡ b) × R × S
 whole_both a b (inl less) (inl more) = absurd (omega (arith, ints))
 whole_both a b (inl less) (inr back) = let same = back.0 in absurd (omega (arith, ints))
 whole_both a b (inr there) (inl more) = let same = there.0 in absurd (omega (arith, ints))
@@ -37,7 +42,8 @@ IsNoGreater-both p q there back =
 
 -- no key that is at most another has the greater distance
 pub IsNoGreater-distance : (p q : SpotKey) → IsNoGreater p q → p.distance ≤ q.distance
-IsNoGreater-distance p q most = elim most.order [ inl less ↦ omega arith | inr same ↦ let e = same.0 in omega arith ]
+IsNoGreater-distance p q most =
+    elim most.order [ inl less ↦ omega arith | inr same ↦ let e = same.0 in omega arith ]
 
 -- the obstacle at the spot (a, b) has this distance
 abbrev near_at : ℕ → ℤ → ℤ → Near
@@ -47,16 +53,24 @@ near_at dist a b = record { dist = dist; cell = record { x = a; y = b } }
 same_near : (p q : Near) → p.dist ≡ q.dist → p.cell.x ≡ q.cell.x → p.cell.y ≡ q.cell.y → p ≡ q
 same_near p q dist column row =
     ap (λ (d : ℕ). near_at d p.cell.x p.cell.y) dist
-    ∙ (ap (λ (a : ℤ). near_at q.dist a p.cell.y) column ∙ ap (λ (b : ℤ). near_at q.dist q.cell.x b) row)
+    ∙ (ap (λ (a : ℤ). near_at q.dist a p.cell.y) column
+    ∙ ap (λ (b : ℤ). near_at q.dist q.cell.x b) row)
 
 -- the distance of the nearest obstacle is the least distance
 pub IsNear-least : (distance : ℕ → ℕ → ℕ) (Obstacle : ℤ → ℤ → Type 0) (x y : ℕ) (near : Option Near)
-    → IsNear distance Obstacle x y near → IsLeastDistance distance Obstacle x y (option_map (λ n. n.dist) near)
+    → IsNear distance Obstacle x y near
+    → IsLeastDistance distance Obstacle x y (option_map (λ n. n.dist) near)
 IsNear-least distance Obstacle x y None none = none
 IsNear-least distance Obstacle x y (Some near) nearest = (
-  record { column = near.cell.x; row = near.cell.y; obstacle = nearest.obstacle; distance_is = sym nearest.distance_is },
+  record {
+    column = near.cell.x;
+    row = near.cell.y;
+    obstacle = nearest.obstacle;
+    distance_is = sym nearest.distance_is;
+  },
   λ a b obstacle.
-      let most = IsNoGreater-distance (spot_key distance x y near.cell.x near.cell.y) (spot_key distance x y a b) (nearest.least a b obstacle) in
+      let most = IsNoGreater-distance (spot_key distance x y near.cell.x near.cell.y)
+      (spot_key distance x y a b) (nearest.least a b obstacle) in
       let dist = nearest.distance_is in
       omega arith,
 )
@@ -65,8 +79,14 @@ IsNear-least distance Obstacle x y (Some near) nearest = (
 pub IsNear-one : (distance : ℕ → ℕ → ℕ) (Obstacle : ℤ → ℤ → Type 0) (x y : ℕ) (p q : Option Near)
     → IsNear distance Obstacle x y p → IsNear distance Obstacle x y q → p ≡ q
 IsNear-one distance Obstacle x y None None none also = refl
-IsNear-one distance Obstacle x y None (Some q) none nearest = absurd (none q.cell.x q.cell.y nearest.obstacle)
-IsNear-one distance Obstacle x y (Some p) None nearest none = absurd (none p.cell.x p.cell.y nearest.obstacle)
+IsNear-one distance Obstacle x y None (Some q) none nearest =
+    absurd (none q.cell.x q.cell.y nearest.obstacle)
+IsNear-one distance Obstacle x y (Some p) None nearest none =
+    absurd (none p.cell.x p.cell.y nearest.obstacle)
 IsNear-one distance Obstacle x y (Some p) (Some q) one other =
-    let same = IsNoGreater-both (spot_key distance x y p.cell.x p.cell.y) (spot_key distance x y q.cell.x q.cell.y) (one.least q.cell.x q.cell.y other.obstacle) (other.least p.cell.x p.cell.y one.obstacle) in
-    ap (λ (near : Near). Some near) (same_near p q (one.distance_is ∙ (same.distance ∙ sym other.distance_is)) same.column same.row)
+    let same = IsNoGreater-both (spot_key distance x y p.cell.x p.cell.y)
+    (spot_key distance x y q.cell.x q.cell.y) (one.least q.cell.x q.cell.y other.obstacle)
+    (other.least p.cell.x p.cell.y one.obstacle) in
+    ap (λ (near : Near). Some near)
+    (same_near p q (one.distance_is ∙ (same.distance ∙ sym other.distance_is)) same.column
+    same.row)

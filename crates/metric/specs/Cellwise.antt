@@ -13,14 +13,27 @@ pub record Key : Type 0 where
 
 -- obstacle (a, b) has this key, seen from cell (x, y)
 abbrev pub key_of : (ℕ → ℕ → ℕ) → ℕ → ℕ → ℕ → ℕ → Key
-key_of distance x y a b = record { distance = distance_between distance x y a b; column = a; row_difference = abs_diff y b; row = b }
+key_of distance x y a b =
+    record {
+      distance = distance_between distance x y a b;
+      column = a;
+      row_difference = abs_diff y b;
+      row = b;
+    }
 
 -- one key is at most the other: by distance, obstacle's column, row difference, obstacle's row
 pub record IsAtMost (p q : Key) : Type 0 where
-  pub order : (p.distance < q.distance) ⊎ ((p.distance ≡ q.distance) × ((p.column < q.column) ⊎ ((p.column ≡ q.column) × ((p.row_difference < q.row_difference) ⊎ ((p.row_difference ≡ q.row_difference) × (p.row ≤ q.row))))))
+  pub order : (p.distance < q.distance)
+      ⊎ ((p.distance ≡ q.distance)
+      × ((p.column < q.column)
+      ⊎ ((p.column ≡ q.column)
+      × ((p.row_difference < q.row_difference)
+      ⊎ ((p.row_difference ≡ q.row_difference) × (p.row ≤ q.row))))))
 
 -- obstacle (a, b) has the least key, and this distance, seen from cell (x, y)
-pub record IsNearestCell (distance : ℕ → ℕ → ℕ) (Obstacle : ℕ → ℕ → Type 0) (x y dist a b : ℕ) : Type 0 where
+pub record IsNearestCell (distance : ℕ → ℕ → ℕ) (Obstacle : ℕ → ℕ → Type 0) (x y dist a b : ℕ) :
+    Type 0 where
   pub obstacle : Obstacle a b
   pub distance_is : dist ≡ distance_between distance x y a b
-  pub least : (c d : ℕ) → Obstacle c d → IsAtMost (key_of distance x y a b) (key_of distance x y c d)
+  pub least : (c d : ℕ) → Obstacle c d
+      → IsAtMost (key_of distance x y a b) (key_of distance x y c d)

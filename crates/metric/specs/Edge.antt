@@ -1,5 +1,6 @@
 -- The edges of a map, by name: this project's own rule.
-use Rattle.std.specs.Prelude.{ℕ, zero, suc, ℤ, pos, negsuc, List, Option, Some, None, bytes_eq, codes, if◌then◌else◌}
+use Rattle.std.specs.Prelude.{ℕ, zero, suc, ℤ, pos, negsuc, List, Option, Some, None, bytes_eq}
+use Rattle.std.specs.Prelude.{codes, if◌then◌else◌}
 use Rattle.metric.specs.declared.edge.Edge.{Edge}
 use Rattle.metric.specs.declared.edge.Edge.TheVariants.{Open, Wall}
 use Rattle.metric.specs.declared.spot.Spot.{Spot}

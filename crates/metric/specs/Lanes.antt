@@ -9,7 +9,8 @@ use Rattle.metric.specs.Distance.{euclid2, city, chess}
 pub record IsSmall (distance : ℕ → ℕ → ℕ) (part : ℕ → ℕ) (joined : ℕ → ℕ → ℕ) : Type 0 where
   pub few : (g : ℕ) → part g ≤ 32400
   pub far : (g : ℕ) → 61438 ≤ g → part g ≡ 32400
-  pub told : (dx g : ℕ) → dx ≤ 97 → g ≤ 4097 → min 32400 (joined (part g) (distance dx 0)) ≡ min 32400 (distance dx g)
+  pub told : (dx g : ℕ) → dx ≤ 97 → g ≤ 4097
+      → min 32400 (joined (part g) (distance dx 0)) ≡ min 32400 (distance dx g)
   pub at_least : (p r : ℕ) → p ≤ joined p r
   pub fits : (p r : ℕ) → p ≤ 32400 → r ≤ 9409 → joined p r < 65536
   pub reach : (dx : ℕ) → dx ≤ 97 → distance dx 0 ≤ 9409
@@ -41,7 +42,8 @@ larger p r = max p r
 -- in 16 bits the square of the Euclidean distance is the sum of the part and the reach
 pub euclid2_small : IsSmall euclid2 square_part added
 euclid2_small = record {
-  few = λ g. let cut : min g 180 ≤ 180 = omega arith in let squares : min g 180 * min g 180 ≤ 180 * 180 = mul-le-mul cut cut in omega arith;
+  few = λ g. let cut : min g 180 ≤ 180 = omega arith in
+      let squares : min g 180 * min g 180 ≤ 180 * 180 = mul-le-mul cut cut in omega arith;
   far = λ g large. let cut : min g 180 ≡ 180 = omega arith in rw cut (omega arith);
   told = λ dx g near row. elim (cases_lt g 180) [
     | inl less ↦ let cut : min g 180 ≡ g = omega arith in rw cut (omega arith)

@@ -1,7 +1,8 @@
 -- The nearest of a set of obstacles, with a fixed rule for ties: this project's own rule. An
 -- obstacle is named by a spot, whose column and row are integers: in the frame around a map they
 -- may be -1.
-use Rattle.std.specs.Prelude.{◌≡◌, ℕ, suc, ◌+◌, ◌<◌, ◌≤◌, ◌⊎◌, ℤ, pos, negsuc, ◌<ℤ◌, ◌≤ℤ◌, Option, Some, None}
+use Rattle.std.specs.Prelude.{◌≡◌, ℕ, suc, ◌+◌, ◌<◌, ◌≤◌, ◌⊎◌, ℤ, pos, negsuc, ◌<ℤ◌, ◌≤ℤ◌, Option}
+use Rattle.std.specs.Prelude.{Some, None}
 use Rattle.std.specs.Int.{abs_diff}
 use Rattle.metric.specs.declared.near.Near.{Near}
 
@@ -23,17 +24,30 @@ pub record SpotKey : Type 0 where
 
 -- obstacle (a, b) has this key, seen from cell (x, y)
 abbrev pub spot_key : (ℕ → ℕ → ℕ) → ℕ → ℕ → ℤ → ℤ → SpotKey
-spot_key distance x y a b = record { distance = spot_distance distance x y a b; column = a; row_difference = apart y b; row = b }
+spot_key distance x y a b =
+    record {
+      distance = spot_distance distance x y a b;
+      column = a;
+      row_difference = apart y b;
+      row = b;
+    }
 
 -- one key is at most the other: by distance, obstacle's column, row difference, obstacle's row
 pub record IsNoGreater (p q : SpotKey) : Type 0 where
-  pub order : (p.distance < q.distance) ⊎ ((p.distance ≡ q.distance) × ((p.column <ℤ q.column) ⊎ ((p.column ≡ q.column) × ((p.row_difference < q.row_difference) ⊎ ((p.row_difference ≡ q.row_difference) × (p.row ≤ℤ q.row))))))
+  pub order : (p.distance < q.distance)
+      ⊎ ((p.distance ≡ q.distance)
+      × ((p.column <ℤ q.column)
+      ⊎ ((p.column ≡ q.column)
+      × ((p.row_difference < q.row_difference)
+      ⊎ ((p.row_difference ≡ q.row_difference) × (p.row ≤ℤ q.row))))))
 
 -- this obstacle has its distance from cell (x, y), and its key is the least
-pub record IsNearest (distance : ℕ → ℕ → ℕ) (Obstacle : ℤ → ℤ → Type 0) (x y : ℕ) (near : Near) : Type 0 where
+pub record IsNearest (distance : ℕ → ℕ → ℕ) (Obstacle : ℤ → ℤ → Type 0) (x y : ℕ) (near : Near) :
+    Type 0 where
   pub obstacle : Obstacle near.cell.x near.cell.y
   pub distance_is : near.dist ≡ spot_distance distance x y near.cell.x near.cell.y
-  pub least : (a b : ℤ) → Obstacle a b → IsNoGreater (spot_key distance x y near.cell.x near.cell.y) (spot_key distance x y a b)
+  pub least : (a b : ℤ) → Obstacle a b
+      → IsNoGreater (spot_key distance x y near.cell.x near.cell.y) (spot_key distance x y a b)
 
 -- this is the nearest obstacle of cell (x, y); none where there is no obstacle
 abbrev pub IsNear : (ℕ → ℕ → ℕ) → (ℤ → ℤ → Type 0) → ℕ → ℕ → Option Near → Type 0
@@ -54,4 +68,5 @@ IsLowerBound distance Obstacle x y d = (a b : ℤ) → Obstacle a b → d ≤ sp
 -- this is the least distance of cell (x, y) to an obstacle; none where there is no obstacle
 abbrev pub IsLeastDistance : (ℕ → ℕ → ℕ) → (ℤ → ℤ → Type 0) → ℕ → ℕ → Option ℕ → Type 0
 IsLeastDistance distance Obstacle x y None = (a b : ℤ) → Obstacle a b → ⊥
-IsLeastDistance distance Obstacle x y (Some d) = IsReached distance Obstacle x y d × IsLowerBound distance Obstacle x y d
+IsLeastDistance distance Obstacle x y (Some d) =
+    IsReached distance Obstacle x y d × IsLowerBound distance Obstacle x y d

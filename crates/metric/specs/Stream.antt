@@ -1,7 +1,8 @@
 -- What a contract sees of a byte stream: this project's own rule. A stream may show its bytes, as
 -- `Some` of the bytes left to read or written, or none, as `None`. A stream that shows none stays
 -- so.
-use Rattle.std.specs.Prelude.{◌≡◌, ◌≢◌, ℕ, ◌+◌, ◌<◌, ◌≤◌, ◌^◌, List, [], ◌∷◌, ◌++◌, length, take, slice_index, Option, Some, None, Result, Ok, Err}
+use Rattle.std.specs.Prelude.{◌≡◌, ◌≢◌, ℕ, ◌+◌, ◌<◌, ◌≤◌, ◌^◌, List, [], ◌∷◌, ◌++◌, length, take}
+use Rattle.std.specs.Prelude.{slice_index, Option, Some, None, Result, Ok, Err}
 
 -- what is left after one byte is taken from the front, or after the end is met
 abbrev pub TakesByte : Option (List ℕ) → Option ℕ → Option (List ℕ) → Type 0
@@ -15,7 +16,8 @@ Appends None bytes after = after ≡ None
 Appends (Some before) bytes after = after ≡ Some (before ++ bytes)
 
 -- a prefix of the bytes is appended to those written before
-pub record AppendsFront (before : Option (List ℕ)) (bytes : List ℕ) (after : Option (List ℕ)) : Type 0 where
+pub record AppendsFront (before : Option (List ℕ)) (bytes : List ℕ) (after : Option (List ℕ)) :
+    Type 0 where
   pub front : List ℕ
   pub back : List ℕ
   pub whole : bytes ≡ front ++ back
@@ -41,7 +43,8 @@ AreAll None bytes = Unit {0}
 AreAll (Some told) bytes = bytes ≡ told
 
 -- the block's first bytes are taken from those left; none only at the end or if the block is empty
-pub record TakesBlock (rest : Option (List ℕ)) (count : ℕ) (block : List ℕ) (left : Option (List ℕ)) : Type 0 where
+pub record TakesBlock (rest : Option (List ℕ)) (count : ℕ) (block : List ℕ)
+    (left : Option (List ℕ)) : Type 0 where
   pub fits : count ≤ length block
   pub taken : Takes rest (take count block) left
   pub ended : count ≡ 0 → block ≢ [] → AreAll rest []

@@ -10,4 +10,5 @@ pub record Wire : Type 0 where
 
 -- the wire of a stream that shows no bytes: this many reads and this many writes have failed
 abbrev pub silent : ℕ → ℕ → Wire
-silent reads writes = record { rest = None; held = None; failed_reads = reads; failed_writes = writes }
+silent reads writes =
+    record { rest = None; held = None; failed_reads = reads; failed_writes = writes }

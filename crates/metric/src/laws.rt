@@ -8,7 +8,8 @@ ghost use Rattle.metric.specs.declared.near.Near.{Near};
 /// A cell has at most one nearest obstacle: the rule for ties leaves no choice.
 pub fn one_nearest()
     ensures { (distance : ℕ → ℕ → ℕ) (test : ℤ → ℤ → Bool) (x y : ℕ) (p q : Option Near)
-        → IsNear distance (λ a b. test a b ≡ true) x y p → IsNear distance (λ a b. test a b ≡ true) x y q → p ≡ q }
+        → IsNear distance (λ a b. test a b ≡ true) x y p
+        → IsNear distance (λ a b. test a b ≡ true) x y q → p ≡ q }
 {}
 
 /// The distance of the nearest obstacle is the least distance to an obstacle; where one is none, so

@@ -1,9 +1,13 @@
 //! Distances between cells, as integers.
 
 ghost use Rattle.std.specs.Prelude.{◌≡◌, ℕ, ◌*◌, ◌/◌, ◌<◌, ◌≤◌, refl, slice_index, true};
-ghost use Rattle.metric.specs.Distance.{Grows, IsSum, chess, chess_grows, city, city_grows, euclid2, euclid2_grows};
-ghost use Rattle.metric.specs.Lanes.{AreUpTo, IsSmall, Reaches, added, chess_small, city_small, euclid2_small, larger, plain_part, square_part};
-ghost use Rattle.metric.specs.Crossing.{AreColumns, IsLastNotWorse, StaysNearer, chess_stays_nearer, city_stays_nearer, euclid2_stays_nearer};
+ghost use Rattle.metric.specs.Distance.{Grows, IsSum, chess, chess_grows, city, city_grows};
+ghost use Rattle.metric.specs.Distance.{euclid2, euclid2_grows};
+ghost use Rattle.metric.specs.Lanes.{AreUpTo, IsSmall, Reaches, added, chess_small, city_small};
+ghost use Rattle.metric.specs.Lanes.{euclid2_small, larger, plain_part, square_part};
+ghost use Rattle.metric.specs.Crossing.{AreColumns, IsLastNotWorse, StaysNearer};
+ghost use Rattle.metric.specs.Crossing.{chess_stays_nearer, city_stays_nearer};
+ghost use Rattle.metric.specs.Crossing.{euclid2_stays_nearer};
 
 use crate::limits::LAST_FRAMED;
 use std::simd::prelude::*;
@@ -67,7 +71,8 @@ pub trait Metric {
     fn join(parts: u16x8, reach: u16x8) -> u16x8
         requires parts { AreUpTo 32400 parts }
         requires reach { AreUpTo 9409 reach }
-        ensures { (i : ℕ) → i < 8 → slice_index result i ≡ joined (slice_index parts i) (slice_index reach i) };
+        ensures { (i : ℕ) → i < 8
+            → slice_index result i ≡ joined (slice_index parts i) (slice_index reach i) };
 
     /// A reach that isn't 0 is the distance of the columns only.
     ghost reaches: { 0 < reach_of 1 → Reaches distance reach_of };

@@ -254,7 +254,12 @@ impl Sink for MemoryStream<'_> {
 impl Stream for MemoryStream<'_> {
     ghost use Rattle.std.specs.Prelude.{refl};
 
-    ghost wire = { λ s. record { rest = Some s.read.bytes; held = Some s.written.bytes; failed_reads = s.read.failed; failed_writes = s.written.failed } };
+    ghost wire = { λ s. record {
+      rest = Some s.read.bytes;
+      held = Some s.written.bytes;
+      failed_reads = s.read.failed;
+      failed_writes = s.written.failed;
+    } };
 
     ghost shown = { λ s. refl };
 

@@ -5,7 +5,8 @@
 
 ghost use Rattle.std.specs.Prelude.{◌≡◌, ℕ, List, Option, IfOk, OnOk, OnErr};
 ghost use Rattle.metric.specs.Wire.{Wire};
-ghost use Rattle.metric.specs.Stream.{TakesByte, TakesBlock, StopsAt, Appends, AppendsFront, Counts, CanFail};
+ghost use Rattle.metric.specs.Stream.{TakesByte, TakesBlock, StopsAt, Appends, AppendsFront};
+ghost use Rattle.metric.specs.Stream.{Counts, CanFail};
 
 /// A read failed.
 #[derive(Clone, Copy, Debug, PartialEq, Eq)]
@@ -38,7 +39,8 @@ pub trait Source {
     /// Takes none only at the end, or if `block` is empty. A failed read takes nothing.
     fn next_block(&mut self, block: &mut [u8]) -> Result<usize, ReadFault>
         requires { CanFail (failed_reads self.old) }
-        ensures taken { IfOk result (λ count. TakesBlock (rest self.old) count block.new (rest self.new)) }
+        ensures taken { IfOk result
+            (λ count. TakesBlock (rest self.old) count block.new (rest self.new)) }
         ensures kept { OnErr result (rest self.new ≡ rest self.old) }
         ensures counts { Counts (failed_reads self.old) result (failed_reads self.new) }
         ensures written { written self.new ≡ written self.old }
@@ -49,7 +51,8 @@ pub trait Source {
     /// As `next_block`, but takes none after the first byte that is `stop`.
     fn next_until(&mut self, stop: u8, block: &mut [u8]) -> Result<usize, ReadFault>
         requires { CanFail (failed_reads self.old) }
-        ensures taken { IfOk result (λ count. TakesBlock (rest self.old) count block.new (rest self.new)) }
+        ensures taken { IfOk result
+            (λ count. TakesBlock (rest self.old) count block.new (rest self.new)) }
         ensures stops { IfOk result (λ count. StopsAt stop count block.new) }
         ensures kept { OnErr result (rest self.new ≡ rest self.old) }
         ensures counts { Counts (failed_reads self.old) result (failed_reads self.new) }
@@ -111,7 +114,13 @@ pub trait Stream: Source + Sink {
     ghost wire: { Self → Wire };
 
     /// The wire shows what the source and the sink show.
-    ghost shown: { (s : Self) → Self.wire s ≡ record { rest = Self.rest s; held = Self.held s; failed_reads = Self.failed_reads s; failed_writes = Self.failed_writes s } };
+    ghost shown: { (s : Self)
+        → Self.wire s ≡ record {
+          rest = Self.rest s;
+          held = Self.held s;
+          failed_reads = Self.failed_reads s;
+          failed_writes = Self.failed_writes s;
+        } };
 
     /// A write leaves the bytes left to read, and the count of failed reads.
     ghost reading: { (s : Self) → Self.unread s ≡ (Self.rest s, Self.failed_reads s) };

@@ -1,5 +1,6 @@
 -- Digits of pixels that stand side by side, and their bits as a number.
-use Rattle.std.proofs.Common.{◌≡◌, ℕ, ◌+◌, ◌-◌, ◌*◌, ◌/◌, ◌^◌, ◌<◌, ◌≤◌, ◌==◌, max, cond, List, length, take, drop, get_or, sym, ap, ◌∙◌, inl, inr, arith}
+use Rattle.std.proofs.Common.{◌≡◌, ℕ, ◌+◌, ◌-◌, ◌*◌, ◌/◌, ◌^◌, ◌<◌, ◌≤◌, ◌==◌, max, cond, List}
+use Rattle.std.proofs.Common.{length, take, drop, get_or, sym, ap, ◌∙◌, inl, inr, arith}
 use Rattle.std.proofs.lemmas.Bool.Decides.{nat_tests}
 use Rattle.std.specs.Int.{bit_at, trailing_ones, w64}
 use Rattle.std.specs.Int.RustNames.{bit_or}
@@ -16,12 +17,15 @@ use Rattle.bits.proofs.WriteLemmas.{bit_at-low}
 use Rattle.pbm.specs.Plain.{AreDigits, AreSomeRead}
 use Rattle.pbm.proofs.PartReads.{AreBitsRead-digits}
 
--- where one of two bits stands, which say whether a byte is the digit 1 or the digit 0, the byte is the digit of the first
-digit_is : (byte one none : ℕ) → one ≡ cond (byte == 49) 1 0 → none ≡ cond (byte == 48) 1 0 → max one none ≡ 1 → byte ≡ 48 + one
+-- where one of two bits stands, which say whether a byte is the digit 1 or the digit 0, the byte is
+-- the digit of the first
+digit_is : (byte one none : ℕ) → one ≡ cond (byte == 49) 1 0 → none ≡ cond (byte == 48) 1 0
+    → max one none ≡ 1 → byte ≡ 48 + one
 digit_is byte one none is_one is_none some = grind (arith, nat_tests)
 
 -- the bits below the lowest that is 0 are 1
-pub below_trailing : (word k : ℕ) → word < 2 ^ 64 → k < trailing_ones w64 word → trailing_ones w64 word ≤ 64 → bit_at word k ≡ 1
+pub below_trailing : (word k : ℕ) → word < 2 ^ 64 → k < trailing_ones w64 word
+    → trailing_ones w64 word ≤ 64 → bit_at word k ≡ 1
 below_trailing word k fits below few = elim (cases_lt (word + 1) (2 ^ 64)) [
   | inl some ↦ (bit_at-trailing_ones w64 word some).2 k below
   | inr none ↦
@@ -30,7 +34,8 @@ below_trailing word k fits below few = elim (cases_lt (word + 1) (2 ^ 64)) [
 ]
 
 -- a byte of the first block is the byte at its place
-block_byte : (bytes block : List ℕ) (k : ℕ) → block ≡ chunk 0 64 (take 64 bytes) → k < 64 → get_or block k 0 ≡ get_or bytes k 0
+block_byte : (bytes block : List ℕ) (k : ℕ) → block ≡ chunk 0 64 (take 64 bytes) → k < 64
+    → get_or block k 0 ≡ get_or bytes k 0
 block_byte bytes block k front within =
     let place : 0 + k ≡ k = omega arith in
     ap (λ (l : List ℕ). get_or l k 0) front
@@ -38,21 +43,27 @@ block_byte bytes block k front within =
     ∙ (ap (λ (n : ℕ). get_or (take 64 bytes) n 0) place ∙ get_or-take 64 bytes k 0 within))
 
 -- the bytes of a block are digits as far as each one's bit says so
-pub AreDigits-block : (count : ℕ) (bytes block : List ℕ) (ones zeros : ℕ) → 64 ≤ length bytes → block ≡ chunk 0 64 (take 64 bytes)
-    → ((k : ℕ) → k < 64 → bit_at ones k ≡ cond (get_or block k 0 == 49) 1 0) → ((k : ℕ) → k < 64 → bit_at zeros k ≡ cond (get_or block k 0 == 48) 1 0)
-    → count ≤ 64 → ((k : ℕ) → k < count → bit_at (bit_or ones zeros) k ≡ 1) → AreDigits count bytes ones
+pub AreDigits-block : (count : ℕ) (bytes block : List ℕ) (ones zeros : ℕ) → 64 ≤ length bytes
+    → block ≡ chunk 0 64 (take 64 bytes)
+    → ((k : ℕ) → k < 64 → bit_at ones k ≡ cond (get_or block k 0 == 49) 1 0)
+    → ((k : ℕ) → k < 64 → bit_at zeros k ≡ cond (get_or block k 0 == 48) 1 0)
+    → count ≤ 64 → ((k : ℕ) → k < count → bit_at (bit_or ones zeros) k ≡ 1)
+    → AreDigits count bytes ones
 AreDigits-block count bytes block ones zeros enough front is_one is_zero few some = record {
   enough = omega arith;
   digits = λ k before.
       let within : k < 64 = omega arith in
       let at : get_or block k 0 ≡ get_or bytes k 0 = block_byte bytes block k front within in
-      sym at ∙ digit_is (get_or block k 0) (bit_at ones k) (bit_at zeros k) (is_one k within) (is_zero k within) (sym (bit_at_or ones zeros k) ∙ some k before);
+      sym at ∙ digit_is (get_or block k 0) (bit_at ones k) (bit_at zeros k) (is_one k within)
+      (is_zero k within) (sym (bit_at_or ones zeros k) ∙ some k before);
 }
 
 -- the bits after those of a word fit into as many places as both take
-pub behind-fits : (word place bits count : ℕ) → word < 2 ^ place → bits < 2 ^ count → bits * 2 ^ place + word < 2 ^ (place + count)
+pub behind-fits : (word place bits count : ℕ) → word < 2 ^ place → bits < 2 ^ count
+    → bits * 2 ^ place + word < 2 ^ (place + count)
 behind-fits word place bits count small few =
-    let up : (bits + 1) * 2 ^ place ≤ 2 ^ count * 2 ^ place = mul-le-mul_right (2 ^ place) (omega arith) in
+    let up : (bits + 1) * 2 ^ place ≤ 2 ^ count * 2 ^ place =
+    mul-le-mul_right (2 ^ place) (omega arith) in
     let all : 2 ^ (place + count) ≡ 2 ^ place * 2 ^ count = pow-add 2 place count in
     omega (arith, up, all)
 
@@ -61,18 +72,22 @@ pub within-word : (place count : ℕ) → place + count ≤ 64 → 2 ^ (place + 
 within-word place count room = pow-le-pow_right (omega arith) room
 
 -- the first of some digits are read as their number without the bits of the others
-pub AreSomeRead-digits : (run most count : ℕ) (bytes : List ℕ) (number : ℕ) → 0 < count → count ≤ most → count ≤ run → count ≤ 64 → AreDigits run bytes number
-    → AreSomeRead most bytes count (bit_and number ((2 ^ 64 - 1) / 2 ^ (64 - count))) (drop count bytes)
+pub AreSomeRead-digits : (run most count : ℕ) (bytes : List ℕ) (number : ℕ) → 0 < count
+    → count ≤ most → count ≤ run → count ≤ 64 → AreDigits run bytes number
+    → AreSomeRead most bytes count (bit_and number ((2 ^ 64 - 1) / 2 ^ (64 - count)))
+    (drop count bytes)
 AreSomeRead-digits run most count bytes number some few within room are =
     let left : 64 - (64 - count) ≡ count = omega arith in
-    let mask : (2 ^ 64 - 1) / 2 ^ (64 - count) ≡ 2 ^ count - 1 = ones_shr 64 (64 - count) (omega arith) ∙ ap (λ (n : ℕ). 2 ^ n - 1) left in
+    let mask : (2 ^ 64 - 1) / 2 ^ (64 - count) ≡ 2 ^ count - 1 =
+    ones_shr 64 (64 - count) (omega arith) ∙ ap (λ (n : ℕ). 2 ^ n - 1) left in
     let enough = are.enough in
     rw mask (record {
       some = some;
       few = few;
       read = AreBitsRead-digits count bytes (bit_and number (2 ^ count - 1)) (record {
         enough = omega arith;
-        digits = λ k before. are.digits k (omega arith) ∙ ap (λ (n : ℕ). 48 + n) (sym (bit_at-low number count k before));
+        digits = λ k before. are.digits k (omega arith)
+            ∙ ap (λ (n : ℕ). 48 + n) (sym (bit_at-low number count k before));
       });
       below = mask_lt number count;
     })

@@ -1,5 +1,7 @@
 -- Eight pixels of a word, as a byte and as digits.
-use Rattle.std.proofs.Common.{◌≡◌, ℕ, ◌+◌, ◌-◌, ◌*◌, ◌^◌, ◌<◌, ◌≤◌, ◌==◌, Bool, true, false, cond, eqb, bit_and, List, [], ◌∷◌, ◌++◌, length, take, get_or, refl, ap, ◌∙◌, inl, inr, arith}
+use Rattle.std.proofs.Common.{◌≡◌, ℕ, ◌+◌, ◌-◌, ◌*◌, ◌^◌, ◌<◌, ◌≤◌, ◌==◌, Bool, true, false, cond}
+use Rattle.std.proofs.Common.{eqb, bit_and, List, [], ◌∷◌, ◌++◌, length, take, get_or, refl, ap}
+use Rattle.std.proofs.Common.{◌∙◌, inl, inr, arith}
 use Rattle.std.specs.Int.{bit_at}
 use Rattle.std.specs.Simd.Lanes.{top}
 use Rattle.std.proofs.lemmas.Bool.{cases_lt}
@@ -23,7 +25,8 @@ top_of_lane false = refl
 
 -- the digit of a lane, by the test of one bit alone
 abbrev pub lane_digit : ℕ → ℕ → ℕ
-lane_digit eight place = cond {A = ℕ} (top 7 (cond {A = ℕ} (eqb (bit_and eight place) place) 255 0)) 49 48
+lane_digit eight place =
+    cond {A = ℕ} (top 7 (cond {A = ℕ} (eqb (bit_and eight place) place) 255 0)) 49 48
 
 -- a bit times a power of two is that power where the bit is set
 digit_by_bit : (b n : ℕ) → b < 2 → 0 < n → cond {A = ℕ} (b * n == n) 49 48 ≡ 48 + b
@@ -40,18 +43,23 @@ lane_digit-is eight i =
 
 -- the digits of eight lanes
 abbrev pub lane_digits : ℕ → List ℕ
-lane_digits eight = lane_digit eight 1 ∷ lane_digit eight 2 ∷ lane_digit eight 4 ∷ lane_digit eight 8 ∷ lane_digit eight 16 ∷ lane_digit eight 32 ∷ lane_digit eight 64 ∷ lane_digit eight 128 ∷ []
+lane_digits eight =
+    lane_digit eight 1 ∷ lane_digit eight 2 ∷ lane_digit eight 4 ∷ lane_digit eight 8
+    ∷ lane_digit eight 16 ∷ lane_digit eight 32 ∷ lane_digit eight 64 ∷ lane_digit eight 128 ∷ []
 
 -- each of eight lanes' digits is that of its bit
 pub lane_digits-are : (eight i : ℕ) → i < 8 → get_or (lane_digits eight) i 0 ≡ 48 + bit_at eight i
 lane_digits-are eight i within =
     each_of_eight (λ k. get_or (lane_digits eight) k 0 ≡ 48 + bit_at eight k)
     (lane_digit-is eight 0) (lane_digit-is eight 1) (lane_digit-is eight 2) (lane_digit-is eight 3)
-    (lane_digit-is eight 4) (lane_digit-is eight 5) (lane_digit-is eight 6) (lane_digit-is eight 7) i within
+    (lane_digit-is eight 4) (lane_digit-is eight 5) (lane_digit-is eight 6)
+    (lane_digit-is eight 7) i within
 
 -- what was written from a place on stands there
-pub get_or-written : (first k : ℕ) (row bytes rest : List ℕ) → first ≤ length row → k < length bytes → get_or (take first row ++ (bytes ++ rest)) (first + k) 0 ≡ get_or bytes k 0
+pub get_or-written : (first k : ℕ) (row bytes rest : List ℕ) → first ≤ length row → k < length bytes
+    → get_or (take first row ++ (bytes ++ rest)) (first + k) 0 ≡ get_or bytes k 0
 get_or-written first k row bytes rest within inside =
     let back : first + k - first ≡ k = omega arith in
-    get_or-append_right (take first row) (bytes ++ rest) first (first + k) 0 (length-take-le first row within) (omega arith)
+    get_or-append_right (take first row) (bytes ++ rest) first (first + k) 0
+    (length-take-le first row within) (omega arith)
     ∙ (ap (λ (n : ℕ). get_or (bytes ++ rest) n 0) back ∙ get_or_append_left bytes rest 0 k inside)

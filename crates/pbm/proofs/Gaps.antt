@@ -1,5 +1,6 @@
 -- Gaps: what is read is a gap, and a gap is read.
-use Rattle.std.proofs.Common.{◌≡◌, ℕ, Bool, true, false, cond, eqb, ◌&&◌, List, [], ◌∷◌, ◌++◌, Ok, Err, refl, ap, ◌∙◌, inl, inr}
+use Rattle.std.proofs.Common.{◌≡◌, ℕ, Bool, true, false, cond, eqb, ◌&&◌, List, [], ◌∷◌, ◌++◌, Ok}
+use Rattle.std.proofs.Common.{Err, refl, ap, ◌∙◌, inl, inr}
 use Rattle.std.specs.Prelude.{not}
 use Rattle.std.proofs.lemmas.Bool.{and_parts}
 use Rattle.metric.specs.declared.fault.PbmFault.TheVariants.{MissingSpace, BadComment}
@@ -17,8 +18,13 @@ pub record SpaceRead (bytes rest : List ℕ) : Type 0 where
 pub space-read : (bytes rest : List ℕ) → space bytes ≡ Ok rest → SpaceRead bytes rest
 space-read [] rest e = absurd cc
 space-read (byte ∷ others) rest e =
-    elim (chosen (is_whitespace byte) (Ok others) (cond (eqb byte 35) (Err BadComment) (Err MissingSpace)) (Ok rest) e) [
-      | inl spaced ↦ record { first = byte; split = ap (λ (t : List ℕ). byte ∷ t) (ok_is others rest spaced.1); first_is = spaced.0 }
+    elim (chosen (is_whitespace byte) (Ok others)
+    (cond (eqb byte 35) (Err BadComment) (Err MissingSpace)) (Ok rest) e) [
+      | inl spaced ↦ record {
+        first = byte;
+        split = ap (λ (t : List ℕ). byte ∷ t) (ok_is others rest spaced.1);
+        first_is = spaced.0;
+      }
       | inr end ↦ elim (chosen (eqb byte 35) (Err BadComment) (Err MissingSpace) (Ok rest) end.1) [
         | inl comment ↦ absurd (let no = comment.1 in cc)
         | inr other ↦ absurd (let no = other.1 in cc)
@@ -32,22 +38,42 @@ record FillingRead (in_comment : Bool) (bytes rest : List ℕ) : Type 0 where
   all_fills : fills in_comment text ≡ true
 
 -- a further byte was read
-FillingRead-cons : (byte : ℕ) (others rest : List ℕ) (in_comment after : Bool) → ((text : List ℕ) → fills after text ≡ true → fills in_comment (byte ∷ text) ≡ true) → FillingRead after others rest → FillingRead in_comment (byte ∷ others) rest
-FillingRead-cons byte others rest in_comment after more r = record { text = byte ∷ r.text; split = ap (λ (t : List ℕ). byte ∷ t) r.split; all_fills = more r.text r.all_fills }
+FillingRead-cons : (byte : ℕ) (others rest : List ℕ) (in_comment after : Bool)
+    → ((text : List ℕ) → fills after text ≡ true → fills in_comment (byte ∷ text) ≡ true)
+    → FillingRead after others rest → FillingRead in_comment (byte ∷ others) rest
+FillingRead-cons byte others rest in_comment after more r =
+    record {
+      text = byte ∷ r.text;
+      split = ap (λ (t : List ℕ). byte ∷ t) r.split;
+      all_fills = more r.text r.all_fills;
+    }
 
 -- the rest of a gap that is read fills a gap
-filling-read : (in_comment : Bool) (bytes rest : List ℕ) → filling in_comment bytes ≡ Ok rest → FillingRead in_comment bytes rest
+filling-read : (in_comment : Bool) (bytes rest : List ℕ) → filling in_comment bytes ≡ Ok rest
+    → FillingRead in_comment bytes rest
 unfolding filling fills
 filling-read true [] rest e = absurd cc
 filling-read false [] rest e = absurd cc
-filling-read true (byte ∷ others) rest e = FillingRead-cons byte others rest true (not (is_line_end byte)) (λ text h. h) (filling-read (not (is_line_end byte)) others rest e)
+filling-read true (byte ∷ others) rest e =
+    FillingRead-cons byte others rest true (not (is_line_end byte)) (λ text h. h)
+    (filling-read (not (is_line_end byte)) others rest e)
 filling-read false (byte ∷ others) rest e =
-    elim (chosen (is_whitespace byte) (filling false others) (cond (eqb byte 35) (filling true others) (Ok (byte ∷ others))) (Ok rest) e) [
-      | inl spaced ↦ let is = spaced.0 in FillingRead-cons byte others rest false false (λ text h. rw is h) (filling-read false others rest spaced.1)
-      | inr solid ↦ elim (chosen (eqb byte 35) (filling true others) (Ok (byte ∷ others)) (Ok rest) solid.1) [
-        | inl comment ↦ let is = comment.0 in let no = solid.0 in FillingRead-cons byte others rest false true (λ text h. rw (no, is) h) (filling-read true others rest comment.1)
-        | inr end ↦ record { text = []; split = ok_is (byte ∷ others) rest end.1; all_fills = refl }
-      ]
+    elim (chosen (is_whitespace byte) (filling false others)
+    (cond (eqb byte 35) (filling true others) (Ok (byte ∷ others))) (Ok rest) e) [
+      | inl spaced ↦ let is = spaced.0 in
+          FillingRead-cons byte others rest false false (λ text h. rw is h)
+          (filling-read false others rest spaced.1)
+      | inr solid ↦ elim (chosen (eqb byte 35) (filling true others) (Ok (byte ∷ others))
+          (Ok rest) solid.1) [
+            | inl comment ↦ let is = comment.0 in let no = solid.0 in
+                FillingRead-cons byte others rest false true (λ text h. rw (no, is) h)
+                (filling-read true others rest comment.1)
+            | inr end ↦ record {
+              text = [];
+              split = ok_is (byte ∷ others) rest end.1;
+              all_fills = refl;
+            }
+          ]
     ]
 
 -- a gap was read from the bytes
@@ -57,10 +83,21 @@ pub record GapRead (bytes rest : List ℕ) : Type 0 where
   pub is_gap : IsGap text
 
 -- whitespace and the rest of a gap are a gap
-pub GapRead-from : (byte : ℕ) (others rest : List ℕ) → is_whitespace byte ≡ true → filling false others ≡ Ok rest → GapRead (byte ∷ others) rest
+pub GapRead-from : (byte : ℕ) (others rest : List ℕ) → is_whitespace byte ≡ true
+    → filling false others ≡ Ok rest → GapRead (byte ∷ others) rest
 GapRead-from byte others rest is e =
     let r = filling-read false others rest e in
-    record { text = byte ∷ r.text; split = ap (λ (t : List ℕ). byte ∷ t) r.split; is_gap = record { first = byte; others = r.text; is_text = refl; first_is = is; others_are = r.all_fills } }
+    record {
+      text = byte ∷ r.text;
+      split = ap (λ (t : List ℕ). byte ∷ t) r.split;
+      is_gap = record {
+        first = byte;
+        others = r.text;
+        is_text = refl;
+        first_is = is;
+        others_are = r.all_fills;
+      };
+    }
 
 -- a gap that is read is a gap
 pub gap-read : (bytes rest : List ℕ) → gap bytes ≡ Ok rest → GapRead bytes rest
@@ -77,18 +114,24 @@ pub record EndsGap (byte : ℕ) : Type 0 where
   pub no_comment : eqb byte 35 ≡ false
 
 -- whitespace is read
-pub space-again : (byte : ℕ) (rest : List ℕ) → is_whitespace byte ≡ true → space (byte ∷ rest) ≡ Ok rest
+pub space-again : (byte : ℕ) (rest : List ℕ) → is_whitespace byte ≡ true
+    → space (byte ∷ rest) ≡ Ok rest
 space-again byte rest is = rw is refl
 
 -- what fills a gap is read, up to a byte that ends it
-pub filling-again : (in_comment : Bool) (text : List ℕ) (byte : ℕ) (rest : List ℕ) → fills in_comment text ≡ true → EndsGap byte → filling in_comment (text ++ byte ∷ rest) ≡ Ok (byte ∷ rest)
+pub filling-again : (in_comment : Bool) (text : List ℕ) (byte : ℕ) (rest : List ℕ)
+    → fills in_comment text ≡ true → EndsGap byte
+    → filling in_comment (text ++ byte ∷ rest) ≡ Ok (byte ∷ rest)
 unfolding filling fills
 filling-again true [] byte rest is end = absurd cc
 filling-again false [] byte rest is end = rw (end.no_whitespace, end.no_comment) refl
-filling-again true (first ∷ others) byte rest is end = filling-again (not (is_line_end first)) others byte rest is end
+filling-again true (first ∷ others) byte rest is end =
+    filling-again (not (is_line_end first)) others byte rest is end
 filling-again false (first ∷ others) byte rest is end =
-    elim (chosen (is_whitespace first) (fills false others) (eqb first 35 && fills true others) true is) [
-      | inl spaced ↦ let white = spaced.0 in rw white (filling-again false others byte rest spaced.1 end)
+    elim (chosen (is_whitespace first) (fills false others)
+    (eqb first 35 && fills true others) true is) [
+      | inl spaced ↦ let white = spaced.0 in
+          rw white (filling-again false others byte rest spaced.1 end)
       | inr solid ↦
           let parts = and_parts (eqb first 35) (fills true others) solid.1 in
           let no = solid.0 in
@@ -97,20 +140,24 @@ filling-again false (first ∷ others) byte rest is end =
     ]
 
 -- a gap is read, up to a byte that ends it
-pub gap-again : (text : List ℕ) (byte : ℕ) (rest : List ℕ) → IsGap text → EndsGap byte → gap (text ++ byte ∷ rest) ≡ Ok (byte ∷ rest)
+pub gap-again : (text : List ℕ) (byte : ℕ) (rest : List ℕ) → IsGap text → EndsGap byte
+    → gap (text ++ byte ∷ rest) ≡ Ok (byte ∷ rest)
 unfolding gap
 gap-again text byte rest is end =
-    let one : gap ((is.first ∷ is.others) ++ byte ∷ rest) ≡ Ok (byte ∷ rest) = rw is.first_is (filling-again false is.others byte rest is.others_are end) in
+    let one : gap ((is.first ∷ is.others) ++ byte ∷ rest) ≡ Ok (byte ∷ rest) =
+    rw is.first_is (filling-again false is.others byte rest is.others_are end) in
     ap (λ (t : List ℕ). gap (t ++ byte ∷ rest)) is.is_text ∙ one
 
 -- after what fills a gap more may fill it
-pub fills-append : (in_comment : Bool) (text more : List ℕ) → fills in_comment text ≡ true → fills in_comment (text ++ more) ≡ fills false more
+pub fills-append : (in_comment : Bool) (text more : List ℕ) → fills in_comment text ≡ true
+    → fills in_comment (text ++ more) ≡ fills false more
 unfolding fills
 fills-append true [] more is = absurd cc
 fills-append false [] more is = refl
 fills-append true (first ∷ others) more is = fills-append (not (is_line_end first)) others more is
 fills-append false (first ∷ others) more is =
-    elim (chosen (is_whitespace first) (fills false others) (eqb first 35 && fills true others) true is) [
+    elim (chosen (is_whitespace first) (fills false others)
+    (eqb first 35 && fills true others) true is) [
       | inl spaced ↦ let white = spaced.0 in rw white (fills-append false others more spaced.1)
       | inr solid ↦
           let parts = and_parts (eqb first 35) (fills true others) solid.1 in
@@ -129,7 +176,10 @@ fills-gap text is =
 -- no missing whitespace reports out of memory
 pub space-of_bytes : (bytes : List ℕ) → IsOfBytes (space bytes)
 space-of_bytes [] = λ e. cc
-space-of_bytes (byte ∷ rest) = cond-of_bytes (is_whitespace byte) (Ok rest) (cond (eqb byte 35) (Err BadComment) (Err MissingSpace)) tt (cond-of_bytes (eqb byte 35) (Err BadComment) (Err MissingSpace) (λ e. cc) (λ e. cc))
+space-of_bytes (byte ∷ rest) =
+    cond-of_bytes (is_whitespace byte) (Ok rest)
+    (cond (eqb byte 35) (Err BadComment) (Err MissingSpace)) tt
+    (cond-of_bytes (eqb byte 35) (Err BadComment) (Err MissingSpace) (λ e. cc) (λ e. cc))
 
 -- no rest of a gap reports out of memory
 filling-of_bytes : (in_comment : Bool) (bytes : List ℕ) → IsOfBytes (filling in_comment bytes)
@@ -137,9 +187,14 @@ unfolding filling
 filling-of_bytes true [] = λ e. cc
 filling-of_bytes false [] = λ e. cc
 filling-of_bytes true (byte ∷ rest) = filling-of_bytes (not (is_line_end byte)) rest
-filling-of_bytes false (byte ∷ rest) = cond-of_bytes (is_whitespace byte) (filling false rest) (cond (eqb byte 35) (filling true rest) (Ok (byte ∷ rest))) (filling-of_bytes false rest) (cond-of_bytes (eqb byte 35) (filling true rest) (Ok (byte ∷ rest)) (filling-of_bytes true rest) tt)
+filling-of_bytes false (byte ∷ rest) =
+    cond-of_bytes (is_whitespace byte) (filling false rest)
+    (cond (eqb byte 35) (filling true rest) (Ok (byte ∷ rest))) (filling-of_bytes false rest)
+    (cond-of_bytes (eqb byte 35) (filling true rest) (Ok (byte ∷ rest))
+    (filling-of_bytes true rest) tt)
 
 -- no gap reports out of memory
 pub gap-of_bytes : (bytes : List ℕ) → IsOfBytes (gap bytes)
 unfolding gap
-gap-of_bytes bytes = bind-of_bytes (space bytes) (filling false) (space-of_bytes bytes) (filling-of_bytes false)
+gap-of_bytes bytes =
+    bind-of_bytes (space bytes) (filling false) (space-of_bytes bytes) (filling-of_bytes false)

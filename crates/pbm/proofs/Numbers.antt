@@ -1,7 +1,9 @@
 -- Numbers: what is read is spelled so, and what is spelled so is read.
-use Rattle.std.proofs.Common.{◌≡◌, ℕ, ◌+◌, ◌-◌, ◌*◌, ◌<◌, true, false, cond, eqb, ltb, List, [], ◌∷◌, ◌++◌, Ok, Err, refl, sym, ap, ◌∙◌, inl, inr, arith}
+use Rattle.std.proofs.Common.{◌≡◌, ℕ, ◌+◌, ◌-◌, ◌*◌, ◌<◌, true, false, cond, eqb, ltb, List, []}
+use Rattle.std.proofs.Common.{◌∷◌, ◌++◌, Ok, Err, refl, sym, ap, ◌∙◌, inl, inr, arith}
 use Rattle.std.specs.List.{list_all}
-use Rattle.std.proofs.lemmas.Bool.{eqb-false, ltb-false, lt-ltb, le-ltb, ne_eqb, and_parts, and_from}
+use Rattle.std.proofs.lemmas.Bool.{eqb-false, ltb-false, lt-ltb, le-ltb, ne_eqb, and_parts}
+use Rattle.std.proofs.lemmas.Bool.{and_from}
 use Rattle.metric.specs.declared.fault.PbmFault.TheVariants.{BadNumber, ZeroSize, TooLarge}
 use Rattle.bits.specs.Cells.{IsSide}
 use Rattle.pbm.specs.Faults.{side, digits, number_and_rest}
@@ -18,30 +20,40 @@ digits-over : (a b : ℕ) (bytes : List ℕ) → 4096 < a → 4096 < b → digit
 unfolding digits
 digits-over a b [] p q = side-over a [] p ∙ sym (side-over b [] q)
 digits-over a b (byte ∷ rest) p q =
-    elim (is_digit byte) as (λ t. cond t (digits (10 * a + (byte - 48)) rest) (side a (byte ∷ rest)) ≡ cond t (digits (10 * b + (byte - 48)) rest) (side b (byte ∷ rest))) [
-      | true ↦ digits-over (10 * a + (byte - 48)) (10 * b + (byte - 48)) rest (omega arith) (omega arith)
+    elim (is_digit byte) as (λ t. cond t (digits (10 * a + (byte - 48)) rest) (side a (byte ∷ rest))
+    ≡ cond t (digits (10 * b + (byte - 48)) rest) (side b (byte ∷ rest))) [
+      | true ↦ digits-over (10 * a + (byte - 48)) (10 * b + (byte - 48)) rest (omega arith)
+          (omega arith)
       | false ↦ side-over a (byte ∷ rest) p ∙ sym (side-over b (byte ∷ rest) q)
     ]
 
 -- a digit after a value over the longest side is skipped
-pub digits-pass : (value byte : ℕ) (bytes rest : List ℕ) → bytes ≡ byte ∷ rest → is_digit byte ≡ true → 4096 < value → digits value bytes ≡ digits value rest
+pub digits-pass : (value byte : ℕ) (bytes rest : List ℕ) → bytes ≡ byte ∷ rest
+    → is_digit byte ≡ true → 4096 < value → digits value bytes ≡ digits value rest
 unfolding digits
 digits-pass value byte bytes rest split is over =
-    let one : digits value (byte ∷ rest) ≡ digits value rest = rw is (digits-over (10 * value + (byte - 48)) value rest (omega arith) over) in
+    let one : digits value (byte ∷ rest) ≡ digits value rest =
+    rw is (digits-over (10 * value + (byte - 48)) value rest (omega arith) over) in
     ap (digits value) split ∙ one
 
 -- a side that is accepted is as long as a side may be
-side-accepted : (value : ℕ) (rest : List ℕ) (found : ℕ × List ℕ) → side value rest ≡ Ok found → (found.0 ≡ value) × (found.1 ≡ rest) × IsSide value
+side-accepted : (value : ℕ) (rest : List ℕ) (found : ℕ × List ℕ) → side value rest ≡ Ok found
+    → (found.0 ≡ value) × (found.1 ≡ rest) × IsSide value
 side-accepted value rest found e =
-    elim (chosen (eqb value 0) (Err ZeroSize) (cond (ltb 4096 value) (Err TooLarge) (Ok (value, rest))) (Ok found) e) [
+    elim (chosen (eqb value 0) (Err ZeroSize)
+    (cond (ltb 4096 value) (Err TooLarge) (Ok (value, rest))) (Ok found) e) [
       | inl zero ↦ absurd (let no = zero.1 in cc)
-      | inr some ↦ elim (chosen (ltb 4096 value) (Err TooLarge) (Ok (value, rest)) (Ok found) some.1) [
-        | inl over ↦ absurd (let no = over.1 in cc)
-        | inr few ↦
-            let same = ok_is (value, rest) found few.1 in
-            let nonzero = eqb-false value 0 some.0 in
-            (sym (ap (λ (p : ℕ × List ℕ). p.0) same), sym (ap (λ (p : ℕ × List ℕ). p.1) same), record { some = omega arith; few = ltb-false 4096 value few.0 })
-      ]
+      | inr some ↦ elim (chosen (ltb 4096 value) (Err TooLarge) (Ok (value, rest))
+          (Ok found) some.1) [
+            | inl over ↦ absurd (let no = over.1 in cc)
+            | inr few ↦
+                let same = ok_is (value, rest) found few.1 in
+                let nonzero = eqb-false value 0 some.0 in (
+                  sym (ap (λ (p : ℕ × List ℕ). p.0) same),
+                  sym (ap (λ (p : ℕ × List ℕ). p.1) same),
+                  record { some = omega arith; few = ltb-false 4096 value few.0 },
+                )
+          ]
     ]
 
 -- digits were read from the bytes
@@ -53,21 +65,36 @@ record DigitsRead (so_far : ℕ) (bytes : List ℕ) (found : ℕ × List ℕ) : 
   is_side : IsSide found.0
 
 -- where digits end at once, the side is accepted as it is
-digits-ended : (so_far : ℕ) (bytes : List ℕ) (found : ℕ × List ℕ) → side so_far bytes ≡ Ok found → DigitsRead so_far bytes found
+digits-ended : (so_far : ℕ) (bytes : List ℕ) (found : ℕ × List ℕ) → side so_far bytes ≡ Ok found
+    → DigitsRead so_far bytes found
 unfolding value_from
 digits-ended so_far bytes found e =
     let is = side-accepted so_far bytes found e in
-    record { text = []; split = sym is.1; all_are = refl; value_is = sym is.0; is_side = rw is.0 is.2 }
+    record {
+      text = [];
+      split = sym is.1;
+      all_are = refl;
+      value_is = sym is.0;
+      is_side = rw is.0 is.2;
+    }
 
 -- digits that are read are spelled so
-digits-read : (so_far : ℕ) (bytes : List ℕ) (found : ℕ × List ℕ) → digits so_far bytes ≡ Ok found → DigitsRead so_far bytes found
+digits-read : (so_far : ℕ) (bytes : List ℕ) (found : ℕ × List ℕ) → digits so_far bytes ≡ Ok found
+    → DigitsRead so_far bytes found
 unfolding digits value_from
 digits-read so_far [] found e = digits-ended so_far [] found e
 digits-read so_far (byte ∷ rest) found e =
-    elim (chosen (is_digit byte) (digits (10 * so_far + (byte - 48)) rest) (side so_far (byte ∷ rest)) (Ok found) e) [
+    elim (chosen (is_digit byte) (digits (10 * so_far + (byte - 48)) rest)
+    (side so_far (byte ∷ rest)) (Ok found) e) [
       | inl more ↦
           let r = digits-read (10 * so_far + (byte - 48)) rest found more.1 in
-          record { text = byte ∷ r.text; split = ap (λ (t : List ℕ). byte ∷ t) r.split; all_are = and_from (is_digit byte) (list_all is_digit r.text) more.0 r.all_are; value_is = r.value_is; is_side = r.is_side }
+          record {
+            text = byte ∷ r.text;
+            split = ap (λ (t : List ℕ). byte ∷ t) r.split;
+            all_are = and_from (is_digit byte) (list_all is_digit r.text) more.0 r.all_are;
+            value_is = r.value_is;
+            is_side = r.is_side;
+          }
       | inr end ↦ digits-ended so_far (byte ∷ rest) found end.1
     ]
 
@@ -79,7 +106,8 @@ pub record NumberRead (bytes : List ℕ) (found : ℕ × List ℕ) : Type 0 wher
   pub is_side : IsSide found.0
 
 -- a number that is read is spelled so
-pub number-read : (bytes : List ℕ) (found : ℕ × List ℕ) → number_and_rest bytes ≡ Ok found → NumberRead bytes found
+pub number-read : (bytes : List ℕ) (found : ℕ × List ℕ) → number_and_rest bytes ≡ Ok found
+    → NumberRead bytes found
 unfolding number_and_rest
 number-read [] found e = absurd cc
 number-read (byte ∷ rest) found e =
@@ -89,7 +117,14 @@ number-read (byte ∷ rest) found e =
           record {
             text = byte ∷ r.text;
             split = ap (λ (t : List ℕ). byte ∷ t) r.split;
-            is_number = record { first = byte; others = r.text; is_text = refl; first_is = more.0; others_are = r.all_are; value_is = r.value_is };
+            is_number = record {
+              first = byte;
+              others = r.text;
+              is_text = refl;
+              first_is = more.0;
+              others_are = r.all_are;
+              value_is = r.value_is;
+            };
             is_side = r.is_side;
           }
       | inr end ↦ absurd (let no = end.1 in cc)
@@ -97,10 +132,13 @@ number-read (byte ∷ rest) found e =
 
 -- a side that is long enough and not too long is accepted
 side-again : (value : ℕ) (rest : List ℕ) → IsSide value → side value rest ≡ Ok (value, rest)
-side-again value rest is = rw (ne_eqb value 0 (λ e. omega (arith, is.some)), le-ltb 4096 value is.few) refl
+side-again value rest is =
+    rw (ne_eqb value 0 (λ e. omega (arith, is.some)), le-ltb 4096 value is.few) refl
 
 -- digits that are spelled so are read, up to a byte that is none
-digits-again : (so_far : ℕ) (text : List ℕ) (byte : ℕ) (rest : List ℕ) → list_all is_digit text ≡ true → is_digit byte ≡ false → IsSide (value_from so_far text) → digits so_far (text ++ byte ∷ rest) ≡ Ok (value_from so_far text, byte ∷ rest)
+digits-again : (so_far : ℕ) (text : List ℕ) (byte : ℕ) (rest : List ℕ)
+    → list_all is_digit text ≡ true → is_digit byte ≡ false → IsSide (value_from so_far text)
+    → digits so_far (text ++ byte ∷ rest) ≡ Ok (value_from so_far text, byte ∷ rest)
 unfolding digits value_from
 digits-again so_far [] byte rest all end is = rw end (side-again so_far (byte ∷ rest) is)
 digits-again so_far (digit ∷ others) byte rest all end is =
@@ -108,25 +146,38 @@ digits-again so_far (digit ∷ others) byte rest all end is =
     rw parts.0 (digits-again (10 * so_far + (digit - 48)) others byte rest parts.1 end is)
 
 -- a number that is spelled so is read, up to a byte that is no digit
-pub number-again : (text : List ℕ) (value : ℕ) (byte : ℕ) (rest : List ℕ) → IsNumber text value → is_digit byte ≡ false → IsSide value → number_and_rest (text ++ byte ∷ rest) ≡ Ok (value, byte ∷ rest)
+pub number-again : (text : List ℕ) (value : ℕ) (byte : ℕ) (rest : List ℕ) → IsNumber text value
+    → is_digit byte ≡ false → IsSide value
+    → number_and_rest (text ++ byte ∷ rest) ≡ Ok (value, byte ∷ rest)
 unfolding number_and_rest
 number-again text value byte rest is end side_is =
     let long : IsSide (value_from (is.first - 48) is.others) = rw is.value_is side_is in
-    let one : number_and_rest ((is.first ∷ is.others) ++ byte ∷ rest) ≡ Ok (value_from (is.first - 48) is.others, byte ∷ rest) = rw is.first_is (digits-again (is.first - 48) is.others byte rest is.others_are end long) in
-    ap (λ (t : List ℕ). number_and_rest (t ++ byte ∷ rest)) is.is_text ∙ one ∙ ap (λ (v : ℕ). Ok (v, byte ∷ rest)) is.value_is
+    let one : number_and_rest ((is.first ∷ is.others) ++ byte ∷ rest)
+    ≡ Ok (value_from (is.first - 48) is.others, byte ∷ rest) =
+    rw is.first_is (digits-again (is.first - 48) is.others byte rest is.others_are end long) in
+    ap (λ (t : List ℕ). number_and_rest (t ++ byte ∷ rest)) is.is_text ∙ one
+    ∙ ap (λ (v : ℕ). Ok (v, byte ∷ rest)) is.value_is
 
 -- no side reports out of memory
 side-of_bytes : (value : ℕ) (rest : List ℕ) → IsOfBytes (side value rest)
-side-of_bytes value rest = cond-of_bytes (eqb value 0) (Err ZeroSize) (cond (ltb 4096 value) (Err TooLarge) (Ok (value, rest))) (λ e. cc) (cond-of_bytes (ltb 4096 value) (Err TooLarge) (Ok (value, rest)) (λ e. cc) tt)
+side-of_bytes value rest =
+    cond-of_bytes (eqb value 0) (Err ZeroSize)
+    (cond (ltb 4096 value) (Err TooLarge) (Ok (value, rest))) (λ e. cc)
+    (cond-of_bytes (ltb 4096 value) (Err TooLarge) (Ok (value, rest)) (λ e. cc) tt)
 
 -- no digits report out of memory
 digits-of_bytes : (so_far : ℕ) (bytes : List ℕ) → IsOfBytes (digits so_far bytes)
 unfolding digits
 digits-of_bytes so_far [] = side-of_bytes so_far []
-digits-of_bytes so_far (byte ∷ rest) = cond-of_bytes (is_digit byte) (digits (10 * so_far + (byte - 48)) rest) (side so_far (byte ∷ rest)) (digits-of_bytes (10 * so_far + (byte - 48)) rest) (side-of_bytes so_far (byte ∷ rest))
+digits-of_bytes so_far (byte ∷ rest) =
+    cond-of_bytes (is_digit byte) (digits (10 * so_far + (byte - 48)) rest)
+    (side so_far (byte ∷ rest)) (digits-of_bytes (10 * so_far + (byte - 48)) rest)
+    (side-of_bytes so_far (byte ∷ rest))
 
 -- no number reports out of memory
 pub number-of_bytes : (bytes : List ℕ) → IsOfBytes (number_and_rest bytes)
 unfolding number_and_rest
 number-of_bytes [] = λ e. cc
-number-of_bytes (byte ∷ rest) = cond-of_bytes (is_digit byte) (digits (byte - 48) rest) (Err BadNumber) (digits-of_bytes (byte - 48) rest) (λ e. cc)
+number-of_bytes (byte ∷ rest) =
+    cond-of_bytes (is_digit byte) (digits (byte - 48) rest) (Err BadNumber)
+    (digits-of_bytes (byte - 48) rest) (λ e. cc)

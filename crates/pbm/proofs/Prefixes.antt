@@ -1,11 +1,16 @@
 -- What is read at the front of some bytes is read where more bytes follow them.
-use Rattle.std.proofs.Common.{◌≡◌, ◌≢◌, ℕ, zero, suc, ◌+◌, ◌-◌, ◌*◌, ◌≤◌, Bool, true, false, cond, eqb, ltb, ◌&&◌, List, [], ◌∷◌, ◌++◌, length, drop, Ok, Err, refl, sym, ap, ◌∙◌, append_assoc, inl, inr, arith, length-append}
+use Rattle.std.proofs.Common.{◌≡◌, ◌≢◌, ℕ, zero, suc, ◌+◌, ◌-◌, ◌*◌, ◌≤◌, Bool, true, false, cond}
+use Rattle.std.proofs.Common.{eqb, ltb, ◌&&◌, List, [], ◌∷◌, ◌++◌, length, drop, Ok, Err, refl, sym}
+use Rattle.std.proofs.Common.{ap, ◌∙◌, append_assoc, inl, inr, arith, length-append}
 use Rattle.std.proofs.Math.Seq.{drop-append_seam}
-use Rattle.metric.specs.declared.fault.PbmFault.TheVariants.{BadMagic, MissingSpace, BadComment, BadNumber, ZeroSize, TooLarge, BadPixel, Truncated}
+use Rattle.metric.specs.declared.fault.PbmFault.TheVariants.{BadMagic, MissingSpace, BadComment}
+use Rattle.metric.specs.declared.fault.PbmFault.TheVariants.{BadNumber, ZeroSize, TooLarge}
+use Rattle.metric.specs.declared.fault.PbmFault.TheVariants.{BadPixel, Truncated}
 use Rattle.metric.specs.Digits.{is_digit}
 use Rattle.pbm.specs.declared.header.Form.{Form}
 use Rattle.pbm.specs.declared.header.Form.TheVariants.{Plain, Raw}
-use Rattle.pbm.specs.Faults.{◌>>=◌, magic, space, filling, gap, side, digits, number_and_rest, before_raster, header, pixel_at, next_pixel, pixels}
+use Rattle.pbm.specs.Faults.{◌>>=◌, magic, space, filling, gap, side, digits, number_and_rest}
+use Rattle.pbm.specs.Faults.{before_raster, header, pixel_at, next_pixel, pixels}
 use Rattle.std.specs.Prelude.{not}
 use Rattle.pbm.specs.Image.{is_whitespace, is_line_end}
 use Rattle.pbm.specs.Plain.{AreBitsRead}
@@ -16,11 +21,14 @@ use Rattle.pbm.proofs.Headers.{header-read, behind_height, behind_width, behind_
 use Rattle.pbm.specs.Windows.{Stands}
 
 -- one whitespace byte is read where more bytes follow
-space-with_more : (bytes rest more : List ℕ) → space bytes ≡ Ok rest → space (bytes ++ more) ≡ Ok (rest ++ more)
+space-with_more : (bytes rest more : List ℕ) → space bytes ≡ Ok rest
+    → space (bytes ++ more) ≡ Ok (rest ++ more)
 space-with_more [] rest more e = absurd cc
 space-with_more (byte ∷ others) rest more e =
-    elim (chosen (is_whitespace byte) (Ok others) (cond (eqb byte 35) (Err BadComment) (Err MissingSpace)) (Ok rest) e) [
-      | inl spaced ↦ let is = spaced.0 in rw is (ap (λ (t : List ℕ). Ok (t ++ more)) (ok_is others rest spaced.1))
+    elim (chosen (is_whitespace byte) (Ok others)
+    (cond (eqb byte 35) (Err BadComment) (Err MissingSpace)) (Ok rest) e) [
+      | inl spaced ↦ let is = spaced.0 in
+          rw is (ap (λ (t : List ℕ). Ok (t ++ more)) (ok_is others rest spaced.1))
       | inr end ↦ elim (chosen (eqb byte 35) (Err BadComment) (Err MissingSpace) (Ok rest) end.1) [
         | inl comment ↦ absurd (let no = comment.1 in cc)
         | inr other ↦ absurd (let no = other.1 in cc)
@@ -28,33 +36,42 @@ space-with_more (byte ∷ others) rest more e =
     ]
 
 -- the rest of a gap is read where more bytes follow
-filling-with_more : (in_comment : Bool) (bytes rest more : List ℕ) → filling in_comment bytes ≡ Ok rest → filling in_comment (bytes ++ more) ≡ Ok (rest ++ more)
+filling-with_more : (in_comment : Bool) (bytes rest more : List ℕ)
+    → filling in_comment bytes ≡ Ok rest → filling in_comment (bytes ++ more) ≡ Ok (rest ++ more)
 unfolding filling
 filling-with_more true [] rest more e = absurd cc
 filling-with_more false [] rest more e = absurd cc
-filling-with_more true (byte ∷ others) rest more e = filling-with_more (not (is_line_end byte)) others rest more e
+filling-with_more true (byte ∷ others) rest more e =
+    filling-with_more (not (is_line_end byte)) others rest more e
 filling-with_more false (byte ∷ others) rest more e =
-    elim (chosen (is_whitespace byte) (filling false others) (cond (eqb byte 35) (filling true others) (Ok (byte ∷ others))) (Ok rest) e) [
+    elim (chosen (is_whitespace byte) (filling false others)
+    (cond (eqb byte 35) (filling true others) (Ok (byte ∷ others))) (Ok rest) e) [
       | inl spaced ↦ let is = spaced.0 in rw is (filling-with_more false others rest more spaced.1)
       | inr solid ↦
           let no = solid.0 in
           elim (chosen (eqb byte 35) (filling true others) (Ok (byte ∷ others)) (Ok rest) solid.1) [
-            | inl comment ↦ let is = comment.0 in rw (no, is) (filling-with_more true others rest more comment.1)
-            | inr end ↦ let none = end.0 in rw (no, none) (ap (λ (t : List ℕ). Ok (t ++ more)) (ok_is (byte ∷ others) rest end.1))
+            | inl comment ↦ let is = comment.0 in
+                rw (no, is) (filling-with_more true others rest more comment.1)
+            | inr end ↦ let none = end.0 in
+                rw (no, none) (ap (λ (t : List ℕ). Ok (t ++ more))
+                (ok_is (byte ∷ others) rest end.1))
           ]
     ]
 
 -- a gap is read where more bytes follow
-gap-with_more : (bytes rest more : List ℕ) → gap bytes ≡ Ok rest → gap (bytes ++ more) ≡ Ok (rest ++ more)
+gap-with_more : (bytes rest more : List ℕ) → gap bytes ≡ Ok rest
+    → gap (bytes ++ more) ≡ Ok (rest ++ more)
 unfolding gap
 gap-with_more bytes rest more e =
     let b = bind_ok (space bytes) (filling false) rest e in
     rw (space-with_more bytes b.0 more b.1) (filling-with_more false b.0 rest more b.2)
 
 -- a side is accepted in front of any bytes
-side-anywhere : (value : ℕ) (bytes others : List ℕ) (found : ℕ × List ℕ) → side value bytes ≡ Ok found → (found.1 ≡ bytes) × (side value others ≡ Ok (found.0, others))
+side-anywhere : (value : ℕ) (bytes others : List ℕ) (found : ℕ × List ℕ)
+    → side value bytes ≡ Ok found → (found.1 ≡ bytes) × (side value others ≡ Ok (found.0, others))
 side-anywhere value bytes others found e =
-    elim (chosen (eqb value 0) (Err ZeroSize) (cond (ltb 4096 value) (Err TooLarge) (Ok (value, bytes))) (Ok found) e) [
+    elim (chosen (eqb value 0) (Err ZeroSize)
+    (cond (ltb 4096 value) (Err TooLarge) (Ok (value, bytes))) (Ok found) e) [
       | inl nothing ↦ absurd (let no = nothing.1 in cc)
       | inr some ↦
           let other = some.0 in
@@ -62,18 +79,23 @@ side-anywhere value bytes others found e =
             | inl over ↦ absurd (let no = over.1 in cc)
             | inr few ↦
                 let short = few.0 in
-                let same = ok_is (value, bytes) found few.1 in
-                (sym (ap (λ (p : ℕ × List ℕ). p.1) same), rw (other, short) (ap (λ (p : ℕ × List ℕ). Ok (p.0, others)) same))
+                let same = ok_is (value, bytes) found few.1 in (
+                  sym (ap (λ (p : ℕ × List ℕ). p.1) same),
+                  rw (other, short) (ap (λ (p : ℕ × List ℕ). Ok (p.0, others)) same),
+                )
           ]
     ]
 
 -- digits are read where more bytes follow, if some follow already
-digits-with_more : (value : ℕ) (bytes : List ℕ) (found : ℕ × List ℕ) (more : List ℕ) → found.1 ≢ [] → digits value bytes ≡ Ok found → digits value (bytes ++ more) ≡ Ok (found.0, found.1 ++ more)
+digits-with_more : (value : ℕ) (bytes : List ℕ) (found : ℕ × List ℕ) (more : List ℕ) → found.1 ≢ []
+    → digits value bytes ≡ Ok found → digits value (bytes ++ more) ≡ Ok (found.0, found.1 ++ more)
 unfolding digits
 digits-with_more value [] found more some e = absurd (some ((side-anywhere value [] [] found e).0))
 digits-with_more value (byte ∷ others) found more some e =
-    elim (chosen (is_digit byte) (digits (10 * value + (byte - 48)) others) (side value (byte ∷ others)) (Ok found) e) [
-      | inl next ↦ let is = next.0 in rw is (digits-with_more (10 * value + (byte - 48)) others found more some next.1)
+    elim (chosen (is_digit byte) (digits (10 * value + (byte - 48)) others)
+    (side value (byte ∷ others)) (Ok found) e) [
+      | inl next ↦ let is = next.0 in
+          rw is (digits-with_more (10 * value + (byte - 48)) others found more some next.1)
       | inr end ↦
           let no = end.0 in
           let there = side-anywhere value (byte ∷ others) (byte ∷ (others ++ more)) found end.1 in
@@ -81,33 +103,45 @@ digits-with_more value (byte ∷ others) found more some e =
     ]
 
 -- a number is read where more bytes follow, if some follow already
-number-with_more : (bytes : List ℕ) (found : ℕ × List ℕ) (more : List ℕ) → found.1 ≢ [] → number_and_rest bytes ≡ Ok found → number_and_rest (bytes ++ more) ≡ Ok (found.0, found.1 ++ more)
+number-with_more : (bytes : List ℕ) (found : ℕ × List ℕ) (more : List ℕ) → found.1 ≢ []
+    → number_and_rest bytes ≡ Ok found
+    → number_and_rest (bytes ++ more) ≡ Ok (found.0, found.1 ++ more)
 unfolding number_and_rest
 number-with_more [] found more some e = absurd cc
 number-with_more (byte ∷ others) found more some e =
     elim (chosen (is_digit byte) (digits (byte - 48) others) (Err BadNumber) (Ok found) e) [
-      | inl next ↦ let is = next.0 in rw is (digits-with_more (byte - 48) others found more some next.1)
+      | inl next ↦ let is = next.0 in
+          rw is (digits-with_more (byte - 48) others found more some next.1)
       | inr end ↦ absurd (let no = end.1 in cc)
     ]
 
 -- a magic number is read where more bytes follow
-magic-with_more : (bytes : List ℕ) (found : Form × List ℕ) (more : List ℕ) → magic bytes ≡ Ok found → magic (bytes ++ more) ≡ Ok (found.0, found.1 ++ more)
+magic-with_more : (bytes : List ℕ) (found : Form × List ℕ) (more : List ℕ) → magic bytes ≡ Ok found
+    → magic (bytes ++ more) ≡ Ok (found.0, found.1 ++ more)
 magic-with_more [] found more e = absurd cc
 magic-with_more (p ∷ []) found more e =
-    elim (chosen (eqb p 80) (Err Truncated) (Err BadMagic) (Ok found) e) [ inl equal ↦ absurd (let no = equal.1 in cc) | inr other ↦ absurd (let no = other.1 in cc) ]
+    elim (chosen (eqb p 80) (Err Truncated) (Err BadMagic) (Ok found) e)
+    [ inl equal ↦ absurd (let no = equal.1 in cc) | inr other ↦ absurd (let no = other.1 in cc) ]
 magic-with_more (p ∷ second ∷ others) found more e =
-    elim (chosen (eqb p 80 && eqb second 49) (Ok (Plain, others)) (cond (eqb p 80 && eqb second 52) (Ok (Raw, others)) (Err BadMagic)) (Ok found) e) [
-      | inl plain ↦ let is = plain.0 in rw is (ap (λ (f : Form × List ℕ). Ok (f.0, f.1 ++ more)) (ok_is (Plain, others) found plain.1))
+    elim (chosen (eqb p 80 && eqb second 49) (Ok (Plain, others))
+    (cond (eqb p 80 && eqb second 52) (Ok (Raw, others)) (Err BadMagic)) (Ok found) e) [
+      | inl plain ↦ let is = plain.0 in
+          rw is (ap (λ (f : Form × List ℕ). Ok (f.0, f.1 ++ more))
+          (ok_is (Plain, others) found plain.1))
       | inr other ↦
           let no = other.0 in
-          elim (chosen (eqb p 80 && eqb second 52) (Ok (Raw, others)) (Err BadMagic) (Ok found) other.1) [
-            | inl raw ↦ let is = raw.0 in rw (no, is) (ap (λ (f : Form × List ℕ). Ok (f.0, f.1 ++ more)) (ok_is (Raw, others) found raw.1))
+          elim (chosen (eqb p 80 && eqb second 52) (Ok (Raw, others)) (Err BadMagic)
+          (Ok found) other.1) [
+            | inl raw ↦ let is = raw.0 in
+                rw (no, is) (ap (λ (f : Form × List ℕ). Ok (f.0, f.1 ++ more))
+                (ok_is (Raw, others) found raw.1))
             | inr none ↦ absurd (let nothing = none.1 in cc)
           ]
     ]
 
 -- what stands between the height and the raster is read where more bytes follow
-before_raster-with_more : (form : Form) (bytes rest more : List ℕ) → before_raster form bytes ≡ Ok rest → before_raster form (bytes ++ more) ≡ Ok (rest ++ more)
+before_raster-with_more : (form : Form) (bytes rest more : List ℕ)
+    → before_raster form bytes ≡ Ok rest → before_raster form (bytes ++ more) ≡ Ok (rest ++ more)
 before_raster-with_more Plain bytes rest more e = gap-with_more bytes rest more e
 before_raster-with_more Raw bytes rest more e = space-with_more bytes rest more e
 
@@ -117,20 +151,27 @@ unfolding gap
 gap-some bytes rest e = λ none. let no : gap [] ≡ Ok rest = ap gap (sym none) ∙ e in cc
 
 -- nothing before a raster is read where no byte stands
-before_raster-some : (form : Form) (bytes rest : List ℕ) → before_raster form bytes ≡ Ok rest → bytes ≢ []
+before_raster-some : (form : Form) (bytes rest : List ℕ) → before_raster form bytes ≡ Ok rest
+    → bytes ≢ []
 before_raster-some Plain bytes rest e = gap-some bytes rest e
-before_raster-some Raw bytes rest e = λ none. let no : space [] ≡ Ok rest = ap space (sym none) ∙ e in cc
+before_raster-some Raw bytes rest e =
+    λ none. let no : space [] ≡ Ok rest = ap space (sym none) ∙ e in cc
 
 -- all before a raster is read where more bytes follow
-header-with_more : (bytes : List ℕ) (found : Form × ℕ × ℕ × List ℕ) (more : List ℕ) → header bytes ≡ Ok found → header (bytes ++ more) ≡ Ok (found.0, found.1, found.2, found.3 ++ more)
+header-with_more : (bytes : List ℕ) (found : Form × ℕ × ℕ × List ℕ) (more : List ℕ)
+    → header bytes ≡ Ok found
+    → header (bytes ++ more) ≡ Ok (found.0, found.1, found.2, found.3 ++ more)
 unfolding header
 header-with_more bytes found more e =
     let m = bind_ok (magic bytes) behind_magic found e in
-    let g = bind_ok (gap m.0.1) (λ before_width. number_and_rest before_width >>= behind_width m.0.0) found m.2 in
+    let g = bind_ok (gap m.0.1) (λ before_width.
+    number_and_rest before_width >>= behind_width m.0.0) found m.2 in
     let w = bind_ok (number_and_rest g.0) (behind_width m.0.0) found g.2 in
-    let k = bind_ok (gap w.0.1) (λ before_height. number_and_rest before_height >>= behind_height m.0.0 w.0.0) found w.2 in
+    let k = bind_ok (gap w.0.1) (λ before_height.
+    number_and_rest before_height >>= behind_height m.0.0 w.0.0) found w.2 in
     let h = bind_ok (number_and_rest k.0) (behind_height m.0.0 w.0.0) found k.2 in
-    let r = bind_ok (before_raster m.0.0 h.0.1) (λ raster_bytes. Ok (m.0.0, w.0.0, h.0.0, raster_bytes)) found h.2 in
+    let r = bind_ok (before_raster m.0.0 h.0.1)
+    (λ raster_bytes. Ok (m.0.0, w.0.0, h.0.0, raster_bytes)) found h.2 in
     let last : header (bytes ++ more) ≡ Ok (m.0.0, w.0.0, h.0.0, r.0 ++ more) = rw (
       magic-with_more bytes m.0 more m.1,
       gap-with_more m.0.1 g.0 more g.1,
@@ -139,28 +180,37 @@ header-with_more bytes found more e =
       number-with_more k.0 h.0 more (before_raster-some m.0.0 h.0.1 r.0 r.1) h.1,
       before_raster-with_more m.0.0 h.0.1 r.0 more r.1,
     ) refl in
-    last ∙ ap (λ (f : Form × ℕ × ℕ × List ℕ). Ok (f.0, f.1, f.2, f.3 ++ more)) (ok_is (m.0.0, w.0.0, h.0.0, r.0) found r.2)
+    last ∙ ap (λ (f : Form × ℕ × ℕ × List ℕ). Ok (f.0, f.1, f.2, f.3 ++ more))
+    (ok_is (m.0.0, w.0.0, h.0.0, r.0) found r.2)
 
 -- a pixel is read where more bytes follow
-pixel_at-with_more : (bytes : List ℕ) (found : Bool × List ℕ) (more : List ℕ) → pixel_at bytes ≡ Ok found → pixel_at (bytes ++ more) ≡ Ok (found.0, found.1 ++ more)
+pixel_at-with_more : (bytes : List ℕ) (found : Bool × List ℕ) (more : List ℕ)
+    → pixel_at bytes ≡ Ok found → pixel_at (bytes ++ more) ≡ Ok (found.0, found.1 ++ more)
 pixel_at-with_more [] found more e = absurd cc
 pixel_at-with_more (byte ∷ rest) found more e =
-    elim (chosen (eqb byte 48) (Ok (false, rest)) (cond (eqb byte 49) (Ok (true, rest)) (Err BadPixel)) (Ok found) e) [
-      | inl white ↦ let is = white.0 in rw is (ap (λ (f : Bool × List ℕ). Ok (f.0, f.1 ++ more)) (ok_is (false, rest) found white.1))
+    elim (chosen (eqb byte 48) (Ok (false, rest))
+    (cond (eqb byte 49) (Ok (true, rest)) (Err BadPixel)) (Ok found) e) [
+      | inl white ↦ let is = white.0 in
+          rw is (ap (λ (f : Bool × List ℕ). Ok (f.0, f.1 ++ more))
+          (ok_is (false, rest) found white.1))
       | inr other ↦
           let no = other.0 in
           elim (chosen (eqb byte 49) (Ok (true, rest)) (Err BadPixel) (Ok found) other.1) [
-            | inl black ↦ let is = black.0 in rw (no, is) (ap (λ (f : Bool × List ℕ). Ok (f.0, f.1 ++ more)) (ok_is (true, rest) found black.1))
+            | inl black ↦ let is = black.0 in
+                rw (no, is) (ap (λ (f : Bool × List ℕ). Ok (f.0, f.1 ++ more))
+                (ok_is (true, rest) found black.1))
             | inr none ↦ absurd (let nothing = none.1 in cc)
           ]
     ]
 
 -- the next pixel is read where more bytes follow
-next_pixel-with_more : (bytes : List ℕ) (found : Bool × List ℕ) (more : List ℕ) → next_pixel bytes ≡ Ok found → next_pixel (bytes ++ more) ≡ Ok (found.0, found.1 ++ more)
+next_pixel-with_more : (bytes : List ℕ) (found : Bool × List ℕ) (more : List ℕ)
+    → next_pixel bytes ≡ Ok found → next_pixel (bytes ++ more) ≡ Ok (found.0, found.1 ++ more)
 unfolding next_pixel
 next_pixel-with_more [] found more e = absurd cc
 next_pixel-with_more (byte ∷ rest) found more e =
-    elim (chosen (is_whitespace byte) (filling false rest >>= pixel_at) (cond (eqb byte 35) (Err BadComment) (pixel_at (byte ∷ rest))) (Ok found) e) [
+    elim (chosen (is_whitespace byte) (filling false rest >>= pixel_at)
+    (cond (eqb byte 35) (Err BadComment) (pixel_at (byte ∷ rest))) (Ok found) e) [
       | inl spaced ↦
           let is = spaced.0 in
           let b = bind_ok (filling false rest) pixel_at found spaced.1 in
@@ -169,54 +219,82 @@ next_pixel-with_more (byte ∷ rest) found more e =
           let no = here.0 in
           elim (chosen (eqb byte 35) (Err BadComment) (pixel_at (byte ∷ rest)) (Ok found) here.1) [
             | inl comment ↦ absurd (let nothing = comment.1 in cc)
-            | inr at ↦ let none = at.0 in rw (no, none) (pixel_at-with_more (byte ∷ rest) found more at.1)
+            | inr at ↦ let none = at.0 in
+                rw (no, none) (pixel_at-with_more (byte ∷ rest) found more at.1)
           ]
     ]
 
 -- as many pixels as are wanted are read where more bytes follow
-pixels-with_more : (n : ℕ) (bytes : List ℕ) (found : List Bool × List ℕ) (more : List ℕ) → pixels n bytes ≡ Ok found → pixels n (bytes ++ more) ≡ Ok (found.0, found.1 ++ more)
+pixels-with_more : (n : ℕ) (bytes : List ℕ) (found : List Bool × List ℕ) (more : List ℕ)
+    → pixels n bytes ≡ Ok found → pixels n (bytes ++ more) ≡ Ok (found.0, found.1 ++ more)
 unfolding pixels
-pixels-with_more zero bytes found more e = ap (λ (f : List Bool × List ℕ). Ok (f.0, f.1 ++ more)) (ok_is ([], bytes) found e)
+pixels-with_more zero bytes found more e =
+    ap (λ (f : List Bool × List ℕ). Ok (f.0, f.1 ++ more)) (ok_is ([], bytes) found e)
 pixels-with_more (suc n) bytes found more e =
-    let a = bind_ok (next_pixel bytes) (λ first. pixels n first.1 >>= λ others. Ok (first.0 ∷ others.0, others.1)) found e in
+    let a = bind_ok (next_pixel bytes)
+    (λ first. pixels n first.1 >>= λ others. Ok (first.0 ∷ others.0, others.1)) found e in
     let b = bind_ok (pixels n a.0.1) (λ others. Ok (a.0.0 ∷ others.0, others.1)) found a.2 in
-    rw (next_pixel-with_more bytes a.0 more a.1, pixels-with_more n a.0.1 b.0 more b.1) (ap (λ (f : List Bool × List ℕ). Ok (f.0, f.1 ++ more)) (ok_is (a.0.0 ∷ b.0.0, b.0.1) found b.2))
+    rw (next_pixel-with_more bytes a.0 more a.1, pixels-with_more n a.0.1 b.0 more b.1)
+    (ap (λ (f : List Bool × List ℕ). Ok (f.0, f.1 ++ more))
+    (ok_is (a.0.0 ∷ b.0.0, b.0.1) found b.2))
 
 -- where some bytes are left, as many were taken as there are fewer of them
-taken-behind : (bytes text rest : List ℕ) → bytes ≡ text ++ rest → (length rest ≤ length bytes) × (drop (length bytes - length rest) bytes ≡ rest)
+taken-behind : (bytes text rest : List ℕ) → bytes ≡ text ++ rest → (length rest ≤ length bytes)
+    × (drop (length bytes - length rest) bytes ≡ rest)
 taken-behind bytes text rest split =
-    let size : length bytes ≡ length text + length rest = ap length split ∙ length-append text rest in
-    let count : length bytes - length rest ≡ length text = omega (arith, size) in
-    (omega (arith, size), ap (λ n. drop n bytes) count ∙ (ap (λ t. drop (length text) t) split ∙ drop-append_seam text rest))
+    let size : length bytes ≡ length text + length rest = ap length split
+    ∙ length-append text rest in
+    let count : length bytes - length rest ≡ length text = omega (arith, size) in (
+      omega (arith, size),
+      ap (λ n. drop n bytes) count
+          ∙ (ap (λ t. drop (length text) t) split ∙ drop-append_seam text rest),
+    )
 
 -- what stands before the rest, where pixels are read
-pixels-split : (n : ℕ) (bytes : List ℕ) (found : List Bool × List ℕ) → pixels n bytes ≡ Ok found → (text : List ℕ) × (bytes ≡ text ++ found.1)
+pixels-split : (n : ℕ) (bytes : List ℕ) (found : List Bool × List ℕ) → pixels n bytes ≡ Ok found
+    → (text : List ℕ) × (bytes ≡ text ++ found.1)
 unfolding pixels
-pixels-split zero bytes found e = ([], ap (λ (f : List Bool × List ℕ). f.1) (ok_is ([], bytes) found e))
-pixels-split (suc n) bytes found e = let r = pixels-read n bytes found e in (r.between ++ r.text, r.split ∙ sym (append_assoc r.between r.text found.1))
+pixels-split zero bytes found e =
+    ([], ap (λ (f : List Bool × List ℕ). f.1) (ok_is ([], bytes) found e))
+pixels-split (suc n) bytes found e = let r = pixels-read n bytes found e in
+    (r.between ++ r.text, r.split ∙ sym (append_assoc r.between r.text found.1))
 
 -- the parts before a raster, and what stands after them
-regroup : (second : ℕ) (a b c d e rest : List ℕ) → (80 ∷ second ∷ (a ++ (b ++ (c ++ (d ++ e))))) ++ rest ≡ 80 ∷ second ∷ (a ++ (b ++ (c ++ (d ++ (e ++ rest)))))
+regroup : (second : ℕ) (a b c d e rest : List ℕ)
+    → (80 ∷ second ∷ (a ++ (b ++ (c ++ (d ++ e))))) ++ rest
+    ≡ 80 ∷ second ∷ (a ++ (b ++ (c ++ (d ++ (e ++ rest)))))
 regroup second a b c d e rest = simp append_assoc
 
 -- what stands before the rest, where all before a raster is read
-header-split : (bytes : List ℕ) (found : Form × ℕ × ℕ × List ℕ) → header bytes ≡ Ok found → (text : List ℕ) × (bytes ≡ text ++ found.3)
+header-split : (bytes : List ℕ) (found : Form × ℕ × ℕ × List ℕ) → header bytes ≡ Ok found
+    → (text : List ℕ) × (bytes ≡ text ++ found.3)
 header-split bytes found e =
-    let r = header-read bytes found e in
-    (80 ∷ form_digit found.0 ∷ (r.before_width ++ (r.width ++ (r.before_height ++ (r.height ++ r.before_raster)))), r.split ∙ sym (regroup (form_digit found.0) r.before_width r.width r.before_height r.height r.before_raster found.3))
+    let r = header-read bytes found e in (
+      80 ∷ form_digit found.0
+          ∷ (r.before_width ++ (r.width ++ (r.before_height ++ (r.height ++ r.before_raster)))),
+      r.split
+          ∙ sym (regroup (form_digit found.0) r.before_width r.width r.before_height r.height
+          r.before_raster found.3),
+    )
 
 -- all before a raster, read of a window, stands with any bytes after it
-pub Stands-header : (bytes : List ℕ) (form : Form) (width height : ℕ) (rest : List ℕ) → header bytes ≡ Ok (form, width, height, rest) → Stands (length bytes - length rest) bytes (λ all left. header all ≡ Ok (form, width, height, left))
+pub Stands-header : (bytes : List ℕ) (form : Form) (width height : ℕ) (rest : List ℕ)
+    → header bytes ≡ Ok (form, width, height, rest)
+    → Stands (length bytes - length rest) bytes
+    (λ all left. header all ≡ Ok (form, width, height, left))
 Stands-header bytes form width height rest e =
     let s = header-split bytes (form, width, height, rest) e in
     let t = taken-behind bytes s.0 rest s.1 in
     record {
       inside = omega arith;
-      holds = λ more. header-with_more bytes (form, width, height, rest) more e ∙ ap (λ (r : List ℕ). Ok (form, width, height, r ++ more)) (sym t.1);
+      holds = λ more. header-with_more bytes (form, width, height, rest) more e
+          ∙ ap (λ (r : List ℕ). Ok (form, width, height, r ++ more)) (sym t.1);
     }
 
 -- the bits of some pixels, read of a window, stand with any bytes after them
-pub Stands-bits : (count : ℕ) (bytes : List ℕ) (word : ℕ) (rest : List ℕ) → AreBitsRead count bytes word rest → Stands (length bytes - length rest) bytes (λ all left. AreBitsRead count all word left)
+pub Stands-bits : (count : ℕ) (bytes : List ℕ) (word : ℕ) (rest : List ℕ)
+    → AreBitsRead count bytes word rest
+    → Stands (length bytes - length rest) bytes (λ all left. AreBitsRead count all word left)
 Stands-bits count bytes word rest are =
     let s = pixels-split count bytes (are.all, rest) are.read in
     let t = taken-behind bytes s.0 rest s.1 in
@@ -225,15 +303,20 @@ Stands-bits count bytes word rest are =
       holds = λ more. record {
         all = are.all;
         size = are.size;
-        read = pixels-with_more count bytes (are.all, rest) more are.read ∙ ap (λ (r : List ℕ). Ok (are.all, r ++ more)) (sym t.1);
+        read = pixels-with_more count bytes (are.all, rest) more are.read
+            ∙ ap (λ (r : List ℕ). Ok (are.all, r ++ more)) (sym t.1);
         bits = are.bits;
       };
     }
 
 -- what is left after all before a raster is no longer than the bytes
-pub header-within : (bytes : List ℕ) (form : Form) (width height : ℕ) (rest : List ℕ) → header bytes ≡ Ok (form, width, height, rest) → length rest ≤ length bytes
-header-within bytes form width height rest e = let s = header-split bytes (form, width, height, rest) e in (taken-behind bytes s.0 rest s.1).0
+pub header-within : (bytes : List ℕ) (form : Form) (width height : ℕ) (rest : List ℕ)
+    → header bytes ≡ Ok (form, width, height, rest) → length rest ≤ length bytes
+header-within bytes form width height rest e =
+    let s = header-split bytes (form, width, height, rest) e in (taken-behind bytes s.0 rest s.1).0
 
 -- what is left after some pixels is no longer than the bytes
-pub bits-within : (count : ℕ) (bytes : List ℕ) (word : ℕ) (rest : List ℕ) → AreBitsRead count bytes word rest → length rest ≤ length bytes
-bits-within count bytes word rest are = let s = pixels-split count bytes (are.all, rest) are.read in (taken-behind bytes s.0 rest s.1).0
+pub bits-within : (count : ℕ) (bytes : List ℕ) (word : ℕ) (rest : List ℕ)
+    → AreBitsRead count bytes word rest → length rest ≤ length bytes
+bits-within count bytes word rest are = let s = pixels-split count bytes (are.all, rest) are.read in
+    (taken-behind bytes s.0 rest s.1).0

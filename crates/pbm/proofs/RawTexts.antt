@@ -1,5 +1,7 @@
 -- A bitmap that is written as a raw image.
-use Rattle.std.proofs.Common.{◌≡◌, ℕ, zero, suc, ◌+◌, ◌-◌, ◌*◌, ◌/◌, ◌%◌, ◌^◌, ◌<◌, ◌≤◌, Bool, true, false, cond, eqb, List, [], ◌∷◌, ◌++◌, get_or, map, refl, sym, ap, ◌∙◌, append_assoc, arith}
+use Rattle.std.proofs.Common.{◌≡◌, ℕ, zero, suc, ◌+◌, ◌-◌, ◌*◌, ◌/◌, ◌%◌, ◌^◌, ◌<◌, ◌≤◌, Bool, true}
+use Rattle.std.proofs.Common.{false, cond, eqb, List, [], ◌∷◌, ◌++◌, get_or, map, refl, sym, ap}
+use Rattle.std.proofs.Common.{◌∙◌, append_assoc, arith}
 use Rattle.std.specs.Fmt.{decimal}
 use Rattle.std.specs.Int.{bit_at}
 use Rattle.std.specs.List.{range_with_len}
@@ -31,17 +33,21 @@ packed-below cells x y (suc n) =
     omega (arith, small, before)
 
 -- a number of a lowest digit and those above it has that digit as its rest, and those as its half
-lowest : (high : ℕ) (black : Bool) → ((2 * high + one black) % 2 ≡ one black) × ((2 * high + one black) / 2 ≡ high)
+lowest : (high : ℕ) (black : Bool) → ((2 * high + one black) % 2 ≡ one black)
+    × ((2 * high + one black) / 2 ≡ high)
 lowest high true = (omega arith, omega arith)
 lowest high false = (omega arith, omega arith)
 
 -- each pixel is a digit, the last the lowest
-pub packed-bit : (cells : Cells) (x y n j : ℕ) → j < n → bit_at (packed cells x y n) j ≡ one (has cells (x + (n - 1 - j)) y)
+pub packed-bit : (cells : Cells) (x y n j : ℕ) → j < n
+    → bit_at (packed cells x y n) j ≡ one (has cells (x + (n - 1 - j)) y)
 unfolding packed
 packed-bit cells x y zero j below = absurd (omega arith)
 packed-bit cells x y (suc n) zero below =
     let last : n ≡ suc n - 1 - 0 = omega arith in
-    bit_at_lowest (2 * packed cells x y n + one (has cells (x + n) y)) ∙ (lowest (packed cells x y n) (has cells (x + n) y)).0 ∙ ap (λ (k : ℕ). one (has cells (x + k) y)) last
+    bit_at_lowest (2 * packed cells x y n + one (has cells (x + n) y))
+    ∙ (lowest (packed cells x y n) (has cells (x + n) y)).0
+    ∙ ap (λ (k : ℕ). one (has cells (x + k) y)) last
 packed-bit cells x y (suc n) (suc j) below =
     let before : n - 1 - j ≡ suc n - 1 - suc j = omega arith in
     bit_at-suc (2 * packed cells x y n + one (has cells (x + n) y)) j
@@ -55,24 +61,31 @@ one-is true = refl
 one-is false = refl
 
 -- the byte k of row y has the pixels from column 8 k on
-pub raw_byte-at : (cells : Cells) (y k : ℕ) → k < bytes_across cells.width → packed cells (8 * k) y 8 ≡ raw_byte cells (y * bytes_across cells.width + k)
+pub raw_byte-at : (cells : Cells) (y k : ℕ) → k < bytes_across cells.width
+    → packed cells (8 * k) y 8 ≡ raw_byte cells (y * bytes_across cells.width + k)
 raw_byte-at cells y k within =
     let across : ℕ = bytes_across cells.width in
-    sym (ap (λ (a : ℕ). packed cells (8 * a) ((y * across + k) / across) 8) (mod-mul-add y across k within) ∙ ap (λ (b : ℕ). packed cells (8 * k) b 8) (div-mul-add y across k within))
+    sym (ap (λ (a : ℕ). packed cells (8 * a) ((y * across + k) / across) 8)
+    (mod-mul-add y across k within)
+    ∙ ap (λ (b : ℕ). packed cells (8 * k) b 8) (div-mul-add y across k within))
 
 -- the bytes of a raw raster
 abbrev raw_bytes : Cells → List ℕ
 raw_bytes cells = map (raw_byte cells) (range_with_len 0 (cells.height * bytes_across cells.width))
 
 -- a pixel of those bytes is the bitmap's
-raw_bytes-pixel : (cells : Cells) (x y : ℕ) → x < cells.width → y < cells.height → raw_pixel (bytes_across cells.width) (raw_bytes cells) x y ≡ has cells x y
+raw_bytes-pixel : (cells : Cells) (x y : ℕ) → x < cells.width → y < cells.height
+    → raw_pixel (bytes_across cells.width) (raw_bytes cells) x y ≡ has cells x y
 raw_bytes-pixel cells x y hx hy =
     let across : ℕ = bytes_across cells.width in
     let column : x / 8 < across = omega arith in
     let below = place-below across cells.height (x / 8) y column hy in
     let k : ℕ = y * across + x / 8 in
-    let byte : get_or (raw_bytes cells) k 0 ≡ raw_byte cells k = get_or-map-range_with_len (raw_byte cells) 0 (cells.height * across) k k 0 (omega (arith, below)) (omega arith) in
-    let is : raw_byte cells k ≡ packed cells (8 * (x / 8)) y 8 = sym (raw_byte-at cells y (x / 8) column) in
+    let byte : get_or (raw_bytes cells) k 0 ≡ raw_byte cells k =
+    get_or-map-range_with_len (raw_byte cells) 0 (cells.height * across) k k 0
+    (omega (arith, below)) (omega arith) in
+    let is : raw_byte cells k ≡ packed cells (8 * (x / 8)) y 8 =
+    sym (raw_byte-at cells y (x / 8) column) in
     let place : 8 * (x / 8) + (8 - 1 - (7 - x % 8)) ≡ x = omega arith in
     ap (λ (b : ℕ). eqb (bit_at b (7 - x % 8)) 1) (byte ∙ is)
     ∙ ap (λ (b : ℕ). eqb b 1) (packed-bit cells (8 * (x / 8)) y 8 (7 - x % 8) (omega arith))
@@ -80,13 +93,16 @@ raw_bytes-pixel cells x y hx hy =
     ∙ one-is (has cells x y)
 
 -- the parts of a text that is written
-pub regroup-front : (form : ℕ) (a b c : List ℕ) → (80 ∷ form ∷ 10 ∷ (a ++ (32 ∷ (b ++ 10 ∷ [])))) ++ c ≡ 80 ∷ form ∷ ((10 ∷ []) ++ (a ++ ((32 ∷ []) ++ (b ++ (10 ∷ c)))))
+pub regroup-front : (form : ℕ) (a b c : List ℕ)
+    → (80 ∷ form ∷ 10 ∷ (a ++ (32 ∷ (b ++ 10 ∷ [])))) ++ c
+    ≡ 80 ∷ form ∷ ((10 ∷ []) ++ (a ++ ((32 ∷ []) ++ (b ++ (10 ∷ c)))))
 regroup-front form a b c = simp append_assoc
 
 -- one whitespace byte is a gap
 pub IsGap-line_feed : IsGap (10 ∷ [])
 unfolding fills
-IsGap-line_feed = record { first = 10; others = []; is_text = refl; first_is = refl; others_are = refl }
+IsGap-line_feed =
+    record { first = 10; others = []; is_text = refl; first_is = refl; others_are = refl }
 
 -- one blank is a gap
 pub IsGap-blank : IsGap (32 ∷ [])
@@ -111,7 +127,8 @@ raw_text-is cells is =
       height_is = IsNumber-decimal cells.height (omega (arith, is.height_is.few));
       space_is = refl;
       raster_is = record {
-        as_many = length-map-range_with_len (raw_byte cells) 0 (cells.height * bytes_across cells.width);
+        as_many = length-map-range_with_len (raw_byte cells) 0
+            (cells.height * bytes_across cells.width);
         pixels = raw_bytes-pixel cells;
       };
       is_text = regroup-front 52 (decimal cells.width) (decimal cells.height) (raw_bytes cells);

@@ -1,38 +1,49 @@
 -- Eight bytes as a word, and the words of a bitmap that is being read.
-use Rattle.std.proofs.Common.{◌≡◌, ℕ, zero, suc, ◌+◌, ◌-◌, ◌*◌, ◌/◌, ◌%◌, ◌^◌, ◌<◌, ◌≤◌, ◌==◌, ◌&&◌, Bool, true, ltb, List, [], ◌∷◌, length, get_or, set, refl, sym, ap, ◌∙◌, inl, inr, arith}
+use Rattle.std.proofs.Common.{◌≡◌, ℕ, zero, suc, ◌+◌, ◌-◌, ◌*◌, ◌/◌, ◌%◌, ◌^◌, ◌<◌, ◌≤◌, ◌==◌, ◌&&◌}
+use Rattle.std.proofs.Common.{Bool, true, ltb, List, [], ◌∷◌, length, get_or, set, refl, sym, ap}
+use Rattle.std.proofs.Common.{◌∙◌, inl, inr, arith}
 use Rattle.std.specs.Int.{bit_at, reverse_bits_onto}
 use Rattle.std.proofs.lemmas.Bool.{cases_lt, lt-ltb}
 use Rattle.std.proofs.Math.Nat.{mul-le-mul_left}
 use Rattle.std.proofs.lemmas.List.{get_or_past, get_or-set_other, get_or-set_same}
-use Rattle.std.proofs.lemmas.Nat.Bits.{bit_at-suc, bit_at-zero, bit_at_lowest, bit_at_cat_low, bit_at_cat_high}
+use Rattle.std.proofs.lemmas.Nat.Bits.{bit_at-suc, bit_at-zero, bit_at_lowest, bit_at_cat_low}
+use Rattle.std.proofs.lemmas.Nat.Bits.{bit_at_cat_high}
 use Rattle.bits.specs.Cells.{Cells, cells_where}
 use Rattle.bits.specs.Words.{words_across}
 use Rattle.pbm.specs.Image.{raw_pixel}
 use Rattle.bits.proofs.CellsLemmas.{cells_where-same}
 
 -- where another number's bits are turned onto a number, its own stand above those
-bit_at-reverse_high : (k n front i : ℕ) → k ≤ i → bit_at (reverse_bits_onto k n front) i ≡ bit_at front (i - k)
+bit_at-reverse_high : (k n front i : ℕ) → k ≤ i
+    → bit_at (reverse_bits_onto k n front) i ≡ bit_at front (i - k)
 unfolding reverse_bits_onto
-bit_at-reverse_high zero n front i beyond = let same : i ≡ i - 0 = omega arith in ap (bit_at front) same
+bit_at-reverse_high zero n front i beyond = let same : i ≡ i - 0 = omega arith in
+    ap (bit_at front) same
 bit_at-reverse_high (suc k) n front i beyond =
     let next : i - k ≡ suc (i - suc k) = omega arith in
     let half : (front * 2 + n % 2) / 2 ≡ front = omega arith in
-    bit_at-reverse_high k (n / 2) (front * 2 + n % 2) i (omega arith) ∙ (ap (bit_at (front * 2 + n % 2)) next ∙ (bit_at-suc (front * 2 + n % 2) (i - suc k) ∙ ap (λ (m : ℕ). bit_at m (i - suc k)) half))
+    bit_at-reverse_high k (n / 2) (front * 2 + n % 2) i (omega arith)
+    ∙ (ap (bit_at (front * 2 + n % 2)) next
+    ∙ (bit_at-suc (front * 2 + n % 2) (i - suc k) ∙ ap (λ (m : ℕ). bit_at m (i - suc k)) half))
 
 -- a number whose bits are reversed has each bit at the place counted from the other end
-pub bit_at-reverse_low : (k n front i : ℕ) → i < k → bit_at (reverse_bits_onto k n front) i ≡ bit_at n (k - 1 - i)
+pub bit_at-reverse_low : (k n front i : ℕ) → i < k
+    → bit_at (reverse_bits_onto k n front) i ≡ bit_at n (k - 1 - i)
 unfolding reverse_bits_onto
 bit_at-reverse_low zero n front i within = absurd (omega arith)
 bit_at-reverse_low (suc k) n front i within = elim (cases_lt i k) [
   | inl less ↦
       let place : suc (k - 1 - i) ≡ suc k - 1 - i = omega arith in
-      bit_at-reverse_low k (n / 2) (front * 2 + n % 2) i less ∙ (sym (bit_at-suc n (k - 1 - i)) ∙ ap (bit_at n) place)
+      bit_at-reverse_low k (n / 2) (front * 2 + n % 2) i less
+      ∙ (sym (bit_at-suc n (k - 1 - i)) ∙ ap (bit_at n) place)
   | inr last ↦
       let none : i - k ≡ 0 = omega arith in
       let place : 0 ≡ suc k - 1 - i = omega arith in
       let odd : (front * 2 + n % 2) % 2 ≡ n % 2 = omega arith in
       bit_at-reverse_high k (n / 2) (front * 2 + n % 2) i last
-      ∙ (ap (bit_at (front * 2 + n % 2)) none ∙ (bit_at_lowest (front * 2 + n % 2) ∙ (odd ∙ (sym (bit_at_lowest n) ∙ ap (bit_at n) place))))
+      ∙ (ap (bit_at (front * 2 + n % 2)) none
+      ∙ (bit_at_lowest (front * 2 + n % 2)
+      ∙ (odd ∙ (sym (bit_at_lowest n) ∙ ap (bit_at n) place))))
 ]
 
 -- the number of some bytes, the first the lowest
@@ -41,22 +52,28 @@ horner [] = 0
 horner (byte ∷ bytes) = horner bytes * 2 ^ 8 + byte
 
 -- the bits of such a number are those of its bytes
-bit_at-horner : (bytes : List ℕ) → ((k : ℕ) → get_or bytes k 0 < 2 ^ 8) → (i : ℕ) → bit_at (horner bytes) i ≡ bit_at (get_or bytes (i / 8) 0) (i % 8)
+bit_at-horner : (bytes : List ℕ) → ((k : ℕ) → get_or bytes k 0 < 2 ^ 8) → (i : ℕ)
+    → bit_at (horner bytes) i ≡ bit_at (get_or bytes (i / 8) 0) (i % 8)
 bit_at-horner [] small i = bit_at-zero i ∙ sym (bit_at-zero (i % 8))
 bit_at-horner (byte ∷ bytes) small i = elim (cases_lt i 8) [
   | inl low ↦
       let first : 0 ≡ i / 8 = omega arith in
       let place : i ≡ i % 8 = omega arith in
-      bit_at_cat_low (horner bytes) 8 byte i low ∙ (ap (bit_at byte) place ∙ ap (λ (k : ℕ). bit_at (get_or (byte ∷ bytes) k 0) (i % 8)) first)
+      bit_at_cat_low (horner bytes) 8 byte i low
+      ∙ (ap (bit_at byte) place
+      ∙ ap (λ (k : ℕ). bit_at (get_or (byte ∷ bytes) k 0) (i % 8)) first)
   | inr high ↦
       let next : suc ((i - 8) / 8) ≡ i / 8 = omega arith in
       let place : (i - 8) % 8 ≡ i % 8 = omega arith in
       bit_at_cat_high (horner bytes) 8 byte i (small 0) high
-      ∙ (bit_at-horner bytes (λ k. small (suc k)) (i - 8) ∙ (ap (bit_at (get_or bytes ((i - 8) / 8) 0)) place ∙ ap (λ (k : ℕ). bit_at (get_or (byte ∷ bytes) k 0) (i % 8)) next))
+      ∙ (bit_at-horner bytes (λ k. small (suc k)) (i - 8)
+      ∙ (ap (bit_at (get_or bytes ((i - 8) / 8) 0)) place
+      ∙ ap (λ (k : ℕ). bit_at (get_or (byte ∷ bytes) k 0) (i % 8)) next))
 ]
 
 -- what holds of each of eight numbers
-pub each_of_eight : (P : ℕ → Type 0) → P 0 → P 1 → P 2 → P 3 → P 4 → P 5 → P 6 → P 7 → (k : ℕ) → k < 8 → P k
+pub each_of_eight : (P : ℕ → Type 0) → P 0 → P 1 → P 2 → P 3 → P 4 → P 5 → P 6 → P 7 → (k : ℕ)
+    → k < 8 → P k
 each_of_eight P a b c d e f g h zero within = a
 each_of_eight P a b c d e f g h (suc zero) within = b
 each_of_eight P a b c d e f g h (suc (suc zero)) within = c
@@ -65,67 +82,92 @@ each_of_eight P a b c d e f g h (suc (suc (suc (suc zero)))) within = e
 each_of_eight P a b c d e f g h (suc (suc (suc (suc (suc zero))))) within = f
 each_of_eight P a b c d e f g h (suc (suc (suc (suc (suc (suc zero)))))) within = g
 each_of_eight P a b c d e f g h (suc (suc (suc (suc (suc (suc (suc zero))))))) within = h
-each_of_eight P a b c d e f g h (suc (suc (suc (suc (suc (suc (suc (suc k)))))))) within = absurd (omega arith)
+each_of_eight P a b c d e f g h (suc (suc (suc (suc (suc (suc (suc (suc k)))))))) within =
+    absurd (omega arith)
 
 -- past eight bytes there is none
 past_eight : (a b c d e f g h k : ℕ) → 8 ≤ k → get_or (a ∷ b ∷ c ∷ d ∷ e ∷ f ∷ g ∷ h ∷ []) k 0 ≡ 0
 past_eight a b c d e f g h k past = get_or_past (a ∷ b ∷ c ∷ d ∷ e ∷ f ∷ g ∷ h ∷ []) k 0 past
 
 -- eight bytes are small
-pub small_of_eight : (a b c d e f g h : ℕ) → a < 256 → b < 256 → c < 256 → d < 256 → e < 256 → f < 256 → g < 256 → h < 256 → (k : ℕ) → get_or (a ∷ b ∷ c ∷ d ∷ e ∷ f ∷ g ∷ h ∷ []) k 0 < 2 ^ 8
+pub small_of_eight : (a b c d e f g h : ℕ) → a < 256 → b < 256 → c < 256 → d < 256 → e < 256
+    → f < 256 → g < 256 → h < 256 → (k : ℕ)
+    → get_or (a ∷ b ∷ c ∷ d ∷ e ∷ f ∷ g ∷ h ∷ []) k 0 < 2 ^ 8
 small_of_eight a b c d e f g h sa sb sc sd se sf sg sh k = elim (cases_lt k 8) [
-  | inl within ↦ each_of_eight (λ n. get_or (a ∷ b ∷ c ∷ d ∷ e ∷ f ∷ g ∷ h ∷ []) n 0 < 256) sa sb sc sd se sf sg sh k within
+  | inl within ↦ each_of_eight (λ n. get_or (a ∷ b ∷ c ∷ d ∷ e ∷ f ∷ g ∷ h ∷ []) n 0 < 256) sa sb sc
+      sd se sf sg sh k within
   | inr past ↦ rw (past_eight a b c d e f g h k past) (omega arith)
 ]
 
 -- the word of eight bytes, each of which is reversed, has each byte's bits from the highest down
-pub bit_at-word : (bytes : List ℕ) (a b c d e f g h word : ℕ) → word ≡ horner (a ∷ b ∷ c ∷ d ∷ e ∷ f ∷ g ∷ h ∷ [])
+pub bit_at-word : (bytes : List ℕ) (a b c d e f g h word : ℕ)
+    → word ≡ horner (a ∷ b ∷ c ∷ d ∷ e ∷ f ∷ g ∷ h ∷ [])
     → ((k : ℕ) → get_or (a ∷ b ∷ c ∷ d ∷ e ∷ f ∷ g ∷ h ∷ []) k 0 < 2 ^ 8)
-    → ((k : ℕ) → k < 8 → get_or (a ∷ b ∷ c ∷ d ∷ e ∷ f ∷ g ∷ h ∷ []) k 0 ≡ reverse_bits_onto 8 (get_or bytes k 0) 0)
+    → ((k : ℕ) → k < 8 → get_or (a ∷ b ∷ c ∷ d ∷ e ∷ f ∷ g ∷ h ∷ []) k 0
+    ≡ reverse_bits_onto 8 (get_or bytes k 0) 0)
     → (i : ℕ) → i < 64 → bit_at word i ≡ bit_at (get_or bytes (i / 8) 0) (7 - i % 8)
 bit_at-word bytes a b c d e f g h word is small turned i within =
     let byte : i / 8 < 8 = omega arith in
     let place : i % 8 < 8 = omega arith in
     ap (λ (w : ℕ). bit_at w i) is
     ∙ (bit_at-horner (a ∷ b ∷ c ∷ d ∷ e ∷ f ∷ g ∷ h ∷ []) small i
-    ∙ (ap (λ (n : ℕ). bit_at n (i % 8)) (turned (i / 8) byte) ∙ bit_at-reverse_low 8 (get_or bytes (i / 8) 0) 0 (i % 8) place))
+    ∙ (ap (λ (n : ℕ). bit_at n (i % 8)) (turned (i / 8) byte)
+    ∙ bit_at-reverse_low 8 (get_or bytes (i / 8) 0) 0 (i % 8) place))
 
 -- the bitmap whose cells pass the test, as far as its first words, row by row from the top
 abbrev pub drawn_words : ℕ → ℕ → (ℕ → ℕ → Bool) → ℕ → Cells
-drawn_words width height test n = cells_where width height (λ a b. ltb (b * words_across width + a / 64) n && test a b)
+drawn_words width height test n =
+    cells_where width height (λ a b. ltb (b * words_across width + a / 64) n && test a b)
 
 -- a place of a row is one of all rows' places
-pub place-below_row : (across height k b : ℕ) → k < across → b < height → b * across + k < height * across
-place-below_row across height k b column row = let most : across * (b + 1) ≤ across * height = mul-le-mul_left across (omega arith) in omega (arith, most)
+pub place-below_row : (across height k b : ℕ) → k < across → b < height
+    → b * across + k < height * across
+place-below_row across height k b column row =
+    let most : across * (b + 1) ≤ across * height = mul-le-mul_left across (omega arith) in
+    omega (arith, most)
 
 -- a word of a cell is one of the bitmap's
-place-below_words : (width height a b : ℕ) → a < width → b < height → b * words_across width + a / 64 < height * words_across width
-place-below_words width height a b ha hb = place-below_row (words_across width) height (a / 64) b (omega arith) hb
+place-below_words : (width height a b : ℕ) → a < width → b < height
+    → b * words_across width + a / 64 < height * words_across width
+place-below_words width height a b ha hb =
+    place-below_row (words_across width) height (a / 64) b (omega arith) hb
 
 -- all cells are drawn
-pub drawn_words-all : (width height n : ℕ) (test : ℕ → ℕ → Bool) → n ≡ height * words_across width → drawn_words width height test n ≡ cells_where width height test
+pub drawn_words-all : (width height n : ℕ) (test : ℕ → ℕ → Bool) → n ≡ height * words_across width
+    → drawn_words width height test n ≡ cells_where width height test
 drawn_words-all width height n test all =
-    cells_where-same width height (λ a b. ltb (b * words_across width + a / 64) n && test a b) test (λ a b ha hb.
-    let below : b * words_across width + a / 64 < height * words_across width = place-below_words width height a b ha hb in
-    let yes : ltb (b * words_across width + a / 64) n ≡ true = lt-ltb (b * words_across width + a / 64) n (omega (arith, below, all)) in
+    cells_where-same width height (λ a b. ltb (b * words_across width + a / 64) n && test a b) test
+    (λ a b ha hb.
+    let below : b * words_across width + a / 64 < height * words_across width =
+    place-below_words width height a b ha hb in
+    let yes : ltb (b * words_across width + a / 64) n ≡ true =
+    lt-ltb (b * words_across width + a / 64) n (omega (arith, below, all)) in
     rw yes refl)
 
 -- a further byte has been copied
-pub copied-more : (from to : List ℕ) (start place : ℕ) → place < length to → ((k : ℕ) → k < place → get_or to k 0 ≡ get_or from (start + k) 0)
-    → (k : ℕ) → k < place + 1 → get_or (set to place (get_or from (start + place) 0)) k 0 ≡ get_or from (start + k) 0
+pub copied-more : (from to : List ℕ) (start place : ℕ) → place < length to
+    → ((k : ℕ) → k < place → get_or to k 0 ≡ get_or from (start + k) 0)
+    → (k : ℕ) → k < place + 1
+    → get_or (set to place (get_or from (start + place) 0)) k 0 ≡ get_or from (start + k) 0
 copied-more from to start place within before k below = elim (cases_lt k place) [
   | inl earlier ↦
       let apart : k ≡ place → ⊥ = λ same. omega arith in
       get_or-set_other to place k (get_or from (start + place) 0) 0 apart ∙ before k earlier
   | inr here ↦
       let same : k ≡ place = omega arith in
-      ap (λ (n : ℕ). get_or (set to place (get_or from (start + place) 0)) n 0) same ∙ (get_or-set_same to place (get_or from (start + place) 0) 0 within ∙ ap (λ (n : ℕ). get_or from (start + n) 0) (sym same))
+      ap (λ (n : ℕ). get_or (set to place (get_or from (start + place) 0)) n 0) same
+      ∙ (get_or-set_same to place (get_or from (start + place) 0) 0 within
+      ∙ ap (λ (n : ℕ). get_or from (start + n) 0) (sym same))
 ]
 
 -- a bit of a word that is read is a pixel of the raster
-pub raw_word-pixel : (across : ℕ) (raster : List ℕ) (y index start i word : ℕ) → start ≡ y * across + 8 * index
-    → bit_at word i ≡ bit_at (get_or raster (start + i / 8) 0) (7 - i % 8) → (bit_at word i == 1) ≡ raw_pixel across raster (64 * index + i) y
+pub raw_word-pixel : (across : ℕ) (raster : List ℕ) (y index start i word : ℕ)
+    → start ≡ y * across + 8 * index
+    → bit_at word i ≡ bit_at (get_or raster (start + i / 8) 0) (7 - i % 8)
+    → (bit_at word i == 1) ≡ raw_pixel across raster (64 * index + i) y
 raw_word-pixel across raster y index start i word start_is bit =
     let byte : start + i / 8 ≡ y * across + (64 * index + i) / 8 = omega arith in
     let place : 7 - i % 8 ≡ 7 - (64 * index + i) % 8 = omega arith in
-    ap (λ (n : ℕ). n == 1) (bit ∙ (ap (λ (n : ℕ). bit_at (get_or raster n 0) (7 - i % 8)) byte ∙ ap (bit_at (get_or raster (y * across + (64 * index + i) / 8) 0)) place))
+    ap (λ (n : ℕ). n == 1) (bit
+    ∙ (ap (λ (n : ℕ). bit_at (get_or raster n 0) (7 - i % 8)) byte
+    ∙ ap (bit_at (get_or raster (y * across + (64 * index + i) / 8) 0)) place))

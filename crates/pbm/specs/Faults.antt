@@ -1,8 +1,12 @@
 -- The first fault of an image, from its front: this project's own rule over the image grammar. Each
 -- function reads one part, and returns what it read and what is left, or the fault that it meets.
-use Rattle.std.specs.Prelude.{ℕ, ◌+◌, ◌-◌, ◌*◌, ◌==◌, ◌&&◌, nat_lt, suc, zero, Bool, true, false, not, List, [], ◌∷◌, length, take, drop, Result, Ok, Err, slice_index_or, if◌then◌else◌}
+use Rattle.std.specs.Prelude.{ℕ, ◌+◌, ◌-◌, ◌*◌, ◌==◌, ◌&&◌, nat_lt, suc, zero, Bool, true, false}
+use Rattle.std.specs.Prelude.{not, List, [], ◌∷◌, length, take, drop, Result, Ok, Err}
+use Rattle.std.specs.Prelude.{slice_index_or, if◌then◌else◌}
 use Rattle.metric.specs.declared.fault.PbmFault.{PbmFault}
-use Rattle.metric.specs.declared.fault.PbmFault.TheVariants.{BadMagic, MissingSpace, BadComment, BadNumber, ZeroSize, TooLarge, BadPixel, Truncated, JunkNotSpaced}
+use Rattle.metric.specs.declared.fault.PbmFault.TheVariants.{BadMagic, MissingSpace, BadComment}
+use Rattle.metric.specs.declared.fault.PbmFault.TheVariants.{BadNumber, ZeroSize, TooLarge}
+use Rattle.metric.specs.declared.fault.PbmFault.TheVariants.{BadPixel, Truncated, JunkNotSpaced}
 use Rattle.bits.specs.Cells.{Cells, cells_where}
 use Rattle.pbm.specs.declared.header.Form.{Form}
 use Rattle.pbm.specs.declared.header.Form.TheVariants.{Plain, Raw}
@@ -19,18 +23,23 @@ abbrev pub ◌>>=◌ : {A B : Type 0} → Result A PbmFault → (A → Result B 
 abbrev pub magic : List ℕ → Result (Form × List ℕ) PbmFault
 magic [] = Err Truncated
 magic (p ∷ []) = if p == 80 then Err Truncated else Err BadMagic
-magic (p ∷ form ∷ rest) = if p == 80 && form == 49 then Ok (Plain, rest) else if p == 80 && form == 52 then Ok (Raw, rest) else Err BadMagic
+magic (p ∷ form ∷ rest) =
+    if p == 80 && form == 49 then Ok (Plain, rest) else if p == 80 && form == 52 then Ok (Raw, rest)
+    else Err BadMagic
 
 -- one whitespace byte; a `#`, the byte 35, is refused in its place
 abbrev pub space : List ℕ → Result (List ℕ) PbmFault
 space [] = Err Truncated
-space (byte ∷ rest) = if is_whitespace byte then Ok rest else if byte == 35 then Err BadComment else Err MissingSpace
+space (byte ∷ rest) =
+    if is_whitespace byte then Ok rest else if byte == 35 then Err BadComment else Err MissingSpace
 
 -- the rest of a gap, in a comment or not: whitespace and comments, up to a byte that is neither
 unfoldable pub filling : Bool → List ℕ → Result (List ℕ) PbmFault
 filling in_comment [] = Err Truncated
 filling true (byte ∷ rest) = filling (not (is_line_end byte)) rest
-filling false (byte ∷ rest) = if is_whitespace byte then filling false rest else if byte == 35 then filling true rest else Ok (byte ∷ rest)
+filling false (byte ∷ rest) =
+    if is_whitespace byte then filling false rest else if byte == 35 then filling true rest
+    else Ok (byte ∷ rest)
 
 -- a gap, which starts with one whitespace byte
 unfoldable pub gap : List ℕ → Result (List ℕ) PbmFault
@@ -38,12 +47,14 @@ gap bytes = space bytes >>= filling false
 
 -- a side of the map: its value is judged as soon as its digits end
 abbrev pub side : ℕ → List ℕ → Result (ℕ × List ℕ) PbmFault
-side value rest = if value == 0 then Err ZeroSize else if nat_lt 4096 value then Err TooLarge else Ok (value, rest)
+side value rest = if value == 0 then Err ZeroSize else if nat_lt 4096 value then Err TooLarge
+    else Ok (value, rest)
 
 -- the rest of a number whose digits so far have this value
 unfoldable pub digits : ℕ → List ℕ → Result (ℕ × List ℕ) PbmFault
 digits value [] = side value []
-digits value (byte ∷ rest) = if is_digit byte then digits (10 * value + (byte - 48)) rest else side value (byte ∷ rest)
+digits value (byte ∷ rest) =
+    if is_digit byte then digits (10 * value + (byte - 48)) rest else side value (byte ∷ rest)
 
 -- a number, which starts with a digit
 unfoldable pub number_and_rest : List ℕ → Result (ℕ × List ℕ) PbmFault
@@ -69,12 +80,15 @@ header bytes = do
 -- a byte that must be a pixel: `0` is 48, `1` is 49
 abbrev pub pixel_at : List ℕ → Result (Bool × List ℕ) PbmFault
 pixel_at [] = Err Truncated
-pixel_at (byte ∷ rest) = if byte == 48 then Ok (false, rest) else if byte == 49 then Ok (true, rest) else Err BadPixel
+pixel_at (byte ∷ rest) =
+    if byte == 48 then Ok (false, rest) else if byte == 49 then Ok (true, rest) else Err BadPixel
 
 -- the next pixel, with or without a gap before it; a `#` directly in its place is refused
 unfoldable pub next_pixel : List ℕ → Result (Bool × List ℕ) PbmFault
 next_pixel [] = Err Truncated
-next_pixel (byte ∷ rest) = if is_whitespace byte then filling false rest >>= pixel_at else if byte == 35 then Err BadComment else pixel_at (byte ∷ rest)
+next_pixel (byte ∷ rest) =
+    if is_whitespace byte then filling false rest >>= pixel_at else if byte == 35
+    then Err BadComment else pixel_at (byte ∷ rest)
 
 -- this many more pixels
 unfoldable pub pixels : ℕ → List ℕ → Result (List Bool × List ℕ) PbmFault
@@ -91,7 +105,8 @@ ended (byte ∷ rest) = if is_whitespace byte then Ok (byte ∷ rest) else Err J
 
 -- the bitmap with these pixels, in row-major order
 abbrev pub cells_of_pixels : ℕ → ℕ → List Bool → Cells
-cells_of_pixels width height all = cells_where width height (λ x y. slice_index_or all (y * width + x) false)
+cells_of_pixels width height all =
+    cells_where width height (λ x y. slice_index_or all (y * width + x) false)
 
 -- a plain raster and what follows it
 unfoldable pub plain_raster : ℕ → ℕ → List ℕ → Result (Cells × List ℕ) PbmFault
@@ -106,7 +121,9 @@ raw_cells width height raster = cells_where width height (raw_pixel (bytes_acros
 
 -- a raw raster, as many bytes as it needs; what follows it isn't read
 unfoldable pub raw_raster : ℕ → ℕ → List ℕ → Result (Cells × List ℕ) PbmFault
-raw_raster width height bytes = let needed = height * bytes_across width in if nat_lt (length bytes) needed then Err Truncated else Ok (raw_cells width height (take needed bytes), drop needed bytes)
+raw_raster width height bytes = let needed = height * bytes_across width in
+    if nat_lt (length bytes) needed then Err Truncated
+    else Ok (raw_cells width height (take needed bytes), drop needed bytes)
 
 -- the raster of an image of this form and these sides, and what is left after it
 abbrev pub raster : Form → ℕ → ℕ → List ℕ → Result (Cells × List ℕ) PbmFault

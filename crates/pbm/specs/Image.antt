@@ -3,7 +3,9 @@
 -- project's profile: only the blank, TAB, LF and CR are whitespace, sides are from 1 to 4096, a
 -- comment stands only within a gap that has started with whitespace, and none after the height of a
 -- raw image.
-use Rattle.std.specs.Prelude.{◌≡◌, ℕ, ◌+◌, ◌-◌, ◌*◌, ◌/◌, ◌%◌, ◌<◌, ◌==◌, ◌&&◌, ◌||◌, Bool, true, false, not, List, [], ◌∷◌, ◌++◌, length, map, slice_index, ◌⊎◌, if◌then◌else◌}
+use Rattle.std.specs.Prelude.{◌≡◌, ℕ, ◌+◌, ◌-◌, ◌*◌, ◌/◌, ◌%◌, ◌<◌, ◌==◌, ◌&&◌, ◌||◌, Bool, true}
+use Rattle.std.specs.Prelude.{false, not, List, [], ◌∷◌, ◌++◌, length, map, slice_index, ◌⊎◌}
+use Rattle.std.specs.Prelude.{if◌then◌else◌}
 use Rattle.std.specs.Int.{bit_at}
 use Rattle.std.specs.List.{range_with_len, list_all}
 use Rattle.metric.specs.Digits.{is_digit, value_from}
@@ -21,7 +23,8 @@ is_line_end byte = byte == 10 || byte == 13
 unfoldable pub fills : Bool → List ℕ → Bool
 fills in_comment [] = not in_comment
 fills true (byte ∷ rest) = fills (not (is_line_end byte)) rest
-fills false (byte ∷ rest) = if is_whitespace byte then fills false rest else byte == 35 && fills true rest
+fills false (byte ∷ rest) =
+    if is_whitespace byte then fills false rest else byte == 35 && fills true rest
 
 -- a gap: one whitespace byte, then any mix of whitespace and comments
 pub record IsGap (text : List ℕ) : Type 0 where
@@ -54,11 +57,14 @@ unfoldable pub IsRaster : List ℕ → List Bool → Type 0
 IsRaster text [] = text ≡ []
 IsRaster text (pixel ∷ []) = text ≡ pixel_byte pixel ∷ []
 IsRaster text (pixel ∷ next ∷ pixels) =
-    (between : List ℕ) × (rest : List ℕ) × IsBetween between × IsRaster rest (next ∷ pixels) × (text ≡ pixel_byte pixel ∷ (between ++ rest))
+    (between : List ℕ) × (rest : List ℕ) × IsBetween between × IsRaster rest (next ∷ pixels)
+    × (text ≡ pixel_byte pixel ∷ (between ++ rest))
 
 -- the pixels of a bitmap, in row-major order
 abbrev pub pixels_of : Cells → List Bool
-pixels_of cells = map (λ k. has cells (k % cells.width) (k / cells.width)) (range_with_len 0 (cells.width * cells.height))
+pixels_of cells =
+    map (λ k. has cells (k % cells.width) (k / cells.width))
+    (range_with_len 0 (cells.width * cells.height))
 
 -- a plain image: `P1`, a gap, the width, a gap, the height, a gap, the raster
 pub record IsPlain (text : List ℕ) (cells : Cells) : Type 0 where
@@ -75,7 +81,9 @@ pub record IsPlain (text : List ℕ) (cells : Cells) : Type 0 where
   pub height_is : IsNumber height cells.height
   pub gap_before_raster_is : IsGap gap_before_raster
   pub raster_is : IsRaster raster (pixels_of cells)
-  pub is_text : text ≡ 80 ∷ 49 ∷ (gap_before_width ++ (width ++ (gap_before_height ++ (height ++ (gap_before_raster ++ raster)))))
+  pub is_text : text ≡ 80 ∷ 49
+      ∷ (gap_before_width
+      ++ (width ++ (gap_before_height ++ (height ++ (gap_before_raster ++ raster)))))
 
 -- the number of bytes of a row of this width in a raw raster
 abbrev pub bytes_across : ℕ → ℕ
@@ -88,7 +96,8 @@ raw_pixel across raster x y = bit_at (slice_index raster (y * across + x / 8)) (
 -- a raw raster: rows from the top, each in as many bytes as it needs, with any fill bits at its end
 pub record IsRawRaster (raster : List ℕ) (cells : Cells) : Type 0 where
   pub as_many : length raster ≡ cells.height * bytes_across cells.width
-  pub pixels : (x y : ℕ) → x < cells.width → y < cells.height → raw_pixel (bytes_across cells.width) raster x y ≡ has cells x y
+  pub pixels : (x y : ℕ) → x < cells.width → y < cells.height
+      → raw_pixel (bytes_across cells.width) raster x y ≡ has cells x y
 
 -- a raw image: `P4`, a gap, the width, a gap, the height, one whitespace byte, the raster
 pub record IsRaw (text : List ℕ) (cells : Cells) : Type 0 where
@@ -105,7 +114,8 @@ pub record IsRaw (text : List ℕ) (cells : Cells) : Type 0 where
   pub height_is : IsNumber height cells.height
   pub space_is : is_whitespace space ≡ true
   pub raster_is : IsRawRaster raster cells
-  pub is_text : text ≡ 80 ∷ 52 ∷ (gap_before_width ++ (width ++ (gap_before_height ++ (height ++ (space ∷ raster)))))
+  pub is_text : text ≡ 80 ∷ 52
+      ∷ (gap_before_width ++ (width ++ (gap_before_height ++ (height ++ (space ∷ raster)))))
 
 -- the whole text is one image, of this bitmap
 abbrev pub IsImage : List ℕ → Cells → Type 0

@@ -1,5 +1,6 @@
 -- The pixels of a plain raster as the bits of a number: this project's own rule.
-use Rattle.std.specs.Prelude.{◌≡◌, ℕ, ◌+◌, ◌^◌, ◌<◌, ◌≤◌, ◌==◌, false, Bool, List, length, Ok, slice_index, slice_index_or}
+use Rattle.std.specs.Prelude.{◌≡◌, ℕ, ◌+◌, ◌^◌, ◌<◌, ◌≤◌, ◌==◌, false, Bool, List, length, Ok}
+use Rattle.std.specs.Prelude.{slice_index, slice_index_or}
 use Rattle.std.specs.Int.{bit_at}
 use Rattle.pbm.specs.Faults.{pixels}
 
@@ -16,7 +17,8 @@ pub record AreDigits (count : ℕ) (bytes : List ℕ) (number : ℕ) : Type 0 wh
   pub digits : (k : ℕ) → k < count → slice_index bytes k ≡ 48 + bit_at number k
 
 -- one to `most` pixels were read as the bits of a number that has no others
-pub record AreSomeRead (most : ℕ) (bytes : List ℕ) (count : ℕ) (number : ℕ) (rest : List ℕ) : Type 0 where
+pub record AreSomeRead (most : ℕ) (bytes : List ℕ) (count : ℕ) (number : ℕ) (rest : List ℕ) :
+    Type 0 where
   pub some : 0 < count
   pub few : count ≤ most
   pub read : AreBitsRead count bytes number rest

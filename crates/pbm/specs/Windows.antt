@@ -1,7 +1,8 @@
 -- What a window on a source has read and what has been taken from it: this project's own rule. A
 -- source may or may not show its bytes. So a clause about later bytes says that some were taken
 -- from the source, and what is read whatever bytes follow them.
-use Rattle.std.specs.Prelude.{◌≡◌, ◌≢◌, ℕ, ◌+◌, ◌≤◌, true, List, [], ◌++◌, length, drop, vec_len, Option, Result, Ok, Err, IsOk}
+use Rattle.std.specs.Prelude.{◌≡◌, ◌≢◌, ℕ, ◌+◌, ◌≤◌, true, List, [], ◌++◌, length, drop, vec_len}
+use Rattle.std.specs.Prelude.{Option, Result, Ok, Err, IsOk}
 use Rattle.metric.specs.Stream.{Takes, AreAll}
 use Rattle.metric.specs.declared.fault.PbmFault.{PbmFault}
 use Rattle.metric.specs.declared.fault.PbmFault.TheVariants as faults
@@ -22,7 +23,8 @@ pub record IsOpen (window : Window) (rest : Option (List ℕ)) : Type 0 where
   pub ended : window.ended ≡ true → AreAll rest []
 
 -- bytes were taken from the source, and whatever follows, this holds of what was left and is left
-pub record Follows (rest : Option (List ℕ)) (before : List ℕ) (left : Option (List ℕ)) (after : List ℕ) (P : List ℕ → List ℕ → Type 0) : Type 0 where
+pub record Follows (rest : Option (List ℕ)) (before : List ℕ) (left : Option (List ℕ))
+    (after : List ℕ) (P : List ℕ → List ℕ → Type 0) : Type 0 where
   pub block : List ℕ
   pub taken : Takes rest block left
   pub holds : (more : List ℕ) → P (before ++ (block ++ more)) (after ++ more)

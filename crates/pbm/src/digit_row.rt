@@ -51,7 +51,8 @@ fn put_word(word: u64, first: usize, digits: &mut [u8])
 pub fn put_digits(words: &[u64], digits: &mut [u8])
     requires { 64 * length words.now ≤ length digits.old }
     ensures len { length digits.new ≡ length digits.old }
-    ensures pixels { (x : ℕ) → x < 64 * length words.now → slice_index digits.new x ≡ 48 + bit_at (slice_index words.now (x / 64)) (x % 64) }
+    ensures pixels { (x : ℕ) → x < 64 * length words.now
+        → slice_index digits.new x ≡ 48 + bit_at (slice_index words.now (x / 64)) (x % 64) }
 {
     'words: for index in 0..words.len() {
         put_word(words[index], 64 * index, digits);

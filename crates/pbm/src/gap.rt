@@ -22,7 +22,8 @@ fn is_line_end(byte: u8) -> bool
 
 /// The bytes after one whitespace byte.
 pub fn after_space(bytes: &[u8]) -> Result<&[u8], PbmFault>
-    ensures { MatchResult result (λ rest. space bytes.now ≡ Ok rest.now) (λ fault. space bytes.now ≡ Err fault) }
+    ensures { MatchResult result (λ rest. space bytes.now ≡ Ok rest.now)
+        (λ fault. space bytes.now ≡ Err fault) }
 {
     match bytes.split_first() {
         None => Err(PbmFault::Truncated),
@@ -35,7 +36,8 @@ pub fn after_space(bytes: &[u8]) -> Result<&[u8], PbmFault>
 /// The bytes after the rest of a gap, its comments included.
 #[tactic(auto, unfolding(crate::specs::Faults::filling))]
 pub fn after_filling(bytes: &[u8]) -> Result<&[u8], PbmFault>
-    ensures { MatchResult result (λ rest. filling false bytes.now ≡ Ok rest.now) (λ fault. filling false bytes.now ≡ Err fault) }
+    ensures { MatchResult result (λ rest. filling false bytes.now ≡ Ok rest.now)
+        (λ fault. filling false bytes.now ≡ Err fault) }
 {
     let mut in_comment = false;
     let mut rest = bytes;
@@ -55,7 +57,8 @@ pub fn after_filling(bytes: &[u8]) -> Result<&[u8], PbmFault>
 /// The bytes after a gap.
 #[tactic(auto, unfolding(crate::specs::Faults::gap))]
 pub fn after_gap(bytes: &[u8]) -> Result<&[u8], PbmFault>
-    ensures { MatchResult result (λ rest. gap bytes.now ≡ Ok rest.now) (λ fault. gap bytes.now ≡ Err fault) }
+    ensures { MatchResult result (λ rest. gap bytes.now ≡ Ok rest.now)
+        (λ fault. gap bytes.now ≡ Err fault) }
 {
     let rest = after_space(bytes)?;
     after_filling(rest)

@@ -31,7 +31,8 @@ impl Form {
 
 /// The form that the magic number says, and the bytes after it.
 fn after_magic(bytes: &[u8]) -> Result<(Form, &[u8]), PbmFault>
-    ensures { MatchResult result (λ found. magic bytes.now ≡ Ok (found.0, found.1.now)) (λ fault. magic bytes.now ≡ Err fault) }
+    ensures { MatchResult result (λ found. magic bytes.now ≡ Ok (found.0, found.1.now))
+        (λ fault. magic bytes.now ≡ Err fault) }
 {
     match bytes {
         [] | [b'P'] => Err(PbmFault::Truncated),
@@ -43,7 +44,8 @@ fn after_magic(bytes: &[u8]) -> Result<(Form, &[u8]), PbmFault>
 
 /// The bytes from the raster on: a gap precedes a plain raster, one whitespace byte a raw one.
 fn at_raster(form: Form, bytes: &[u8]) -> Result<&[u8], PbmFault>
-    ensures { MatchResult result (λ rest. before_raster form bytes.now ≡ Ok rest.now) (λ fault. before_raster form bytes.now ≡ Err fault) }
+    ensures { MatchResult result (λ rest. before_raster form bytes.now ≡ Ok rest.now)
+        (λ fault. before_raster form bytes.now ≡ Err fault) }
 {
     match form {
         Form::Plain => after_gap(bytes),
@@ -54,7 +56,8 @@ fn at_raster(form: Form, bytes: &[u8]) -> Result<&[u8], PbmFault>
 /// The form, the width, the height and the bytes from the raster on.
 #[tactic(auto, unfolding(crate::specs::Faults::header))]
 pub fn read_header(bytes: &[u8]) -> Result<(Form, u16, u16, &[u8]), PbmFault>
-    ensures { MatchResult result (λ found. header bytes.now ≡ Ok (found.0, found.1, found.2, found.3.now)) (λ fault. header bytes.now ≡ Err fault) }
+    ensures { MatchResult result (λ found. header bytes.now
+        ≡ Ok (found.0, found.1, found.2, found.3.now)) (λ fault. header bytes.now ≡ Err fault) }
 {
     let (form, rest) = after_magic(bytes)?;
     let rest = after_gap(rest)?;

@@ -16,8 +16,10 @@ use std::alloc::Global;
 /// image. On a fault, some pixels may have been read.
 fn read_raster<'a>(form: Form, bitmap: &mut Bitmap, bytes: &'a [u8]) -> Result<&'a [u8], PbmFault>
     requires { bitmap.old ≡ cells_where bitmap.old.width bitmap.old.height (λ x y. false) }
-    ensures raster { IfOk result (λ rest. raster form bitmap.old.width bitmap.old.height bytes.now ≡ Ok (bitmap.new, rest.now)) }
-    ensures fault { IfErr result (λ fault. raster form bitmap.old.width bitmap.old.height bytes.now ≡ Err fault) }
+    ensures raster { IfOk result (λ rest. raster form bitmap.old.width bitmap.old.height bytes.now
+        ≡ Ok (bitmap.new, rest.now)) }
+    ensures fault { IfErr result (λ fault. raster form bitmap.old.width bitmap.old.height bytes.now
+        ≡ Err fault) }
 {
     match form {
         Form::Plain => read_plain(bitmap, bytes),
@@ -28,7 +30,8 @@ fn read_raster<'a>(form: Form, bitmap: &mut Bitmap, bytes: &'a [u8]) -> Result<&
 /// The image at the front, and the bytes after it.
 #[tactic(auto, unfolding(crate::specs::Faults::image))]
 fn read_front(alloc: Global, bytes: &[u8]) -> Result<(Bitmap, &[u8]), PbmFault>
-    ensures found { MatchResult result (λ found. image bytes.now ≡ Ok (found.0, found.1.now)) (λ fault. fault ≢ PbmFault.Memory → image bytes.now ≡ Err fault) }
+    ensures found { MatchResult result (λ found. image bytes.now ≡ Ok (found.0, found.1.now))
+        (λ fault. fault ≢ PbmFault.Memory → image bytes.now ≡ Err fault) }
     ensures memory { result ≡ Err PbmFault.Memory → IsOk (header bytes.now) }
 {
     let (form, width, height, rest) = read_header(bytes)?;
@@ -54,7 +57,8 @@ pub fn read_image(alloc: Global, bytes: &[u8]) -> Result<(Bitmap, usize), PbmFau
 
     // A fault other than out of memory is the first from the front, and then there is no image.
     ensures fault { IfErr result (λ fault. fault ≢ PbmFault.Memory → image bytes.now ≡ Err fault) }
-    ensures none { IfErr result (λ fault. fault ≢ PbmFault.Memory → (n : ℕ) (cells : Cells) → Reads bytes.now n cells → ⊥) }
+    ensures none { IfErr result (λ fault. fault ≢ PbmFault.Memory → (n : ℕ) (cells : Cells)
+        → Reads bytes.now n cells → ⊥) }
     ensures memory { result ≡ Err PbmFault.Memory → IsOk (header bytes.now) }
 {
     let (bitmap, rest) = read_front(alloc, bytes)?;

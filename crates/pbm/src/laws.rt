@@ -9,13 +9,16 @@ ghost use Rattle.pbm.specs.Writing.{plain_text, raw_text};
 
 /// At most one image starts at the front of given bytes, and it takes a fixed number of them.
 pub fn one_image()
-    ensures { (bytes : List ℕ) (m n : ℕ) (a b : Cells) → Reads bytes m a → Reads bytes n b → (m ≡ n) × (a ≡ b) }
+    ensures { (bytes : List ℕ) (m n : ℕ) (a b : Cells) → Reads bytes m a → Reads bytes n b → (m ≡ n)
+        × (a ≡ b) }
 {}
 
 /// The fault table finds an image exactly where the grammar has one, and leaves the bytes after it.
 pub fn reads_what_is_found()
-    ensures found { (bytes rest : List ℕ) (cells : Cells) → image bytes ≡ Ok (cells, rest) → (read : Reads bytes (length bytes - length rest) cells) × (read.rest ≡ rest) }
-    ensures read { (bytes : List ℕ) (n : ℕ) (cells : Cells) (read : Reads bytes n cells) → image bytes ≡ Ok (cells, read.rest) }
+    ensures found { (bytes rest : List ℕ) (cells : Cells) → image bytes ≡ Ok (cells, rest)
+        → (read : Reads bytes (length bytes - length rest) cells) × (read.rest ≡ rest) }
+    ensures read { (bytes : List ℕ) (n : ℕ) (cells : Cells) (read : Reads bytes n cells)
+        → image bytes ≡ Ok (cells, read.rest) }
 {}
 
 /// The raw text of a bitmap is a raw image of it.
@@ -25,5 +28,6 @@ pub fn raw_text_is_an_image()
 
 /// The plain text of a bitmap is a plain image of it, followed by LF.
 pub fn plain_text_is_an_image()
-    ensures { (cells : Cells) → IsBitmap cells → (text : List ℕ) × (plain_text cells ≡ text ++ 10 ∷ []) × IsPlain text cells }
+    ensures { (cells : Cells) → IsBitmap cells → (text : List ℕ)
+        × (plain_text cells ≡ text ++ 10 ∷ []) × IsPlain text cells }
 {}

@@ -10,7 +10,8 @@ const LONGEST: u16 = 4096;
 
 /// A side of this many cells, with the bytes after it.
 fn side_of(value: u16, rest: &[u8]) -> Result<(u16, &[u8]), PbmFault>
-    ensures { MatchResult result (λ found. side value rest.now ≡ Ok (found.0, found.1.now)) (λ fault. side value rest.now ≡ Err fault) }
+    ensures { MatchResult result (λ found. side value rest.now ≡ Ok (found.0, found.1.now))
+        (λ fault. side value rest.now ≡ Err fault) }
 {
     match value {
         0 => Err(PbmFault::ZeroSize),
@@ -24,7 +25,8 @@ fn side_of(value: u16, rest: &[u8]) -> Result<(u16, &[u8]), PbmFault>
 /// Skips digits after a value over the longest side: no further digit makes it valid.
 #[tactic(auto, unfolding(crate::specs::Faults::digits))]
 fn read_digits(mut value: u16, bytes: &[u8]) -> Result<(u16, &[u8]), PbmFault>
-    ensures { MatchResult result (λ found. digits value bytes.now ≡ Ok (found.0, found.1.now)) (λ fault. digits value bytes.now ≡ Err fault) }
+    ensures { MatchResult result (λ found. digits value bytes.now ≡ Ok (found.0, found.1.now))
+        (λ fault. digits value bytes.now ≡ Err fault) }
 {
     let mut rest = bytes;
     while let Some((byte, others)) = rest.split_first() {
@@ -42,7 +44,8 @@ fn read_digits(mut value: u16, bytes: &[u8]) -> Result<(u16, &[u8]), PbmFault>
 /// The side that the digits at the front spell.
 #[tactic(auto, unfolding(crate::specs::Faults::number_and_rest))]
 pub fn read_number(bytes: &[u8]) -> Result<(u16, &[u8]), PbmFault>
-    ensures { MatchResult result (λ found. number_and_rest bytes.now ≡ Ok (found.0, found.1.now)) (λ fault. number_and_rest bytes.now ≡ Err fault) }
+    ensures { MatchResult result (λ found. number_and_rest bytes.now ≡ Ok (found.0, found.1.now))
+        (λ fault. number_and_rest bytes.now ≡ Err fault) }
 {
     match bytes.split_first() {
         None => Err(PbmFault::Truncated),

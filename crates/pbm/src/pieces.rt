@@ -1,6 +1,7 @@
 //! A plain image in pieces, for a stream that takes one piece after another.
 
-ghost use Rattle.std.specs.Prelude.{◌≡◌, ◌+◌, ◌-◌, ◌*◌, ◌<◌, ◌≤◌, length, vec_len, vec_capacity, IfOk, IfErr};
+ghost use Rattle.std.specs.Prelude.{◌≡◌, ◌+◌, ◌-◌, ◌*◌, ◌<◌, ◌≤◌, length, vec_len, vec_capacity};
+ghost use Rattle.std.specs.Prelude.{IfOk, IfErr};
 ghost use Rattle.std.specs.List.{range_with_len, flat_map};
 ghost use Rattle.metric.specs.declared.refusal.Refusal.TheVariants.{Memory};
 ghost use Rattle.pbm.specs.declared.header.Form.TheVariants.{Plain};
@@ -55,7 +56,8 @@ pub fn next_piece(bitmap: &Bitmap, from: u16, piece: &mut Vec<u8>) -> u16
     requires room { 65536 ≤ vec_capacity piece.old }
     ensures more { from < result }
     ensures inside { result ≤ bitmap.now.height }
-    ensures text { piece.new.items ≡ flat_map (plain_digit bitmap.now) (range_with_len (from * bitmap.now.width) ((result - from) * bitmap.now.width)) }
+    ensures text { piece.new.items ≡ flat_map (plain_digit bitmap.now)
+        (range_with_len (from * bitmap.now.width) ((result - from) * bitmap.now.width)) }
     ensures few { vec_len piece.new ≤ 65536 }
     ensures room { 65536 ≤ vec_capacity piece.new }
 {

@@ -1,6 +1,7 @@
 //! The pixels of a plain raster, up to 64 as a word.
 
-ghost use Rattle.std.specs.Prelude.{◌≡◌, ℕ, ◌+◌, ◌*◌, ◌^◌, ◌<◌, ◌≤◌, ◌==◌, cond, slice_index_or, Ok, Err, MatchResult};
+ghost use Rattle.std.specs.Prelude.{◌≡◌, ℕ, ◌+◌, ◌*◌, ◌^◌, ◌<◌, ◌≤◌, ◌==◌, cond, slice_index_or};
+ghost use Rattle.std.specs.Prelude.{Ok, Err, MatchResult};
 ghost use Rattle.std.specs.Int.{bit_at};
 ghost use Rattle.pbm.specs.Faults.{next_pixel, pixel_at, pixels};
 ghost use Rattle.pbm.specs.Plain.{AreBitsRead, AreDigits, AreSomeRead};
@@ -14,7 +15,8 @@ const LANES: usize = 64;
 
 /// Whether the pixel at the front is black, and the bytes after it.
 fn read_pixel(bytes: &[u8]) -> Result<(bool, &[u8]), PbmFault>
-    ensures { MatchResult result (λ found. pixel_at bytes.now ≡ Ok (found.0, found.1.now)) (λ fault. pixel_at bytes.now ≡ Err fault) }
+    ensures { MatchResult result (λ found. pixel_at bytes.now ≡ Ok (found.0, found.1.now))
+        (λ fault. pixel_at bytes.now ≡ Err fault) }
 {
     match bytes {
         [] => Err(PbmFault::Truncated),
@@ -27,7 +29,8 @@ fn read_pixel(bytes: &[u8]) -> Result<(bool, &[u8]), PbmFault>
 /// As `read_pixel`, of the next pixel, with or without a gap before it.
 #[tactic(auto, unfolding(crate::specs::Faults::next_pixel))]
 fn read_next(bytes: &[u8]) -> Result<(bool, &[u8]), PbmFault>
-    ensures { MatchResult result (λ found. next_pixel bytes.now ≡ Ok (found.0, found.1.now)) (λ fault. next_pixel bytes.now ≡ Err fault) }
+    ensures { MatchResult result (λ found. next_pixel bytes.now ≡ Ok (found.0, found.1.now))
+        (λ fault. next_pixel bytes.now ≡ Err fault) }
 {
     match bytes.split_first() {
         Some((byte, rest)) if is_whitespace(*byte) => read_pixel(after_filling(rest)?),
@@ -69,7 +72,8 @@ fn bit_of(black: bool) -> u64
 
 /// The next pixel as the lowest bit of a word.
 fn read_one(bytes: &[u8]) -> Result<(u16, u64, &[u8]), PbmFault>
-    ensures { MatchResult result (λ found. AreSomeRead 1 bytes.now found.0 found.1 found.2.now) (λ fault. next_pixel bytes.now ≡ Err fault) }
+    ensures { MatchResult result (λ found. AreSomeRead 1 bytes.now found.0 found.1 found.2.now)
+        (λ fault. next_pixel bytes.now ≡ Err fault) }
 {
     let (black, rest) = read_next(bytes)?;
     Ok((1, bit_of(black), rest))
@@ -79,7 +83,8 @@ fn read_one(bytes: &[u8]) -> Result<(u16, u64, &[u8]), PbmFault>
 fn read_some(bytes: &[u8], most: u16) -> Result<(u16, u64, &[u8]), PbmFault>
     requires some { 0 < most }
     requires few { most ≤ 64 }
-    ensures { MatchResult result (λ found. AreSomeRead most bytes.now found.0 found.1 found.2.now) (λ fault. next_pixel bytes.now ≡ Err fault) }
+    ensures { MatchResult result (λ found. AreSomeRead most bytes.now found.0 found.1 found.2.now)
+        (λ fault. next_pixel bytes.now ≡ Err fault) }
 {
     let (run, digits) = front_digits(bytes);
     let count = run.min(most);
@@ -106,7 +111,8 @@ fn with_bits(word: u64, place: u16, bits: u64, count: u16) -> u64
 /// last are 0.
 pub fn read_word(bytes: &[u8], count: u16) -> Result<(u64, &[u8]), PbmFault>
     requires { count ≤ 64 }
-    ensures { MatchResult result (λ found. AreBitsRead count bytes.now found.0 found.1.now) (λ fault. pixels count bytes.now ≡ Err fault) }
+    ensures { MatchResult result (λ found. AreBitsRead count bytes.now found.0 found.1.now)
+        (λ fault. pixels count bytes.now ≡ Err fault) }
 {
     let (mut word, mut place, mut rest) = (0u64, 0u16, bytes);
     'turns: while place < count {

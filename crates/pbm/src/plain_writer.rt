@@ -1,6 +1,7 @@
 //! Writing an image in the plain form.
 
-ghost use Rattle.std.specs.Prelude.{◌≡◌, ℕ, ◌+◌, ◌-◌, ◌*◌, ◌<◌, ◌≤◌, ◌++◌, length, slice_index, vec_len, vec_capacity, OnOk, OnErr, IfErr};
+ghost use Rattle.std.specs.Prelude.{◌≡◌, ℕ, ◌+◌, ◌-◌, ◌*◌, ◌<◌, ◌≤◌, ◌++◌, length, slice_index};
+ghost use Rattle.std.specs.Prelude.{vec_len, vec_capacity, OnOk, OnErr, IfErr};
 ghost use Rattle.std.specs.List.{range_with_len, flat_map};
 ghost use Rattle.bits.specs.Cells.{has};
 ghost use Rattle.metric.specs.declared.refusal.Refusal.TheVariants.{Memory};
@@ -27,8 +28,11 @@ pub fn row_length(width: u16) -> usize
 fn push_lines(out: &mut Vec<u8>, bitmap: &Bitmap, y: u16, digits: &[u8])
     requires room { vec_len out.old + row_length bitmap.now.width ≤ vec_capacity out.old }
     requires as_many { length digits.now ≡ bitmap.now.width }
-    requires digits { (x : ℕ) → x < bitmap.now.width → slice_index digits.now x ≡ pixel_byte (has bitmap.now x y) }
-    ensures text { out.new.items ≡ out.old.items ++ flat_map (plain_digit bitmap.now) (range_with_len (y * bitmap.now.width) bitmap.now.width) }
+    requires digits { (x : ℕ) → x < bitmap.now.width
+        → slice_index digits.now x ≡ pixel_byte (has bitmap.now x y) }
+    ensures text { out.new.items ≡ out.old.items
+        ++ flat_map (plain_digit bitmap.now)
+        (range_with_len (y * bitmap.now.width) bitmap.now.width) }
     ensures length { vec_len out.new ≡ vec_len out.old + row_length bitmap.now.width }
     ensures room { vec_capacity out.old ≤ vec_capacity out.new }
 {
@@ -46,7 +50,9 @@ fn push_row(out: &mut Vec<u8>, bitmap: &Bitmap, y: u16, digits: &mut [u8])
     requires inside { y < bitmap.now.height }
     requires room { vec_len out.old + row_length bitmap.now.width ≤ vec_capacity out.old }
     requires digits { length digits.old ≡ 4096 }
-    ensures text { out.new.items ≡ out.old.items ++ flat_map (plain_digit bitmap.now) (range_with_len (y * bitmap.now.width) bitmap.now.width) }
+    ensures text { out.new.items ≡ out.old.items
+        ++ flat_map (plain_digit bitmap.now)
+        (range_with_len (y * bitmap.now.width) bitmap.now.width) }
     ensures length { vec_len out.new ≡ vec_len out.old + row_length bitmap.now.width }
     ensures room { vec_capacity out.old ≤ vec_capacity out.new }
     ensures digits { length digits.new ≡ 4096 }
@@ -60,8 +66,11 @@ fn push_row(out: &mut Vec<u8>, bitmap: &Bitmap, y: u16, digits: &mut [u8])
 pub fn push_rows(out: &mut Vec<u8>, bitmap: &Bitmap, from: u16, to: u16)
     requires order { from ≤ to }
     requires inside { to ≤ bitmap.now.height }
-    requires room { vec_len out.old + (to - from) * row_length bitmap.now.width ≤ vec_capacity out.old }
-    ensures text { out.new.items ≡ out.old.items ++ flat_map (plain_digit bitmap.now) (range_with_len (from * bitmap.now.width) ((to - from) * bitmap.now.width)) }
+    requires room { vec_len out.old + (to - from) * row_length bitmap.now.width
+        ≤ vec_capacity out.old }
+    ensures text { out.new.items ≡ out.old.items
+        ++ flat_map (plain_digit bitmap.now)
+        (range_with_len (from * bitmap.now.width) ((to - from) * bitmap.now.width)) }
     ensures length { vec_len out.new ≡ vec_len out.old + (to - from) * row_length bitmap.now.width }
     ensures room { vec_capacity out.old ≤ vec_capacity out.new }
 {

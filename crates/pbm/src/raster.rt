@@ -14,8 +14,11 @@ use metric::PbmFault;
 /// them. On a fault, the words before it have been read.
 fn read_pixels<'a>(bitmap: &mut Bitmap, bytes: &'a [u8]) -> Result<&'a [u8], PbmFault>
     requires { bitmap.old ≡ cells_where bitmap.old.width bitmap.old.height (λ x y. false) }
-    ensures raster { IfOk result (λ rest. (all : List Bool) × (pixels (bitmap.old.width * bitmap.old.height) bytes.now ≡ Ok (all, rest.now)) × (bitmap.new ≡ cells_of_pixels bitmap.old.width bitmap.old.height all)) }
-    ensures fault { IfErr result (λ fault. pixels (bitmap.old.width * bitmap.old.height) bytes.now ≡ Err fault) }
+    ensures raster { IfOk result (λ rest. (all : List Bool)
+        × (pixels (bitmap.old.width * bitmap.old.height) bytes.now ≡ Ok (all, rest.now))
+        × (bitmap.new ≡ cells_of_pixels bitmap.old.width bitmap.old.height all)) }
+    ensures fault { IfErr result (λ fault. pixels (bitmap.old.width * bitmap.old.height) bytes.now
+        ≡ Err fault) }
 {
     let width = bitmap.width();
     let height = bitmap.height();
@@ -33,7 +36,8 @@ fn read_pixels<'a>(bitmap: &mut Bitmap, bytes: &'a [u8]) -> Result<&'a [u8], Pbm
 
 /// The bytes after a plain image, if they may follow it.
 pub fn after_image(bytes: &[u8]) -> Result<&[u8], PbmFault>
-    ensures { MatchResult result (λ rest. ended bytes.now ≡ Ok rest.now) (λ fault. ended bytes.now ≡ Err fault) }
+    ensures { MatchResult result (λ rest. ended bytes.now ≡ Ok rest.now)
+        (λ fault. ended bytes.now ≡ Err fault) }
 {
     match bytes.first() {
         Some(byte) if !is_whitespace(*byte) => Err(PbmFault::JunkNotSpaced),
@@ -46,8 +50,10 @@ pub fn after_image(bytes: &[u8]) -> Result<&[u8], PbmFault>
 #[tactic(auto, unfolding(crate::specs::Faults::plain_raster))]
 pub fn read_plain<'a>(bitmap: &mut Bitmap, bytes: &'a [u8]) -> Result<&'a [u8], PbmFault>
     requires { bitmap.old ≡ cells_where bitmap.old.width bitmap.old.height (λ x y. false) }
-    ensures raster { IfOk result (λ rest. plain_raster bitmap.old.width bitmap.old.height bytes.now ≡ Ok (bitmap.new, rest.now)) }
-    ensures fault { IfErr result (λ fault. plain_raster bitmap.old.width bitmap.old.height bytes.now ≡ Err fault) }
+    ensures raster { IfOk result (λ rest. plain_raster bitmap.old.width bitmap.old.height bytes.now
+        ≡ Ok (bitmap.new, rest.now)) }
+    ensures fault { IfErr result (λ fault. plain_raster bitmap.old.width bitmap.old.height bytes.now
+        ≡ Err fault) }
 {
     let rest = read_pixels(bitmap, bytes)?;
     after_image(rest)

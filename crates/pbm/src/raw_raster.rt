@@ -1,6 +1,7 @@
 //! The raster of a raw image: one bit per pixel, rows from the top, each in whole bytes.
 
-ghost use Rattle.std.specs.Prelude.{◌≡◌, ℕ, ◌+◌, ◌*◌, ◌-◌, ◌/◌, ◌%◌, ◌<◌, ◌≤◌, false, length, slice_index, Ok, Err, IfOk, IfErr};
+ghost use Rattle.std.specs.Prelude.{◌≡◌, ℕ, ◌+◌, ◌*◌, ◌-◌, ◌/◌, ◌%◌, ◌<◌, ◌≤◌, false, length};
+ghost use Rattle.std.specs.Prelude.{slice_index, Ok, Err, IfOk, IfErr};
 ghost use Rattle.std.specs.Int.{bit_at};
 ghost use Rattle.bits.specs.Cells.{cells_where};
 ghost use Rattle.pbm.specs.Faults.{raw_cells, raw_raster};
@@ -46,7 +47,8 @@ fn word_of(bytes: [u8; 8]) -> u64
 #[inline(always)]
 fn whole_word(raster: &[u8], start: usize) -> u64
     requires { start + 8 ≤ length raster.now }
-    ensures { (i : ℕ) → i < 64 → bit_at result i ≡ bit_at (slice_index raster.now (start + i / 8)) (7 - i % 8) }
+    ensures { (i : ℕ) → i < 64
+        → bit_at result i ≡ bit_at (slice_index raster.now (start + i / 8)) (7 - i % 8) }
 {
     word_of([
         raster[start],
@@ -65,7 +67,8 @@ fn last_word(raster: &[u8], start: usize, end: usize) -> u64
     requires order { start ≤ end }
     requires few { end < start + 8 }
     requires within { end ≤ length raster.now }
-    ensures { (i : ℕ) → i < 64 → start + i / 8 < end → bit_at result i ≡ bit_at (slice_index raster.now (start + i / 8)) (7 - i % 8) }
+    ensures { (i : ℕ) → i < 64 → start + i / 8 < end
+        → bit_at result i ≡ bit_at (slice_index raster.now (start + i / 8)) (7 - i % 8) }
 {
     let mut bytes = [0u8; 8];
     'bytes: for place in 0..end - start {
@@ -79,7 +82,8 @@ fn last_word(raster: &[u8], start: usize, end: usize) -> u64
 fn word_at(raster: &[u8], start: usize, end: usize) -> u64
     requires order { start ≤ end }
     requires within { end ≤ length raster.now }
-    ensures { (i : ℕ) → i < 64 → start + i / 8 < end → bit_at result i ≡ bit_at (slice_index raster.now (start + i / 8)) (7 - i % 8) }
+    ensures { (i : ℕ) → i < 64 → start + i / 8 < end
+        → bit_at result i ≡ bit_at (slice_index raster.now (start + i / 8)) (7 - i % 8) }
 {
     if end - start >= 8 {
         whole_word(raster, start)
@@ -93,7 +97,9 @@ fn word_at(raster: &[u8], start: usize, end: usize) -> u64
 fn read_row(raster: &[u8], start: usize, across: usize, words: &mut [u64; 64])
     requires few { across ≤ 512 }
     requires within { start + across ≤ length raster.now }
-    ensures { (k : ℕ) → k < 64 → (i : ℕ) → i < 64 → 8 * k + i / 8 < across → bit_at (slice_index words.new k) i ≡ bit_at (slice_index raster.now (start + 8 * k + i / 8)) (7 - i % 8) }
+    ensures { (k : ℕ) → k < 64 → (i : ℕ) → i < 64 → 8 * k + i / 8 < across
+        → bit_at (slice_index words.new k) i ≡ bit_at
+        (slice_index raster.now (start + 8 * k + i / 8)) (7 - i % 8) }
 {
     let end = start + across;
     'words: for index in 0..across.div_ceil(8) {
@@ -123,8 +129,10 @@ fn read_words(bitmap: &mut Bitmap, raster: &[u8])
 #[tactic(auto, unfolding(crate::specs::Faults::raw_raster))]
 pub fn read_raw<'a>(bitmap: &mut Bitmap, bytes: &'a [u8]) -> Result<&'a [u8], PbmFault>
     requires { bitmap.old ≡ cells_where bitmap.old.width bitmap.old.height (λ x y. false) }
-    ensures raster { IfOk result (λ rest. raw_raster bitmap.old.width bitmap.old.height bytes.now ≡ Ok (bitmap.new, rest.now)) }
-    ensures fault { IfErr result (λ fault. raw_raster bitmap.old.width bitmap.old.height bytes.now ≡ Err fault) }
+    ensures raster { IfOk result (λ rest. raw_raster bitmap.old.width bitmap.old.height bytes.now
+        ≡ Ok (bitmap.new, rest.now)) }
+    ensures fault { IfErr result (λ fault. raw_raster bitmap.old.width bitmap.old.height bytes.now
+        ≡ Err fault) }
     ensures as_before { IfErr result (λ fault. bitmap.new ≡ bitmap.old) }
 {
     let needed = usize::from(bitmap.height()) * usize::from(bytes_across(bitmap.width()));

@@ -21,7 +21,8 @@ fn byte_of(eight: u64) -> u8
 fn put_word(word: u64, first: usize, row: &mut [u8])
     requires { first + 8 ≤ length row.old }
     ensures len { length row.new ≡ length row.old }
-    ensures bits { (k : ℕ) → k < 8 → (i : ℕ) → i < 8 → bit_at (slice_index row.new (first + k)) i ≡ bit_at word (8 * k + (7 - i)) }
+    ensures bits { (k : ℕ) → k < 8 → (i : ℕ) → i < 8
+        → bit_at (slice_index row.new (first + k)) i ≡ bit_at word (8 * k + (7 - i)) }
     ensures others { (x : ℕ) → x < first → slice_index row.new x ≡ slice_index row.old x }
 {
     let bytes = [
@@ -41,7 +42,9 @@ fn put_word(word: u64, first: usize, row: &mut [u8])
 pub fn put_row(words: &[u64], row: &mut [u8])
     requires { 8 * length words.now ≤ length row.old }
     ensures len { length row.new ≡ length row.old }
-    ensures bits { (k : ℕ) → k < 8 * length words.now → (i : ℕ) → i < 8 → bit_at (slice_index row.new k) i ≡ bit_at (slice_index words.now (k / 8)) (8 * (k % 8) + (7 - i)) }
+    ensures bits { (k : ℕ) → k < 8 * length words.now → (i : ℕ) → i < 8
+        → bit_at (slice_index row.new k) i ≡ bit_at (slice_index words.now (k / 8))
+        (8 * (k % 8) + (7 - i)) }
 {
     'words: for index in 0..words.len() {
         put_word(words[index], 8 * index, row);

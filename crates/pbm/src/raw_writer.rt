@@ -1,6 +1,7 @@
 //! Writing an image in the raw form.
 
-ghost use Rattle.std.specs.Prelude.{◌≡◌, ◌+◌, ◌*◌, ◌<◌, ◌≤◌, ◌++◌, map, length, vec_len, vec_capacity, OnOk, OnErr, IfErr};
+ghost use Rattle.std.specs.Prelude.{◌≡◌, ◌+◌, ◌*◌, ◌<◌, ◌≤◌, ◌++◌, map, length, vec_len};
+ghost use Rattle.std.specs.Prelude.{vec_capacity, OnOk, OnErr, IfErr};
 ghost use Rattle.std.specs.List.{range_with_len};
 ghost use Rattle.metric.specs.declared.refusal.Refusal.TheVariants.{Memory};
 ghost use Rattle.pbm.specs.Image.{bytes_across};
@@ -18,7 +19,9 @@ fn push_row(out: &mut Vec<u8>, bitmap: &Bitmap, y: u16, row: &mut [u8])
     requires inside { y < bitmap.now.height }
     requires room { vec_len out.old + bytes_across bitmap.now.width ≤ vec_capacity out.old }
     requires row { length row.old ≡ 512 }
-    ensures text { out.new.items ≡ out.old.items ++ map (raw_byte bitmap.now) (range_with_len (y * bytes_across bitmap.now.width) (bytes_across bitmap.now.width)) }
+    ensures text { out.new.items ≡ out.old.items
+        ++ map (raw_byte bitmap.now)
+        (range_with_len (y * bytes_across bitmap.now.width) (bytes_across bitmap.now.width)) }
     ensures length { vec_len out.new ≡ vec_len out.old + bytes_across bitmap.now.width }
     ensures room { vec_capacity out.old ≤ vec_capacity out.new }
     ensures row { length row.new ≡ 512 }

@@ -4,8 +4,10 @@
 ghost use Rattle.std.specs.Prelude.{◌≡◌, ◌*◌, List, [], Bool, ℕ, false, Ok, Err, IfOk, IfErr, OnOk};
 ghost use Rattle.metric.specs.Stream.{AreAll, CanFail};
 ghost use Rattle.bits.specs.Cells.{cells_where};
-ghost use Rattle.pbm.specs.Faults.{cells_of_pixels, ended, image, pixels, plain_raster, raster, raw_raster};
-ghost use Rattle.pbm.specs.Windows.{CountsReads, Follows, HasFault, HasImage, IsFaultOf, IsOpen, IsPassed, IsStopped, Meets, unread};
+ghost use Rattle.pbm.specs.Faults.{cells_of_pixels, ended, image, pixels, plain_raster, raster};
+ghost use Rattle.pbm.specs.Faults.{raw_raster};
+ghost use Rattle.pbm.specs.Windows.{CountsReads, Follows, HasFault, HasImage, IsFaultOf, IsOpen};
+ghost use Rattle.pbm.specs.Windows.{IsPassed, IsStopped, Meets, unread};
 
 use crate::header::Form;
 use crate::raster::after_image;
@@ -25,9 +27,14 @@ fn take_pixels<R: Source>(
     requires open { IsOpen window.old (R.rest reader.old) }
     requires blank { bitmap.old ≡ cells_where bitmap.old.width bitmap.old.height (λ x y. false) }
     ensures open { IsOpen window.new (R.rest reader.new) }
-    ensures pixels { OnOk result (Follows (R.rest reader.old) (unread window.old) (R.rest reader.new) (unread window.new) (λ all left.
-        (black : List Bool) × (pixels (bitmap.old.width * bitmap.old.height) all ≡ Ok (black, left)) × (bitmap.new ≡ cells_of_pixels bitmap.old.width bitmap.old.height black))) }
-    ensures fault { IfErr result (λ stop. IsFaultOf stop (λ fault. Meets (R.rest reader.old) (unread window.old) (λ all. pixels (bitmap.old.width * bitmap.old.height) all ≡ Err fault))) }
+    ensures pixels { OnOk result
+        (Follows (R.rest reader.old) (unread window.old) (R.rest reader.new) (unread window.new)
+        (λ all left.
+        (black : List Bool) × (pixels (bitmap.old.width * bitmap.old.height) all ≡ Ok (black, left))
+        × (bitmap.new ≡ cells_of_pixels bitmap.old.width bitmap.old.height black))) }
+    ensures fault { IfErr result
+        (λ stop. IsFaultOf stop (λ fault. Meets (R.rest reader.old) (unread window.old)
+        (λ all. pixels (bitmap.old.width * bitmap.old.height) all ≡ Err fault))) }
     ensures counts { CountsReads (R.failed_reads reader.old) result (R.failed_reads reader.new) }
 {
     let width = bitmap.width();
@@ -49,8 +56,11 @@ fn see_end<R: Source>(window: &mut Window, reader: &mut R) -> Result<(), ImageSt
     requires can_fail { CanFail (R.failed_reads reader.old) }
     requires open { IsOpen window.old (R.rest reader.old) }
     ensures open { IsOpen window.new (R.rest reader.new) }
-    ensures ended { OnOk result (Meets (R.rest reader.old) (unread window.old) (λ all. ended all ≡ Ok all)) }
-    ensures fault { IfErr result (λ stop. IsFaultOf stop (λ fault. Meets (R.rest reader.old) (unread window.old) (λ all. ended all ≡ Err fault))) }
+    ensures ended { OnOk result
+        (Meets (R.rest reader.old) (unread window.old) (λ all. ended all ≡ Ok all)) }
+    ensures fault { IfErr result
+        (λ stop. IsFaultOf stop (λ fault. Meets (R.rest reader.old) (unread window.old)
+        (λ all. ended all ≡ Err fault))) }
     ensures counts { CountsReads (R.failed_reads reader.old) result (R.failed_reads reader.new) }
 {
     if let Err(stop) = window.fill(reader, 0) {
@@ -72,8 +82,13 @@ fn take_plain<R: Source>(
     requires open { IsOpen window.old (R.rest reader.old) }
     requires blank { bitmap.old ≡ cells_where bitmap.old.width bitmap.old.height (λ x y. false) }
     ensures open { IsOpen window.new (R.rest reader.new) }
-    ensures raster { OnOk result (Meets (R.rest reader.old) (unread window.old) (λ all. (left : List ℕ) × (plain_raster bitmap.old.width bitmap.old.height all ≡ Ok (bitmap.new, left)))) }
-    ensures fault { IfErr result (λ stop. IsFaultOf stop (λ fault. Meets (R.rest reader.old) (unread window.old) (λ all. plain_raster bitmap.old.width bitmap.old.height all ≡ Err fault))) }
+    ensures raster { OnOk result
+        (Meets (R.rest reader.old) (unread window.old)
+        (λ all. (left : List ℕ)
+        × (plain_raster bitmap.old.width bitmap.old.height all ≡ Ok (bitmap.new, left)))) }
+    ensures fault { IfErr result
+        (λ stop. IsFaultOf stop (λ fault. Meets (R.rest reader.old) (unread window.old)
+        (λ all. plain_raster bitmap.old.width bitmap.old.height all ≡ Err fault))) }
     ensures counts { CountsReads (R.failed_reads reader.old) result (R.failed_reads reader.new) }
 {
     if let Err(stop) = take_pixels(window, reader, bitmap) {
@@ -95,8 +110,13 @@ fn take_raw<R: Source>(
     requires open { IsOpen window.old (R.rest reader.old) }
     requires blank { bitmap.old ≡ cells_where bitmap.old.width bitmap.old.height (λ x y. false) }
     ensures open { IsOpen window.new (R.rest reader.new) }
-    ensures raster { OnOk result (Meets (R.rest reader.old) (unread window.old) (λ all. (left : List ℕ) × (raw_raster bitmap.old.width bitmap.old.height all ≡ Ok (bitmap.new, left)))) }
-    ensures fault { IfErr result (λ stop. IsFaultOf stop (λ fault. Meets (R.rest reader.old) (unread window.old) (λ all. raw_raster bitmap.old.width bitmap.old.height all ≡ Err fault))) }
+    ensures raster { OnOk result
+        (Meets (R.rest reader.old) (unread window.old)
+        (λ all. (left : List ℕ)
+        × (raw_raster bitmap.old.width bitmap.old.height all ≡ Ok (bitmap.new, left)))) }
+    ensures fault { IfErr result
+        (λ stop. IsFaultOf stop (λ fault. Meets (R.rest reader.old) (unread window.old)
+        (λ all. raw_raster bitmap.old.width bitmap.old.height all ≡ Err fault))) }
     ensures counts { CountsReads (R.failed_reads reader.old) result (R.failed_reads reader.new) }
 {
     if let Err(stop) = window.fill_whole(reader) {
@@ -119,8 +139,13 @@ fn take_raster<R: Source>(
     requires open { IsOpen window.old (R.rest reader.old) }
     requires blank { bitmap.old ≡ cells_where bitmap.old.width bitmap.old.height (λ x y. false) }
     ensures open { IsOpen window.new (R.rest reader.new) }
-    ensures raster { OnOk result (Meets (R.rest reader.old) (unread window.old) (λ all. (left : List ℕ) × (raster form bitmap.old.width bitmap.old.height all ≡ Ok (bitmap.new, left)))) }
-    ensures fault { IfErr result (λ stop. IsFaultOf stop (λ fault. Meets (R.rest reader.old) (unread window.old) (λ all. raster form bitmap.old.width bitmap.old.height all ≡ Err fault))) }
+    ensures raster { OnOk result
+        (Meets (R.rest reader.old) (unread window.old)
+        (λ all. (left : List ℕ)
+        × (raster form bitmap.old.width bitmap.old.height all ≡ Ok (bitmap.new, left)))) }
+    ensures fault { IfErr result
+        (λ stop. IsFaultOf stop (λ fault. Meets (R.rest reader.old) (unread window.old)
+        (λ all. raster form bitmap.old.width bitmap.old.height all ≡ Err fault))) }
     ensures counts { CountsReads (R.failed_reads reader.old) result (R.failed_reads reader.new) }
 {
     match form {
@@ -138,8 +163,12 @@ fn take_image<R: Source>(
     requires can_fail { CanFail (R.failed_reads reader.old) }
     requires open { IsOpen window.old (R.rest reader.old) }
     ensures open { IsOpen window.new (R.rest reader.new) }
-    ensures image { IfOk result (λ cells. Meets (R.rest reader.old) (unread window.old) (λ all. (left : List ℕ) × (image all ≡ Ok (cells, left)))) }
-    ensures fault { IfErr result (λ stop. IsFaultOf stop (λ fault. Meets (R.rest reader.old) (unread window.old) (λ all. IsStopped all fault))) }
+    ensures image { IfOk result
+        (λ cells. Meets (R.rest reader.old) (unread window.old)
+        (λ all. (left : List ℕ) × (image all ≡ Ok (cells, left)))) }
+    ensures fault { IfErr result
+        (λ stop. IsFaultOf stop (λ fault. Meets (R.rest reader.old) (unread window.old)
+        (λ all. IsStopped all fault))) }
     ensures counts { CountsReads (R.failed_reads reader.old) result (R.failed_reads reader.new) }
 {
     let (form, width, height) = match window.next_header(reader) {

@@ -13,7 +13,9 @@ use metric::{PbmFault, Source};
 
 /// The form and the sides at the front of the bytes, and the number of bytes before the raster.
 fn header_in(bytes: &[u8]) -> Result<(Form, u16, u16, usize), PbmFault>
-    ensures found { IfOk result (λ found. Stands found.3 bytes.now (λ all left. header all ≡ Ok (found.0, found.1, found.2, left))) }
+    ensures found { IfOk result
+        (λ found. Stands found.3 bytes.now
+        (λ all left. header all ≡ Ok (found.0, found.1, found.2, left))) }
     ensures fault { IfErr result (λ fault. header bytes.now ≡ Err fault) }
 {
     match read_header(bytes) {
@@ -25,7 +27,8 @@ fn header_in(bytes: &[u8]) -> Result<(Form, u16, u16, usize), PbmFault>
 /// The next pixels, up to 64, as a word, and the number of bytes they take.
 fn word_in(bytes: &[u8], count: u16) -> Result<(u64, usize), PbmFault>
     requires { count ≤ 64 }
-    ensures found { IfOk result (λ found. Stands found.1 bytes.now (λ all left. AreBitsRead count all found.0 left)) }
+    ensures found { IfOk result
+        (λ found. Stands found.1 bytes.now (λ all left. AreBitsRead count all found.0 left)) }
     ensures fault { IfErr result (λ fault. pixels count bytes.now ≡ Err fault) }
 {
     match read_word(bytes, count) {
@@ -40,9 +43,14 @@ impl Window {
         requires can_fail { CanFail (R.failed_reads reader.old) }
         requires open { IsOpen self.old (R.rest reader.old) }
         ensures open { IsOpen self.new (R.rest reader.new) }
-        ensures header { IfOk result (λ found. Follows (R.rest reader.old) (unread self.old) (R.rest reader.new) (unread self.new) (λ all left. header all ≡ Ok (found.0, found.1, found.2, left))) }
-        ensures fault { IfErr result (λ stop. IsFaultOf stop (λ fault. Meets (R.rest reader.old) (unread self.old) (λ all. header all ≡ Err fault))) }
-        ensures counts { CountsReads (R.failed_reads reader.old) result (R.failed_reads reader.new) }
+        ensures header { IfOk result
+            (λ found. Follows (R.rest reader.old) (unread self.old) (R.rest reader.new)
+            (unread self.new) (λ all left. header all ≡ Ok (found.0, found.1, found.2, left))) }
+        ensures fault { IfErr result
+            (λ stop. IsFaultOf stop (λ fault. Meets (R.rest reader.old) (unread self.old)
+            (λ all. header all ≡ Err fault))) }
+        ensures counts { CountsReads (R.failed_reads reader.old) result
+            (R.failed_reads reader.new) }
     {
         'turns: loop {
             match header_in(self.unread()) {
@@ -66,9 +74,14 @@ impl Window {
         requires open { IsOpen self.old (R.rest reader.old) }
         requires few { count ≤ 64 }
         ensures open { IsOpen self.new (R.rest reader.new) }
-        ensures word { IfOk result (λ word. Follows (R.rest reader.old) (unread self.old) (R.rest reader.new) (unread self.new) (λ all left. AreBitsRead count all word left)) }
-        ensures fault { IfErr result (λ stop. IsFaultOf stop (λ fault. Meets (R.rest reader.old) (unread self.old) (λ all. pixels count all ≡ Err fault))) }
-        ensures counts { CountsReads (R.failed_reads reader.old) result (R.failed_reads reader.new) }
+        ensures word { IfOk result
+            (λ word. Follows (R.rest reader.old) (unread self.old) (R.rest reader.new)
+            (unread self.new) (λ all left. AreBitsRead count all word left)) }
+        ensures fault { IfErr result
+            (λ stop. IsFaultOf stop (λ fault. Meets (R.rest reader.old) (unread self.old)
+            (λ all. pixels count all ≡ Err fault))) }
+        ensures counts { CountsReads (R.failed_reads reader.old) result
+            (R.failed_reads reader.new) }
     {
         'turns: loop {
             match word_in(self.unread(), count) {

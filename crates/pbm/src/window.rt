@@ -1,6 +1,7 @@
 //! A window on the bytes of a source, refilled as its bytes are taken.
 
-ghost use Rattle.std.specs.Prelude.{◌≡◌, ℕ, ◌+◌, ◌*◌, ◌<◌, ◌≤◌, ◌++◌, List, [], Option, false, drop, length, vec_len, IfErr, OnOk};
+ghost use Rattle.std.specs.Prelude.{◌≡◌, ℕ, ◌+◌, ◌*◌, ◌<◌, ◌≤◌, ◌++◌, List, [], Option, false};
+ghost use Rattle.std.specs.Prelude.{drop, length, vec_len, IfErr, OnOk};
 ghost use Rattle.metric.specs.Stream.{CanFail};
 
 use metric::{PbmFault, Source};
@@ -94,10 +95,14 @@ impl Window {
         requires open { IsOpen self.old (R.rest reader.old) }
         requires before { self.old.ended ≡ false }
         ensures open { IsOpen self.new (R.rest reader.new) }
-        ensures reads { OnOk result (Follows (R.rest reader.old) (unread self.old) (R.rest reader.new) (unread self.new) (λ all left. all ≡ left)) }
-        ensures more { OnOk result (self.new.ended ≡ false → length (unread self.old) < length (unread self.new)) }
+        ensures reads { OnOk result
+            (Follows (R.rest reader.old) (unread self.old) (R.rest reader.new) (unread self.new)
+            (λ all left. all ≡ left)) }
+        ensures more { OnOk result (self.new.ended ≡ false
+            → length (unread self.old) < length (unread self.new)) }
         ensures fault { IfErr result (λ stop. IsFaultOf stop (λ met. ⊥)) }
-        ensures counts { CountsReads (R.failed_reads reader.old) result (R.failed_reads reader.new) }
+        ensures counts { CountsReads (R.failed_reads reader.old) result
+            (R.failed_reads reader.new) }
     {
         match reader.next_block(block.as_mut_slice()) {
             Ok(count) => {
@@ -114,10 +119,13 @@ impl Window {
         requires can_fail { CanFail (R.failed_reads reader.old) }
         requires open { IsOpen self.old (R.rest reader.old) }
         ensures open { IsOpen self.new (R.rest reader.new) }
-        ensures reads { OnOk result (Follows (R.rest reader.old) (unread self.old) (R.rest reader.new) (unread self.new) (λ all left. all ≡ left)) }
+        ensures reads { OnOk result
+            (Follows (R.rest reader.old) (unread self.old) (R.rest reader.new) (unread self.new)
+            (λ all left. all ≡ left)) }
         ensures more { OnOk result (self.new.ended ≡ false → wanted < length (unread self.new)) }
         ensures fault { IfErr result (λ stop. IsFaultOf stop (λ met. ⊥)) }
-        ensures counts { CountsReads (R.failed_reads reader.old) result (R.failed_reads reader.new) }
+        ensures counts { CountsReads (R.failed_reads reader.old) result
+            (R.failed_reads reader.new) }
     {
         let mut block = [0; BLOCK];
         'turns: while !self.ended && self.bytes.len() - self.start <= wanted {
@@ -134,10 +142,13 @@ impl Window {
         requires can_fail { CanFail (R.failed_reads reader.old) }
         requires open { IsOpen self.old (R.rest reader.old) }
         ensures open { IsOpen self.new (R.rest reader.new) }
-        ensures reads { OnOk result (Follows (R.rest reader.old) (unread self.old) (R.rest reader.new) (unread self.new) (λ all left. all ≡ left)) }
+        ensures reads { OnOk result
+            (Follows (R.rest reader.old) (unread self.old) (R.rest reader.new) (unread self.new)
+            (λ all left. all ≡ left)) }
         ensures ended { OnOk result (AreAll (R.rest reader.new) []) }
         ensures fault { IfErr result (λ stop. IsFaultOf stop (λ met. ⊥)) }
-        ensures counts { CountsReads (R.failed_reads reader.old) result (R.failed_reads reader.new) }
+        ensures counts { CountsReads (R.failed_reads reader.old) result
+            (R.failed_reads reader.new) }
     {
         self.fill(reader, usize::MAX)
     }
@@ -148,10 +159,14 @@ impl Window {
         requires can_fail { CanFail (R.failed_reads reader.old) }
         requires open { IsOpen self.old (R.rest reader.old) }
         ensures open { IsOpen self.new (R.rest reader.new) }
-        ensures reads { OnOk result (Follows (R.rest reader.old) (unread self.old) (R.rest reader.new) (unread self.new) (λ all left. all ≡ left)) }
-        ensures more { OnOk result (self.new.ended ≡ false → 2 * length (unread self.old) < length (unread self.new)) }
+        ensures reads { OnOk result
+            (Follows (R.rest reader.old) (unread self.old) (R.rest reader.new) (unread self.new)
+            (λ all left. all ≡ left)) }
+        ensures more { OnOk result (self.new.ended ≡ false
+            → 2 * length (unread self.old) < length (unread self.new)) }
         ensures fault { IfErr result (λ stop. IsFaultOf stop (λ met. ⊥)) }
-        ensures counts { CountsReads (R.failed_reads reader.old) result (R.failed_reads reader.new) }
+        ensures counts { CountsReads (R.failed_reads reader.old) result
+            (R.failed_reads reader.new) }
     {
         drop_front(&mut self.bytes, self.start);
         self.start = 0;
@@ -169,11 +184,16 @@ impl Window {
         requires can_fail { CanFail (R.failed_reads reader.old) }
         requires open { IsOpen self.old (R.rest reader.old) }
         ensures open { IsOpen self.new (R.rest reader.new) }
-        ensures reads { OnOk result (Follows (R.rest reader.old) (unread self.old) (R.rest reader.new) (unread self.new) (λ all left. all ≡ left)) }
+        ensures reads { OnOk result
+            (Follows (R.rest reader.old) (unread self.old) (R.rest reader.new) (unread self.new)
+            (λ all left. all ≡ left)) }
         ensures before { OnOk result (self.old.ended ≡ false) }
-        ensures more { OnOk result (self.new.ended ≡ false → length (unread self.old) < length (unread self.new)) }
-        ensures fault { IfErr result (λ stop. IsFaultOf stop (λ met. (met ≡ fault) × AreAll (R.rest reader.old) [])) }
-        ensures counts { CountsReads (R.failed_reads reader.old) result (R.failed_reads reader.new) }
+        ensures more { OnOk result (self.new.ended ≡ false
+            → length (unread self.old) < length (unread self.new)) }
+        ensures fault { IfErr result
+            (λ stop. IsFaultOf stop (λ met. (met ≡ fault) × AreAll (R.rest reader.old) [])) }
+        ensures counts { CountsReads (R.failed_reads reader.old) result
+            (R.failed_reads reader.new) }
     {
         if self.ended {
             return Err(ImageStop::Fault(fault));

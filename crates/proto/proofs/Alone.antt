@@ -7,6 +7,7 @@ use Rattle.proto.specs.Words.{words_left}
 use Rattle.proto.proofs.Splitting.{words-some}
 
 -- where something is left of a line, nothing stands alone in it
-pub alone-left : {A : Type 0} (value : A) (rest : Option (Bor (List ℕ))) → is_some rest ≡ true → None ≡ alone value (words_left rest)
+pub alone-left : {A : Type 0} (value : A) (rest : Option (Bor (List ℕ))) → is_some rest ≡ true
+    → None ≡ alone value (words_left rest)
 alone-left value None left = absurd (cc)
 alone-left value (Some bytes) left = let word = words-some bytes.now in rw word.2 refl

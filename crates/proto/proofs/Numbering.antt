@@ -10,14 +10,17 @@ abbrev before : ℕ → Option (List ℕ) → Option (List ℕ)
 before n others = option_map (λ ns. n ∷ ns) others
 
 -- a number before others that are joined is not the only one
-only-joined : (n : ℕ) (first : Option ℕ) (others : Option (List ℕ)) → only_number (before n (join_number first others)) ≡ None
+only-joined : (n : ℕ) (first : Option ℕ) (others : Option (List ℕ))
+    → only_number (before n (join_number first others)) ≡ None
 only-joined n None others = refl
 only-joined n (Some next) None = refl
 only-joined n (Some next) (Some ns) = refl
 
 -- a number before the words of a line is not the only one
-pub only_number-more : (n : ℕ) (rest : List (List ℕ)) (bytes : List ℕ) → numbers rest ≡ before n (numbers (words bytes)) → None ≡ only_number (numbers rest)
+pub only_number-more : (n : ℕ) (rest : List (List ℕ)) (bytes : List ℕ)
+    → numbers rest ≡ before n (numbers (words bytes)) → None ≡ only_number (numbers rest)
 unfolding numbers
 only_number-more n rest bytes e =
     let some = words-some bytes in
-    sym (ap only_number e ∙ ap (λ (ws : List (List ℕ)). only_number (before n (numbers ws))) some.2 ∙ only-joined n (number some.0) (numbers some.1))
+    sym (ap only_number e ∙ ap (λ (ws : List (List ℕ)). only_number (before n (numbers ws))) some.2
+    ∙ only-joined n (number some.0) (numbers some.1))

@@ -1,5 +1,7 @@
 -- The points of a line are read one after another.
-use Rattle.std.proofs.Common.{◌≡◌, ℕ, zero, suc, ◌+◌, ◌^◌, ◌≤◌, ◌<◌, true, List, [], ◌∷◌, ◌++◌, length, Option, Some, None, refl, sym, ap, ◌∙◌, inl, inr, arith, append_assoc}
+use Rattle.std.proofs.Common.{◌≡◌, ℕ, zero, suc, ◌+◌, ◌^◌, ◌≤◌, ◌<◌, true, List, [], ◌∷◌, ◌++◌}
+use Rattle.std.proofs.Common.{length, Option, Some, None, refl, sym, ap, ◌∙◌, inl, inr, arith}
+use Rattle.std.proofs.Common.{append_assoc}
 use Rattle.std.specs.Prelude.{is_some, option_map, IsSomeAnd}
 use Rattle.std.specs.Borrow.{Bor}
 use Rattle.metric.specs.declared.cell.Cell.{Cell}
@@ -12,40 +14,53 @@ abbrev before : Cell → Option (List Cell) → Option (List Cell)
 before cell others = option_map (λ cells. cell ∷ cells) others
 
 -- a point before others that are joined is not the only one
-only-joined : (cell : Cell) (first : Option Cell) (others : Option (List Cell)) → only (before cell (join_point first others)) ≡ None
+only-joined : (cell : Cell) (first : Option Cell) (others : Option (List Cell))
+    → only (before cell (join_point first others)) ≡ None
 only-joined cell None others = refl
 only-joined cell (Some next) None = refl
 only-joined cell (Some next) (Some cells) = refl
 
 -- a point and another word are more than one point
-only-word : (cell : Cell) (word : List ℕ) (others : List (List ℕ)) → only (before cell (points (word ∷ others))) ≡ None
+only-word : (cell : Cell) (word : List ℕ) (others : List (List ℕ))
+    → only (before cell (points (word ∷ others))) ≡ None
 unfolding points
 only-word cell word [] = refl
 only-word cell word (next ∷ others) = only-joined cell (point word next) (points others)
 
 -- a point before the words of a line is not the only one
-pub only-more : (cell : Cell) (rest : List (List ℕ)) (bytes : List ℕ) → points rest ≡ before cell (points (words bytes)) → None ≡ only (points rest)
+pub only-more : (cell : Cell) (rest : List (List ℕ)) (bytes : List ℕ)
+    → points rest ≡ before cell (points (words bytes)) → None ≡ only (points rest)
 only-more cell rest bytes e =
     let some = words-some bytes in
-    sym (ap only e ∙ ap (λ (ws : List (List ℕ)). only (before cell (points ws))) some.2 ∙ only-word cell some.0 some.1)
+    sym (ap only e ∙ ap (λ (ws : List (List ℕ)). only (before cell (points ws))) some.2
+    ∙ only-word cell some.0 some.1)
 
 -- where what is left of a line doesn't start with a point, it is no list of points
-pub points-none : (rest : Option (Bor (List ℕ))) → is_some rest ≡ true → HasNoFirst (words_left rest) → points (words_left rest) ≡ None
+pub points-none : (rest : Option (Bor (List ℕ))) → is_some rest ≡ true
+    → HasNoFirst (words_left rest) → points (words_left rest) ≡ None
 points-none None some first = absurd cc
 points-none (Some bytes) some (inr none) = none
-points-none (Some bytes) some (inl empty) = absurd (let word = words-some bytes.now in let e = sym empty ∙ word.2 in cc)
+points-none (Some bytes) some (inl empty) =
+    absurd (let word = words-some bytes.now in let e = sym empty ∙ word.2 in cc)
 
 -- adding a point, and then the others, adds the point before the others
-pub added-more : (cells : List Cell) (cell : Cell) (others : Option (List Cell)) → option_map (λ more. cells ++ more) (before cell others) ≡ option_map (λ more. (cells ++ cell ∷ []) ++ more) others
+pub added-more : (cells : List Cell) (cell : Cell) (others : Option (List Cell))
+    → option_map (λ more. cells ++ more) (before cell others)
+    ≡ option_map (λ more. (cells ++ cell ∷ []) ++ more) others
 added-more cells cell None = refl
-added-more cells cell (Some more) = ap (λ (all : List Cell). Some all) (sym (append_assoc cells (cell ∷ []) more))
+added-more cells cell (Some more) =
+    ap (λ (all : List Cell). Some all) (sym (append_assoc cells (cell ∷ []) more))
 
 -- where there is room for a point and others, there is room for the point, and then for the others
-pub room-more : (len capacity : ℕ) (cell : Cell) (others : Option (List Cell)) → IsSomeAnd (before cell others) (λ cells. len + length cells ≤ capacity) → (len < capacity) × IsSomeAnd others (λ cells. (len + 1) + length cells ≤ capacity)
+pub room-more : (len capacity : ℕ) (cell : Cell) (others : Option (List Cell))
+    → IsSomeAnd (before cell others) (λ cells. len + length cells ≤ capacity) → (len < capacity)
+    × IsSomeAnd others (λ cells. (len + 1) + length cells ≤ capacity)
 room-more len capacity cell None few = absurd few
 room-more len capacity cell (Some cells) few = (omega arith, omega arith)
 
 -- the points counted, and one more, are fewer than the bytes of a line can be
-pub few-more : (count left more : ℕ) → (0 < count → count + left ≤ 2 ^ 64) → more + 2 ≤ left → left ≤ 2 ^ 64 → count + 1 < 2 ^ 64
+pub few-more : (count left more : ℕ) → (0 < count → count + left ≤ 2 ^ 64) → more + 2 ≤ left
+    → left ≤ 2 ^ 64 → count + 1 < 2 ^ 64
 few-more zero left more few fewer small = omega arith
-few-more (suc count) left more few fewer small = let some : 0 < suc count = omega arith in omega (arith, few some)
+few-more (suc count) left more few fewer small = let some : 0 < suc count = omega arith in
+    omega (arith, few some)

@@ -1,5 +1,7 @@
 -- What a query asks: this project's own rule.
-use Rattle.std.specs.Prelude.{ℕ, ◌==◌, ◌||◌, nat_lt, List, [], ◌∷◌, length, Option, Some, None, Result, Ok, Err, bytes_eq, codes, option_and_then, option_map, if◌then◌else◌}
+use Rattle.std.specs.Prelude.{ℕ, ◌==◌, ◌||◌, nat_lt, List, [], ◌∷◌, length, Option, Some, None}
+use Rattle.std.specs.Prelude.{Result, Ok, Err, bytes_eq, codes, option_and_then, option_map}
+use Rattle.std.specs.Prelude.{if◌then◌else◌}
 use Rattle.metric.specs.Kind.{metric_named}
 use Rattle.metric.specs.declared.cell.Cell.{Cell}
 use Rattle.metric.specs.declared.kind.MetricKind.{MetricKind}
@@ -54,7 +56,8 @@ rect_of metric corners = option_map (λ c. rect metric c.x0 c.y0 c.x1 c.y1) (cor
 -- a path has 1 to 1000 points
 abbrev pub path_of : Option (List Cell) → Result (List Cell) Refusal
 path_of None = Err BadArguments
-path_of (Some points) = if length points == 0 || nat_lt 1000 (length points) then Err BadPath else Ok points
+path_of (Some points) =
+    if length points == 0 || nat_lt 1000 (length points) then Err BadPath else Ok points
 
 -- what a query with valid points asks
 abbrev pub about : (List Cell → QueryView) → Result (List Cell) Refusal → Result QueryView Refusal
@@ -62,19 +65,26 @@ about ask (Ok points) = Ok (ask points)
 about ask (Err refusal) = Err refusal
 
 -- what the first word says, with the words left after it
-abbrev pub first_of : {A : Type 0} → (List ℕ → Option A) → List (List ℕ) → Option (A × List (List ℕ))
+abbrev pub first_of : {A : Type 0} → (List ℕ → Option A) → List (List ℕ)
+    → Option (A × List (List ℕ))
 first_of told [] = None
 first_of told (word ∷ others) = option_map (λ value. (value, others)) (told word)
 
 -- what the words after the metric ask of a query
 abbrev pub query_asked : QueryKind → MetricKind → List (List ℕ) → Result QueryView Refusal
-query_asked kinds.At metric words = or_bad (option_map (λ cell. at metric cell) (only (points words)))
-query_asked kinds.Rect metric words = or_bad (option_and_then (λ corners. rect_of metric corners) (pair (points words)))
+query_asked kinds.At metric words =
+    or_bad (option_map (λ cell. at metric cell) (only (points words)))
+query_asked kinds.Rect metric words =
+    or_bad (option_and_then (λ corners. rect_of metric corners) (pair (points words)))
 query_asked kinds.Path metric words = about (path metric) (path_of (points words))
 query_asked kinds.ClearOf metric words =
-    elim (first_of number words) as (λ _. Result QueryView Refusal) [ None ↦ Err BadArguments | Some distance ↦ about (clear_of metric distance.0) (path_of (points distance.1)) ]
+    elim (first_of number words) as (λ _. Result QueryView Refusal) [
+      | None ↦ Err BadArguments
+      | Some distance ↦ about (clear_of metric distance.0) (path_of (points distance.1))
+    ]
 
 -- the arguments of a query start with a metric
 abbrev pub arguments_asked : QueryKind → List (List ℕ) → Result QueryView Refusal
 arguments_asked kind words =
-    elim (first_of metric_named words) as (λ _. Result QueryView Refusal) [ None ↦ Err BadArguments | Some metric ↦ query_asked kind metric.0 metric.1 ]
+    elim (first_of metric_named words) as (λ _. Result QueryView Refusal)
+    [ None ↦ Err BadArguments | Some metric ↦ query_asked kind metric.0 metric.1 ]

@@ -1,5 +1,6 @@
 -- What a caller does with its session and its pin: this project's own rule.
-use Rattle.std.specs.Prelude.{◌≡◌, ℕ, true, ◌+◌, ◌⊎◌, List, [], ◌∷◌, ◌++◌, Option, Some, None, Result, Ok, Err}
+use Rattle.std.specs.Prelude.{◌≡◌, ℕ, true, ◌+◌, ◌⊎◌, List, [], ◌∷◌, ◌++◌, Option, Some, None}
+use Rattle.std.specs.Prelude.{Result, Ok, Err}
 use mathlib.Core.List.{IsPrefix}
 use Rattle.bits.specs.Cells.{Cells}
 use Rattle.metric.specs.declared.refusal.Refusal.{Refusal}
@@ -27,7 +28,11 @@ free seat = record { seat = seat; pin = None }
 
 -- the bitmap of a caller's pinned version, by what it has seen; meaningless without a pin
 abbrev pub bitmap_held : StoreId → CallerValue → Cells
-bitmap_held store c = elim c.pin as (λ _. Cells) [ None ↦ no_bitmap | Some version ↦ bitmap_of (story_told store c.seat.seen) version ]
+bitmap_held store c =
+    elim c.pin as (λ _. Cells) [
+      | None ↦ no_bitmap
+      | Some version ↦ bitmap_of (story_told store c.seat.seen) version
+    ]
 
 -- a caller has seen a legal log, which extends what it had seen; nothing else of it has changed
 pub record HasSeenMore (store : StoreId) (old new : ReaderView) : Type 0 where
@@ -36,17 +41,25 @@ pub record HasSeenMore (store : StoreId) (old new : ReaderView) : Type 0 where
   pub seat_is : new ≡ record old { seen = new.seen }
 
 -- a command is accepted: the caller has seen a legal log, extending its own, with its entry last
-pub record IsCommandDone (store : StoreId) (old : ReaderView) (c : Command) (reply : Reply) (new : ReaderView) : Type 0 where
+pub record IsCommandDone (store : StoreId) (old : ReaderView) (c : Command) (reply : Reply)
+    (new : ReaderView) : Type 0 where
   pub before : List StoreEntry
   pub began : IsPrefix old.seen before
   pub answer : IsAnswer store.base.setting (story_told store before) c reply
   pub legal : IsLegal store.base.setting store.base.opening (entries new.seen)
-  pub seat_is : new ≡ record old { seen = before ++ record { by = old.number; entry = record { command = c; reply = reply } } ∷ []; made = old.made + 1 }
+  pub seat_is : new ≡ record old {
+    seen = before
+        ++ record { by = old.number; entry = record { command = c; reply = reply } } ∷ [];
+    made = old.made + 1;
+  }
 
 -- a command is refused: by a legal log that the caller has seen, or else for no memory
-pub record IsNotDone (store : StoreId) (old : ReaderView) (c : Command) (refusal : Refusal) (new : ReaderView) : Type 0 where
+pub record IsNotDone (store : StoreId) (old : ReaderView) (c : Command) (refusal : Refusal)
+    (new : ReaderView) : Type 0 where
   pub seen : HasSeenMore store old new
-  pub why : (refused store.base.setting (story_told store new.seen) c ≡ Some refusal) ⊎ ((refused store.base.setting (story_told store new.seen) c ≡ None) × (refusal ≡ Memory) × (takes_room c ≡ true))
+  pub why : (refused store.base.setting (story_told store new.seen) c ≡ Some refusal)
+      ⊎ ((refused store.base.setting (story_told store new.seen) c ≡ None) × (refusal ≡ Memory)
+      × (takes_room c ≡ true))
 
 -- the answer that reports whether a command was accepted
 abbrev pub told_as : Result Reply Refusal → Answer
@@ -60,31 +73,43 @@ IsCommandAnswer store c old (answers.Refused refusal) new = IsNotDone store old 
 IsCommandAnswer store c old answer new = ⊥
 
 -- a command is answered; the pin stays
-pub record IsCommanded (store : StoreId) (c : Command) (old : CallerValue) (answer : Answer) (new : CallerValue) : Type 0 where
+pub record IsCommanded (store : StoreId) (c : Command) (old : CallerValue) (answer : Answer)
+    (new : CallerValue) : Type 0 where
   pub answered : IsCommandAnswer store c old.seat answer new.seat
   pub pin : new.pin ≡ old.pin
 
 -- a caller pins the newest version of what it has then seen
-pub record HasPinned (store : StoreId) (old : CallerValue) (answer : Answer) (new : CallerValue) : Type 0 where
+pub record HasPinned (store : StoreId) (old : CallerValue) (answer : Answer) (new : CallerValue) :
+    Type 0 where
   pub seen : HasSeenMore store old.seat new.seat
   pub pin : new.pin ≡ Some (newest (story_told store new.seat.seen))
   pub answer_is : answer ≡ answers.Version (newest (story_told store new.seat.seen))
 
 -- a caller is refused, and is as before
-pub record IsRefusedAs (refusal : Refusal) (old : CallerValue) (answer : Answer) (new : CallerValue) : Type 0 where
+pub record IsRefusedAs (refusal : Refusal) (old : CallerValue) (answer : Answer)
+    (new : CallerValue) : Type 0 where
   pub answer_is : answer ≡ answers.Refused refusal
   pub same : new ≡ old
 
 -- PIN has this answer
 abbrev pub IsPinAnswer : StoreId → CallerValue → Answer → CallerValue → Type 0
 IsPinAnswer store old answer new =
-    elim old.pin as (λ _. Type 0) [ None ↦ HasPinned store old answer new ⊎ IsRefusedAs Memory old answer new | Some version ↦ IsRefusedAs AlreadyPinned old answer new ]
+    elim old.pin as (λ _. Type 0) [
+      | None ↦ HasPinned store old answer new
+          ⊎ IsRefusedAs Memory old answer new
+      | Some version ↦ IsRefusedAs AlreadyPinned old answer new
+    ]
 
 -- a caller unpins, and is told which version it had pinned
-pub record HasUnpinned (version : ℕ) (old : CallerValue) (answer : Answer) (new : CallerValue) : Type 0 where
+pub record HasUnpinned (version : ℕ) (old : CallerValue) (answer : Answer) (new : CallerValue) :
+    Type 0 where
   pub answer_is : answer ≡ answers.Version version
   pub new_is : new ≡ free old.seat
 
 -- UNPIN has this answer
 abbrev pub IsUnpinAnswer : CallerValue → Answer → CallerValue → Type 0
-IsUnpinAnswer old answer new = elim old.pin as (λ _. Type 0) [ None ↦ IsRefusedAs NotPinned old answer new | Some version ↦ HasUnpinned version old answer new ]
+IsUnpinAnswer old answer new =
+    elim old.pin as (λ _. Type 0) [
+      | None ↦ IsRefusedAs NotPinned old answer new
+      | Some version ↦ HasUnpinned version old answer new
+    ]

@@ -17,4 +17,7 @@ seen_corners r = record { x0 = r.x0; y0 = r.y0; x1 = r.x1; y1 = r.y1 }
 -- two points are a rectangle's corners if neither is over 4096 and there is a cell between them
 abbrev pub corners_of : Cell × Cell → Option Corners
 corners_of points =
-    if (nat_lt points.0.x points.1.x && nat_lt points.0.y points.1.y) && (nat_le points.1.x 4096 && nat_le points.1.y 4096) then Some record { x0 = points.0.x; y0 = points.0.y; x1 = points.1.x; y1 = points.1.y } else None
+    if (nat_lt points.0.x points.1.x && nat_lt points.0.y points.1.y)
+    && (nat_le points.1.x 4096 && nat_le points.1.y 4096)
+    then Some record { x0 = points.0.x; y0 = points.0.y; x1 = points.1.x; y1 = points.1.y }
+    else None

@@ -1,5 +1,6 @@
 -- The answers to a line with the bytes that it counts: this project's own rule.
-use Rattle.std.specs.Prelude.{◌≡◌, ◌≢◌, ℕ, ◌≤◌, ◌⊎◌, List, [], length, All, Bool, false, is_some, Some, None, Result, Ok, Err}
+use Rattle.std.specs.Prelude.{◌≡◌, ◌≢◌, ℕ, ◌≤◌, ◌⊎◌, List, [], length, All, Bool, false, is_some}
+use Rattle.std.specs.Prelude.{Some, None, Result, Ok, Err}
 use Rattle.std.specs.Str.Lines.{strip_carriage_return}
 use Rattle.metric.specs.Kind.{distance_of}
 use Rattle.metric.specs.declared.fault.PbmFault.{PbmFault}
@@ -20,7 +21,8 @@ use Rattle.proto.specs.Told.{told_by}
 use Rattle.proto.specs.declared.line.Line.{Line}
 use Rattle.proto.specs.Said.{LineView, said, said_by}
 use Rattle.proto.specs.Said as saids
-use Rattle.proto.specs.Callers.{CallerValue, bitmap_held, IsCommanded, IsPinAnswer, IsRefusedAs, IsUnpinAnswer}
+use Rattle.proto.specs.Callers.{CallerValue, bitmap_held, IsCommanded, IsPinAnswer, IsRefusedAs}
+use Rattle.proto.specs.Callers.{IsUnpinAnswer}
 
 -- what a line of a stream says, without the CR at its end
 abbrev pub line_said : List ℕ → Result LineView Refusal
@@ -44,18 +46,26 @@ line_seen_in (Err refusal) = Err refusal
 
 -- a line that needs a pin has this answer for the caller's pinned version, or is refused
 abbrev pub WithPin : (ℕ → Type 0) → CallerValue → Answer → CallerValue → Type 0
-WithPin answered old answer new = elim old.pin as (λ _. Type 0) [ None ↦ IsRefusedAs NotPinned old answer new | Some version ↦ answered version ]
+WithPin answered old answer new =
+    elim old.pin as (λ _. Type 0) [
+      | None ↦ IsRefusedAs NotPinned old answer new
+      | Some version ↦ answered version
+    ]
 
 -- a stamp is answered as the command if an image is in front, else by the first fault, or no memory
 abbrev pub IsStampAnswer : StoreId → ℕ → ℕ → List ℕ → CallerValue → Answer → CallerValue → Type 0
 IsStampAnswer store x y bytes old answer new =
-    ((n : ℕ) × (cells : Cells) × Reads bytes n cells × IsCommanded store (commands.Stamp x y cells) old answer new)
+    ((n : ℕ) × (cells : Cells) × Reads bytes n cells
+    × IsCommanded store (commands.Stamp x y cells) old answer new)
     ⊎ ((fault : PbmFault) × (image bytes ≡ Err fault) × IsRefusedAs (BadImage fault) old answer new)
     ⊎ IsRefusedAs Memory old answer new
 
 -- a query is answered for the pinned bitmap with the store's edge, or lacks memory for its points
-pub record IsQueryAnswer (store : StoreId) (query : QueryView) (old : CallerValue) (answer : Answer) (new : CallerValue) : Type 0 where
-  pub answered : IsAnswerBy (distance_of (metric_asked query)) (bitmap_held store old) store.base.setting.edge query answer ⊎ (HasPoints query × (answer ≡ answers.Refused Memory))
+pub record IsQueryAnswer (store : StoreId) (query : QueryView) (old : CallerValue) (answer : Answer)
+    (new : CallerValue) : Type 0 where
+  pub answered : IsAnswerBy (distance_of (metric_asked query))
+      (bitmap_held store old) store.base.setting.edge query answer
+      ⊎ (HasPoints query × (answer ≡ answers.Refused Memory))
   pub same : new ≡ old
 
 -- the plain image of the pinned version's bitmap follows a reply line that counts its bytes
@@ -69,19 +79,26 @@ IsDump cells (answers.Dumped n) body = (body ≡ plain_text cells) × (n ≡ len
 IsDump cells answer body = (answer ≡ answers.Refused Memory) × (body ≡ [])
 
 -- DUMP with a pin is answered with the dump of the pinned version's bitmap; the caller stays
-pub record IsDumpAnswer (store : StoreId) (old : CallerValue) (answer : Answer) (new : CallerValue) : Type 0 where
+pub record IsDumpAnswer (store : StoreId) (old : CallerValue) (answer : Answer)
+    (new : CallerValue) : Type 0 where
   pub answered : IsDump (bitmap_held store old) answer (body_of store old answer)
   pub same : new ≡ old
 
 -- a line, with the bytes that it counts, has this answer; QUIT, which ends the stream, has none
-abbrev pub IsLineAnswer : StoreId → Result LineView Refusal → List ℕ → CallerValue → Answer → CallerValue → Type 0
-IsLineAnswer store (Err refusal) bytes old answer new = IsRefusedAs (with_pin (is_some old.pin) refusal) old answer new
-IsLineAnswer store (Ok (saids.told t)) bytes old answer new = (c : Command) × (told_by c ≡ t) × IsCommanded store c old answer new
-IsLineAnswer store (Ok (saids.stamp x y n)) bytes old answer new = IsStampAnswer store x y bytes old answer new
+abbrev pub IsLineAnswer : StoreId → Result LineView Refusal → List ℕ → CallerValue → Answer
+    → CallerValue → Type 0
+IsLineAnswer store (Err refusal) bytes old answer new =
+    IsRefusedAs (with_pin (is_some old.pin) refusal) old answer new
+IsLineAnswer store (Ok (saids.told t)) bytes old answer new =
+    (c : Command) × (told_by c ≡ t) × IsCommanded store c old answer new
+IsLineAnswer store (Ok (saids.stamp x y n)) bytes old answer new =
+    IsStampAnswer store x y bytes old answer new
 IsLineAnswer store (Ok saids.pin) bytes old answer new = IsPinAnswer store old answer new
 IsLineAnswer store (Ok saids.unpin) bytes old answer new = IsUnpinAnswer old answer new
-IsLineAnswer store (Ok (saids.asked query)) bytes old answer new = WithPin (λ _. IsQueryAnswer store query old answer new) old answer new
-IsLineAnswer store (Ok saids.dump) bytes old answer new = WithPin (λ _. IsDumpAnswer store old answer new) old answer new
+IsLineAnswer store (Ok (saids.asked query)) bytes old answer new =
+    WithPin (λ _. IsQueryAnswer store query old answer new) old answer new
+IsLineAnswer store (Ok saids.dump) bytes old answer new =
+    WithPin (λ _. IsDumpAnswer store old answer new) old answer new
 IsLineAnswer store (Ok saids.quit) bytes old answer new = ⊥
 
 -- a line of a stream has at most 16,384 bytes before its LF

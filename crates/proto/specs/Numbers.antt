@@ -1,5 +1,6 @@
 -- Numbers and points of a line: this project's own rule.
-use Rattle.std.specs.Prelude.{◌≡◌, ℕ, ◌&&◌, ◌⊎◌, nat_lt, nat_le, min, List, [], ◌∷◌, length, Option, Some, None, option_and_then, option_map, if◌then◌else◌}
+use Rattle.std.specs.Prelude.{◌≡◌, ℕ, ◌&&◌, ◌⊎◌, nat_lt, nat_le, min, List, [], ◌∷◌, length, Option}
+use Rattle.std.specs.Prelude.{Some, None, option_and_then, option_map, if◌then◌else◌}
 use Rattle.std.specs.List.{list_all}
 use Rattle.metric.specs.Digits.{is_digit, value_from}
 use Rattle.metric.specs.declared.cell.Cell.{Cell}
@@ -7,7 +8,9 @@ use Rattle.metric.specs.declared.cell.Cell.{Cell}
 -- a number has 1 to 10 digits, and is at most 4294967295
 unfoldable pub number : List ℕ → Option ℕ
 number word =
-    if (nat_le 1 (length word) && nat_le (length word) 10) && (list_all is_digit word && nat_lt (value_from 0 word) 4294967296) then Some (value_from 0 word) else None
+    if (nat_le 1 (length word) && nat_le (length word) 10)
+    && (list_all is_digit word && nat_lt (value_from 0 word) 4294967296)
+    then Some (value_from 0 word) else None
 
 -- a number in front of others, if all are numbers
 abbrev pub join_number : Option ℕ → Option (List ℕ) → Option (List ℕ)

@@ -8,20 +8,24 @@ use Rattle.proto.specs.Served.{IsServed}
 use Rattle.metric.specs.Wire.{Wire}
 
 -- a fresh stream was served with a session, from its first byte to its end
-pub record IsStreamServed {S : Type 0} (fresh : S → Type 0) (wire : S → Wire) (store : StoreId) (stream : S) (old new : ReaderView) : Type 0 where
+pub record IsStreamServed {S : Type 0} (fresh : S → Type 0) (wire : S → Wire) (store : StoreId)
+    (stream : S) (old new : ReaderView) : Type 0 where
   pub is_fresh : fresh stream
   pub end : End
   pub wire_after : Wire
   pub served : IsServed store (Some end) (wire stream) (free old) wire_after (free new)
 
 -- fresh streams were served with a session, in order
-abbrev pub AreStreamsServed : {S : Type 0} → (S → Type 0) → (S → Wire) → StoreId → List S → ReaderView → ReaderView → Type 0
+abbrev pub AreStreamsServed : {S : Type 0} → (S → Type 0) → (S → Wire) → StoreId → List S
+    → ReaderView → ReaderView → Type 0
 AreStreamsServed fresh wire store [] old new = new ≡ old
 AreStreamsServed fresh wire store (stream ∷ streams) old new =
-    (between : ReaderView) × IsStreamServed fresh wire store stream old between × AreStreamsServed fresh wire store streams between new
+    (between : ReaderView) × IsStreamServed fresh wire store stream old between
+    × AreStreamsServed fresh wire store streams between new
 
 -- a worker has only served fresh streams with its session, each once
-pub record HasWorked {S : Type 0} (fresh : S → Type 0) (wire : S → Wire) (store : StoreId) (old new : ReaderView) : Type 0 where
+pub record HasWorked {S : Type 0} (fresh : S → Type 0) (wire : S → Wire) (store : StoreId)
+    (old new : ReaderView) : Type 0 where
   pub streams : List S
   pub served : AreStreamsServed fresh wire store streams old new
 
@@ -38,4 +42,5 @@ AreBoth Relation x y = ⊥
 
 -- the elements at each index of the first list are related to those of the second
 abbrev pub AreEach : {A : Type 0} → (A → A → Type 0) → List A → List A → Type 0
-AreEach {A = A} Relation xs ys = (i : ℕ) (d : A) → i < length xs → Relation (slice_index_or xs i d) (slice_index_or ys i d)
+AreEach {A = A} Relation xs ys =
+    (i : ℕ) (d : A) → i < length xs → Relation (slice_index_or xs i d) (slice_index_or ys i d)

@@ -8,7 +8,8 @@ use Rattle.metric.specs.declared.cell.Cell.{Cell}
 use Rattle.metric.specs.declared.near.Near.{Near}
 use Rattle.metric.specs.declared.spot.Spot.{Spot}
 use Rattle.map_core.specs.declared.command.Reply.{Reply}
-use Rattle.map_core.specs.declared.command.Reply.TheVariants.{Painted, Published, Reverted, Collected, Checkpointed}
+use Rattle.map_core.specs.declared.command.Reply.TheVariants.{Painted, Published, Reverted}
+use Rattle.map_core.specs.declared.command.Reply.TheVariants.{Collected, Checkpointed}
 use Rattle.proto.specs.declared.answer.Answer.{Answer}
 use Rattle.proto.specs.declared.answer.Answer.TheVariants as answers
 
@@ -26,7 +27,9 @@ near_text near = codes "OK " ++ (decimal near.dist ++ (32 ∷ spot_text near.cel
 
 -- a least distance is written with the cell that has it and its obstacle
 abbrev pub found_text : Cell × Near → List ℕ
-found_text found = codes "OK " ++ (decimal found.1.dist ++ (32 ∷ (cell_text found.0 ++ (32 ∷ spot_text found.1.cell))))
+found_text found =
+    codes "OK " ++ (decimal found.1.dist
+    ++ (32 ∷ (cell_text found.0 ++ (32 ∷ spot_text found.1.cell))))
 
 -- the numbers after `OK`, each after a blank
 abbrev pub numbers_text : List ℕ → List ℕ

@@ -2,7 +2,8 @@
 -- blank, and the first one is the command, in capital letters. A line without a known command is
 -- refused as such, whatever else it contains; then arguments of the wrong number or form; then a
 -- path of no points or over 1000.
-use Rattle.std.specs.Prelude.{ℕ, List, [], ◌∷◌, Option, Some, None, Result, Ok, Err, bytes_eq, codes, option_map, if◌then◌else◌}
+use Rattle.std.specs.Prelude.{ℕ, List, [], ◌∷◌, Option, Some, None, Result, Ok, Err, bytes_eq}
+use Rattle.std.specs.Prelude.{codes, option_map, if◌then◌else◌}
 use Rattle.metric.specs.declared.refusal.Refusal.{Refusal}
 use Rattle.metric.specs.declared.refusal.Refusal.TheVariants.{UnknownCommand}
 use Rattle.proto.specs.declared.line.Line.{Line}
@@ -55,7 +56,8 @@ abbrev pub verb_named : List ℕ → Option Verb
 verb_named word =
     elim (order_named word) as (λ _. Option Verb) [
       | Some order ↦ Some (verbs.Order order)
-      | None ↦ elim (query_named word) as (λ _. Option Verb) [ Some kind ↦ Some (verbs.Ask kind) | None ↦ bare_named word ]
+      | None ↦ elim (query_named word) as (λ _. Option Verb)
+          [ Some kind ↦ Some (verbs.Ask kind) | None ↦ bare_named word ]
     ]
 
 -- the first of some words is the name of the command
@@ -78,7 +80,8 @@ said_by_query (Err refusal) = Err refusal
 
 -- what a command with the words after its name says
 abbrev pub verb_said : Verb → List (List ℕ) → Result LineView Refusal
-verb_said (verbs.Order order) words = or_bad (option_map (λ command. told command) (order_told order words))
+verb_said (verbs.Order order) words =
+    or_bad (option_map (λ command. told command) (order_told order words))
 verb_said (verbs.Ask kind) words = said_by_query (arguments_asked kind words)
 verb_said verbs.Stamp words = or_bad (option_map stamp_of (number_triple (numbers words)))
 verb_said verbs.Pin words = or_bad (alone pin words)
@@ -89,7 +92,9 @@ verb_said verbs.Quit words = or_bad (alone quit words)
 -- what the words of a line say
 abbrev pub said_of : List (List ℕ) → Result LineView Refusal
 said_of [] = Err UnknownCommand
-said_of (word ∷ arguments) = elim (verb_named word) as (λ _. Result LineView Refusal) [ None ↦ Err UnknownCommand | Some verb ↦ verb_said verb arguments ]
+said_of (word ∷ arguments) =
+    elim (verb_named word) as (λ _. Result LineView Refusal)
+    [ None ↦ Err UnknownCommand | Some verb ↦ verb_said verb arguments ]
 
 -- what a line says, without its LF and the CR before it
 unfoldable pub said : List ℕ → Result LineView Refusal

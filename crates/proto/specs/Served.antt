@@ -1,5 +1,7 @@
 -- What a stream is answered from its first byte to its end: this project's own rule.
-use Rattle.std.specs.Prelude.{◌≡◌, ◌≢◌, Bool, false, if◌then◌else◌, ℕ, ◌+◌, ◌<◌, ◌≤◌, ◌⊎◌, List, [], ◌∷◌, ◌++◌, length, All, Option, Some, None, Result, Ok, Err, IsOkAnd, Vec}
+use Rattle.std.specs.Prelude.{◌≡◌, ◌≢◌, Bool, false, if◌then◌else◌, ℕ, ◌+◌, ◌<◌, ◌≤◌, ◌⊎◌, List, []}
+use Rattle.std.specs.Prelude.{◌∷◌, ◌++◌, length, All, Option, Some, None, Result, Ok, Err, IsOkAnd}
+use Rattle.std.specs.Prelude.{Vec}
 use Rattle.std.specs.List.{flat_map}
 use Rattle.metric.specs.Stream.{Appends, AppendsFront, Takes}
 use Rattle.metric.specs.declared.refusal.Refusal.{Refusal}
@@ -30,7 +32,8 @@ text_of x = reply_line x.answer ++ x.body
 -- the caller has had these exchanges, in order
 abbrev pub AreExchanges : StoreId → List Exchange → CallerValue → CallerValue → Type 0
 AreExchanges store [] old new = new ≡ old
-AreExchanges store (x ∷ xs) old new = (between : CallerValue) × IsExchange store x old between × AreExchanges store xs between new
+AreExchanges store (x ∷ xs) old new =
+    (between : CallerValue) × IsExchange store x old between × AreExchanges store xs between new
 
 -- these bytes are a line with its LF, and fewer bytes than it counts, no more than a stamp may have
 pub record IsShort (bytes : List ℕ) : Type 0 where
@@ -76,8 +79,10 @@ abbrev pub IsTail : Option End → List ℕ → List ℕ → Type 0
 IsTail None tail last = (tail ≡ []) × (last ≡ [])
 IsTail (Some ends.Quit) tail last = IsQuit tail × (last ≡ reply_line answers.Bye)
 IsTail (Some ends.EndOfInput) tail last = IsPartOfExchange tail × (last ≡ [])
-IsTail (Some ends.LineTooLong) tail last = IsTooLong tail × (last ≡ reply_line (answers.Refused refusals.LineTooLong))
-IsTail (Some ends.TooMuchData) tail last = IsTooMuch tail × (last ≡ reply_line (answers.Refused refusals.TooMuchData))
+IsTail (Some ends.LineTooLong) tail last =
+    IsTooLong tail × (last ≡ reply_line (answers.Refused refusals.LineTooLong))
+IsTail (Some ends.TooMuchData) tail last =
+    IsTooMuch tail × (last ≡ reply_line (answers.Refused refusals.TooMuchData))
 IsTail (Some ends.ReadFailed) tail last = IsPartOfExchange tail × (last ≡ [])
 IsTail (Some ends.WriteFailed) tail last = ((tail ≡ []) × (last ≡ [])) ⊎ IsFarewell tail last
 IsTail (Some ends.Memory) tail last = ⊥
@@ -90,11 +95,13 @@ IsLeft (Some end) last new = new.seat ≡ last.seat
 -- the write of this text failed: the last exchange's, or a last text; at other ends none failed
 abbrev pub IsUnsaid : Option End → List Exchange → List ℕ → List ℕ → List ℕ → Type 0
 IsUnsaid (Some ends.WriteFailed) exchanges tail last unsaid =
-    ((before : List Exchange) × (x : Exchange) × (exchanges ≡ before ++ x ∷ []) × (last ≡ []) × (unsaid ≡ text_of x)) ⊎ (IsFarewell tail last × (unsaid ≡ last))
+    ((before : List Exchange) × (x : Exchange) × (exchanges ≡ before ++ x ∷ []) × (last ≡ [])
+    × (unsaid ≡ text_of x)) ⊎ (IsFarewell tail last × (unsaid ≡ last))
 IsUnsaid end exchanges tail last unsaid = unsaid ≡ []
 
 -- a stream with this end, or none, has read exchanges and a tail, and written up to a failed text
-pub record Served (store : StoreId) (end : Option End) (bytes : List ℕ) (old new : CallerValue) (said unsaid : List ℕ) : Type 0 where
+pub record Served (store : StoreId) (end : Option End) (bytes : List ℕ) (old new : CallerValue)
+    (said unsaid : List ℕ) : Type 0 where
   pub exchanges : List Exchange
   pub tail : List ℕ
   pub last : List ℕ
@@ -113,7 +120,8 @@ IsEndReached end rest = Unit {0}
 
 -- what was said follows what was written, then a prefix of the text whose write failed, if any
 abbrev pub IsWritten : Option End → Option (List ℕ) → List ℕ → List ℕ → Option (List ℕ) → Type 0
-IsWritten (Some ends.WriteFailed) before said unsaid after = (between : Option (List ℕ)) × Appends before said between × AppendsFront between unsaid after
+IsWritten (Some ends.WriteFailed) before said unsaid after =
+    (between : Option (List ℕ)) × Appends before said between × AppendsFront between unsaid after
 IsWritten end before said unsaid after = Appends before said after
 
 -- how many reads fail before this end
@@ -127,7 +135,8 @@ write_faults (Some ends.WriteFailed) = 1
 write_faults end = 0
 
 -- these bytes were read and this was said, up to this end
-pub record HasMoved (end : Option End) (old : Wire) (bytes said unsaid : List ℕ) (new : Wire) : Type 0 where
+pub record HasMoved (end : Option End) (old : Wire) (bytes said unsaid : List ℕ) (new : Wire) :
+    Type 0 where
   pub taken : Takes old.rest bytes new.rest
   pub reached : IsEndReached end new.rest
   pub written : IsWritten end old.held said unsaid new.held
@@ -136,11 +145,15 @@ pub record HasMoved (end : Option End) (old : Wire) (bytes said unsaid : List �
 
 -- the input was cut off after these bytes: it ended, or a read failed
 abbrev pub IsCutOff : End → Wire → List ℕ → Wire → Type 0
-IsCutOff end old bytes new = ((end ≡ ends.EndOfInput) × HasRead 0 old bytes new × IsReadOut new.rest) ⊎ ((end ≡ ends.ReadFailed) × HasRead 1 old bytes new)
+IsCutOff end old bytes new =
+    ((end ≡ ends.EndOfInput) × HasRead 0 old bytes new × IsReadOut new.rest)
+    ⊎ ((end ≡ ends.ReadFailed) × HasRead 1 old bytes new)
 
 -- why a line wasn't read to its LF: these bytes are too many, or the input was cut off after them
 abbrev pub IsLineStop : End → Wire → List ℕ → Wire → Type 0
-IsLineStop end old bytes new = ((end ≡ ends.LineTooLong) × IsTooLong bytes × HasRead 0 old bytes new) ⊎ (IsLine bytes × IsCutOff end old bytes new)
+IsLineStop end old bytes new =
+    ((end ≡ ends.LineTooLong) × IsTooLong bytes × HasRead 0 old bytes new)
+    ⊎ (IsLine bytes × IsCutOff end old bytes new)
 
 -- what a line ends with, if it ends
 abbrev pub line_end : Bool → List ℕ
@@ -154,7 +167,8 @@ pub record IsKept (ends : Bool) (before bytes after : List ℕ) : Type 0 where
   pub bytes_are : bytes ≡ part ++ line_end ends
 
 -- a part of a line was read after these bytes and appended to them, except an LF that ends the line
-pub record IsLinePart (ends : Bool) (before : List ℕ) (old : Wire) (after : List ℕ) (new : Wire) : Type 0 where
+pub record IsLinePart (ends : Bool) (before : List ℕ) (old : Wire) (after : List ℕ) (new : Wire) :
+    Type 0 where
   pub part : List ℕ
   pub after_is : after ≡ before ++ part
   pub plain : All (λ byte. byte ≢ 10) part
@@ -168,7 +182,8 @@ AreKept (Err refused) bytes = Unit {0}
 AreKept (Ok kept) bytes = kept.items ≡ bytes
 
 -- as many bytes were read as are counted, and kept if there was memory for them
-pub record HasCounted {A E : Type 0} (count : ℕ) (kept : Result (Vec ℕ A) E) (old new : Wire) : Type 0 where
+pub record HasCounted {A E : Type 0} (count : ℕ) (kept : Result (Vec ℕ A) E) (old new : Wire) :
+    Type 0 where
   pub bytes : List ℕ
   pub as_many : length bytes ≡ count
   pub kept_are : AreKept kept bytes
@@ -189,7 +204,9 @@ pub record IsCutShort (count : ℕ) (end : End) (old new : Wire) : Type 0 where
 
 -- a last text was written, and the stream ends as planned, or a write failed
 abbrev pub HasSaid : End → End → Wire → List ℕ → Wire → Type 0
-HasSaid planned end old text new = ((end ≡ planned) × HasWritten old text new) ⊎ ((end ≡ ends.WriteFailed) × HasNotWritten old text new)
+HasSaid planned end old text new =
+    ((end ≡ planned) × HasWritten old text new)
+    ⊎ ((end ≡ ends.WriteFailed) × HasNotWritten old text new)
 
 -- a line was parsed as what it says, or there was no memory for its points
 abbrev pub IsHeard : Result LineView Refusal → Result LineView Refusal → Type 0
@@ -213,7 +230,8 @@ end_after (Ok done) = None
 end_after (Err fault) = Some ends.WriteFailed
 
 -- a bitmap's dump was written: its plain image after its number of bytes, or out of memory
-pub record IsDumped (cells : Cells) (written : Result (Unit {0}) WriteFault) (wire wire_after : Wire) : Type 0 where
+pub record IsDumped (cells : Cells) (written : Result (Unit {0}) WriteFault)
+    (wire wire_after : Wire) : Type 0 where
   pub answer : Answer
   pub body : List ℕ
   pub is_dump : IsDump cells answer body
@@ -222,10 +240,14 @@ pub record IsDumped (cells : Cells) (written : Result (Unit {0}) WriteFault) (wi
 -- the answer to DUMP was written: the dump of the caller's pinned version, or that it has none
 abbrev pub IsDumpSaid : StoreId → Result (Unit {0}) WriteFault → Wire → CallerValue → Wire → Type 0
 IsDumpSaid store written wire old wire_after =
-    elim old.pin as (λ _. Type 0) [ None ↦ HasPut written wire (reply_line (answers.Refused refusals.NotPinned)) wire_after | Some version ↦ IsDumped (bitmap_held store old) written wire wire_after ]
+    elim old.pin as (λ _. Type 0) [
+      | None ↦ HasPut written wire (reply_line (answers.Refused refusals.NotPinned)) wire_after
+      | Some version ↦ IsDumped (bitmap_held store old) written wire wire_after
+    ]
 
 -- a caller was served over a wire up to this end: bytes were read, and texts said unless one failed
-pub record IsServed (store : StoreId) (end : Option End) (wire : Wire) (old : CallerValue) (wire_after : Wire) (new : CallerValue) : Type 0 where
+pub record IsServed (store : StoreId) (end : Option End) (wire : Wire) (old : CallerValue)
+    (wire_after : Wire) (new : CallerValue) : Type 0 where
   pub bytes : List ℕ
   pub said : List ℕ
   pub unsaid : List ℕ

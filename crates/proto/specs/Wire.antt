@@ -1,5 +1,6 @@
 -- What reads and writes do to the wire of a stream: this project's own rule.
-use Rattle.std.specs.Prelude.{◌≡◌, ℕ, ◌+◌, ◌<◌, ◌≤◌, List, [], length, take, Option, Some, None, Result, Ok, Err}
+use Rattle.std.specs.Prelude.{◌≡◌, ℕ, ◌+◌, ◌<◌, ◌≤◌, List, [], length, take, Option, Some, None}
+use Rattle.std.specs.Prelude.{Result, Ok, Err}
 use Rattle.metric.specs.declared.stream.WriteFault.{WriteFault}
 use Rattle.metric.specs.Wire.{Wire}
 use Rattle.metric.specs.Stream.{Appends, AppendsFront, CanFail, Takes}

@@ -20,7 +20,8 @@ use std::alloc::Global;
 /// bitmap; the first point of a path that is in neither the row nor the column of the point before
 /// it.
 pub fn answer_query(alloc: Global, bitmap: &Bitmap, edge: Edge, query: &Query) -> Answer
-    ensures { IsAnswerBy (distance_of (metric_asked (asked_by query.now))) bitmap.now edge (asked_by query.now) result }
+    ensures { IsAnswerBy (distance_of (metric_asked (asked_by query.now))) bitmap.now edge
+        (asked_by query.now) result }
 {
     let mut map = Bordered { bitmap, edge };
     answer_of(alloc, &mut map, query)
@@ -29,7 +30,8 @@ pub fn answer_query(alloc: Global, bitmap: &Bitmap, edge: Edge, query: &Query) -
 /// As `answer_query`, of a bitmap or of the version that a pin holds. A fresh pin reads only the
 /// words that the query touches.
 pub fn answer_of<Q: Queried>(alloc: Global, map: &mut Q, query: &Query) -> Answer
-    ensures answer { IsAnswerBy (distance_of (metric_asked (asked_by query.now))) (Q.cells map.old) (Q.edge map.old)
+    ensures answer { IsAnswerBy (distance_of (metric_asked (asked_by query.now))) (Q.cells map.old)
+        (Q.edge map.old)
         (asked_by query.now) result }
     ensures map { map.new ≡ map.old }
 {
@@ -42,7 +44,8 @@ pub fn answer_of<Q: Queried>(alloc: Global, map: &mut Q, query: &Query) -> Answe
 
 /// Answers a query by this metric.
 fn answer_by<M: Metric, Q: Queried>(alloc: Global, map: &mut Q, query: &Query) -> Answer
-    ensures answer { IsAnswerBy M.distance (Q.cells map.old) (Q.edge map.old) (asked_by query.now) result }
+    ensures answer { IsAnswerBy M.distance (Q.cells map.old) (Q.edge map.old)
+        (asked_by query.now) result }
     ensures map { map.new ≡ map.old }
 {
     match query {

@@ -30,7 +30,8 @@ pub fn read_order(order: CommandName, rest: Option<&[u8]>) -> Option<Command>
 
 /// The command that sets the rectangle in the rest of a line to this value.
 fn paint(rest: Option<&[u8]>, black: bool) -> Option<Command>
-    ensures { option_map told_by result ≡ option_map (draw black) (rect_told (words_left rest.entry)) }
+    ensures { option_map told_by result ≡ option_map (draw black)
+        (rect_told (words_left rest.entry)) }
 {
     let rect = read_rect(rest)?;
     Some(Command::Paint { rect, black })
@@ -52,7 +53,8 @@ pub fn bare_line(rest: Option<&[u8]>, line: Line) -> Option<Line>
 
 /// The stamp whose position and number of bytes are the whole rest of a line; none otherwise.
 pub fn read_stamp(rest: Option<&[u8]>) -> Option<Line>
-    ensures { option_map said_by result ≡ option_map stamp_of (number_triple (numbers (words_left rest.entry))) }
+    ensures { option_map said_by result ≡ option_map stamp_of
+        (number_triple (numbers (words_left rest.entry))) }
 {
     let (x, y, length) = number_triple(rest)?;
     Some(Line::Stamp {

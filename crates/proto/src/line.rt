@@ -34,9 +34,12 @@ pub enum Line {
 
 /// What a command says, with the rest of its line.
 fn line_of(alloc: Global, verb: Verb, rest: Option<&[u8]>) -> Result<Line, Refusal>
-    ensures line { IfOk result (λ line. verb_said verb (words_left rest.entry) ≡ Ok (said_by line)) }
-    ensures refusal { IfErr result (λ refusal. refusal ≢ Refusal.Memory → verb_said verb (words_left rest.entry) ≡ Err refusal) }
-    ensures memory { result ≡ Err Refusal.Memory → IsOkAnd (verb_said verb (words_left rest.entry)) SaysPoints }
+    ensures line { IfOk result (λ line. verb_said verb (words_left rest.entry)
+        ≡ Ok (said_by line)) }
+    ensures refusal { IfErr result (λ refusal. refusal ≢ Refusal.Memory
+        → verb_said verb (words_left rest.entry) ≡ Err refusal) }
+    ensures memory { result ≡ Err Refusal.Memory
+        → IsOkAnd (verb_said verb (words_left rest.entry)) SaysPoints }
 {
     match verb {
         Verb::Order(order) => match read_order(order, rest) {
@@ -62,7 +65,8 @@ fn line_of(alloc: Global, verb: Verb, rest: Option<&[u8]>) -> Result<Line, Refus
 #[tactic(auto, unfolding(crate::specs::Said::said))]
 pub fn parse_line(alloc: Global, bytes: &[u8]) -> Result<Line, Refusal>
     ensures line { IfOk result (λ line. said bytes.now ≡ Ok (said_by line)) }
-    ensures refusal { IfErr result (λ refusal. refusal ≢ Refusal.Memory → said bytes.now ≡ Err refusal) }
+    ensures refusal { IfErr result (λ refusal. refusal ≢ Refusal.Memory
+        → said bytes.now ≡ Err refusal) }
     ensures memory { result ≡ Err Refusal.Memory → IsOkAnd (said bytes.now) SaysPoints }
 {
     match split_verb(bytes) {

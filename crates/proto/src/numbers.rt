@@ -2,7 +2,8 @@
 
 ghost use Rattle.std.specs.Prelude.{◌≡◌, ◌∷◌, Some, None, option_map, MatchOption};
 ghost use Rattle.proto.specs.Asked.{first_of};
-ghost use Rattle.proto.specs.Numbers.{HasNoNumber, number, number_pair, number_triple, numbers, only_number};
+ghost use Rattle.proto.specs.Numbers.{HasNoNumber, number, number_pair, number_triple, numbers};
+ghost use Rattle.proto.specs.Numbers.{only_number};
 ghost use Rattle.proto.specs.Words.{words_left};
 
 use crate::number::read_number;
@@ -14,7 +15,8 @@ pub fn next_number(rest: Option<&[u8]>) -> Option<(u32, Option<&[u8]>)>
     ensures first { MatchOption result (first_of number (words_left rest.entry) ≡ None)
         (λ found. first_of number (words_left rest.entry) ≡ Some (found.0, words_left found.1)) }
     ensures numbers { MatchOption result (HasNoNumber (words_left rest.entry))
-        (λ found. numbers (words_left rest.entry) ≡ option_map (λ others. found.0 ∷ others) (numbers (words_left found.1))) }
+        (λ found. numbers (words_left rest.entry) ≡ option_map (λ others. found.0 ∷ others)
+        (numbers (words_left found.1))) }
 {
     let (word, rest) = next_word(rest)?;
     let number = read_number(word)?;

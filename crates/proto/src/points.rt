@@ -1,6 +1,8 @@
 //! The points of a line, two numbers each.
 
-ghost use Rattle.std.specs.Prelude.{◌≡◌, ◌≢◌, ◌+◌, ◌∷◌, ◌++◌, ◌≤◌, ◌^◌, length, vec_len, vec_capacity, option_map, MatchOption, IfSome, IsSomeAnd, IfOk, IfErr, IsOk, Ok, Err};
+ghost use Rattle.std.specs.Prelude.{◌≡◌, ◌≢◌, ◌+◌, ◌∷◌, ◌++◌, ◌≤◌, ◌^◌, length, vec_len};
+ghost use Rattle.std.specs.Prelude.{vec_capacity, option_map, MatchOption, IfSome, IsSomeAnd, IfOk};
+ghost use Rattle.std.specs.Prelude.{IfErr, IsOk, Ok, Err};
 ghost use Rattle.metric.specs.declared.refusal.Refusal.{Refusal};
 ghost use Rattle.proto.specs.Asked.{path_of};
 ghost use Rattle.proto.specs.Numbers.{coordinate, points, only, pair, HasNoFirst};
@@ -25,7 +27,8 @@ pub fn coordinate(number: u32) -> u16
 #[tactic(auto, unfolding(crate::specs::Numbers::points))]
 fn next_point(rest: Option<&[u8]>) -> Option<(Cell, Option<&[u8]>)>
     ensures points { MatchOption result (HasNoFirst (words_left rest.entry))
-        (λ found. points (words_left rest.entry) ≡ option_map (λ cells. found.0 ∷ cells) (points (words_left found.1))) }
+        (λ found. points (words_left rest.entry) ≡ option_map (λ cells. found.0 ∷ cells)
+        (points (words_left found.1))) }
     ensures fewer { IfSome result (λ found. bytes_left found.1 + 2 ≤ bytes_left rest.entry) }
     ensures small { bytes_left rest.entry ≤ 2 ^ 64 }
 {
@@ -77,8 +80,10 @@ fn count_points(rest: Option<&[u8]>) -> Option<usize>
 /// Appends the points in the rest of a line. The buffer has capacity for them.
 #[tactic(auto, unfolding(crate::specs::Numbers::points))]
 fn push_points(cells: &mut Vec<Cell>, rest: Option<&[u8]>)
-    requires { IsSomeAnd (points (words_left rest)) (λ added. vec_len cells.old + length added ≤ vec_capacity cells.old) }
-    ensures { IfSome (points (words_left rest.entry)) (λ added. cells.new.items ≡ cells.old.items ++ added) }
+    requires { IsSomeAnd (points (words_left rest))
+        (λ added. vec_len cells.old + length added ≤ vec_capacity cells.old) }
+    ensures { IfSome (points (words_left rest.entry))
+        (λ added. cells.new.items ≡ cells.old.items ++ added) }
 {
     let mut rest = rest;
     'points: while let Some((cell, others)) = next_point(rest) {
@@ -89,8 +94,10 @@ fn push_points(cells: &mut Vec<Cell>, rest: Option<&[u8]>)
 
 /// The points of the path in the rest of a line. Requests memory once they are known to be valid.
 pub fn read_path(alloc: Global, rest: Option<&[u8]>) -> Result<Vec<Cell>, Refusal>
-    ensures cells { IfOk result (λ cells. path_of (points (words_left rest.entry)) ≡ Ok cells.items) }
-    ensures refusal { IfErr result (λ refusal. refusal ≢ Refusal.Memory → path_of (points (words_left rest.entry)) ≡ Err refusal) }
+    ensures cells { IfOk result (λ cells. path_of (points (words_left rest.entry))
+        ≡ Ok cells.items) }
+    ensures refusal { IfErr result (λ refusal. refusal ≢ Refusal.Memory
+        → path_of (points (words_left rest.entry)) ≡ Err refusal) }
     ensures memory { result ≡ Err Refusal.Memory → IsOk (path_of (points (words_left rest.entry))) }
 {
     let Some(count) = count_points(rest) else {

@@ -5,7 +5,8 @@ ghost use Rattle.metric.specs.Nearest.{IsNear};
 ghost use Rattle.metric.specs.declared.edge.Edge.{Edge};
 ghost use Rattle.bits.specs.Cells.{Cells, IsInside};
 ghost use Rattle.bits.specs.Edges.{IsBlocked};
-ghost use Rattle.clearance.specs.Answers.{IsClearOf, IsLeastOf, IsRefusalFor, LiesIn, cells_of_rect};
+ghost use Rattle.clearance.specs.Answers.{IsClearOf, IsLeastOf, IsRefusalFor, LiesIn};
+ghost use Rattle.clearance.specs.Answers.{cells_of_rect};
 ghost use Rattle.clearance.specs.Paths.{IsPathRefusal, cells_of_path, path_refusal};
 
 use bits::Bitmap;
@@ -25,7 +26,9 @@ pub trait Queried {
     /// As `clearance::at`.
     fn at<M: Metric>(&mut self, alloc: Global, cell: Cell) -> Result<Option<Near>, Refusal>
         ensures inside { IfOk result (λ _. IsInside (cells self.old) cell.x cell.y) }
-        ensures near { IfOk result (λ near. IsNear M.distance (IsBlocked (cells self.old) (edge self.old)) cell.x cell.y near) }
+        ensures near { IfOk result
+            (λ near. IsNear M.distance (IsBlocked (cells self.old) (edge self.old)) cell.x cell.y
+            near) }
         ensures refused { IfErr result (IsRefusalFor (IsInside (cells self.old) cell.x cell.y)) }
         ensures map { self.new ≡ self.old };
 
@@ -36,7 +39,8 @@ pub trait Queried {
         rect: Rect,
     ) -> Result<Option<(Cell, Near)>, Refusal>
         ensures inside { IfOk result (λ _. LiesIn (cells self.old) rect) }
-        ensures least { IfOk result (IsLeastOf M.distance (IsBlocked (cells self.old) (edge self.old))
+        ensures least { IfOk result
+            (IsLeastOf M.distance (IsBlocked (cells self.old) (edge self.old))
             (cells_of_rect rect.x0 rect.y0 rect.x1 rect.y1)) }
         ensures refused { IfErr result (IsRefusalFor (LiesIn (cells self.old) rect)) }
         ensures map { self.new ≡ self.old };
@@ -48,7 +52,9 @@ pub trait Queried {
         points: &[Cell],
     ) -> Result<Option<(Cell, Near)>, Refusal>
         ensures accepted { IfOk result (λ _. path_refusal (cells self.old) points.now ≡ None) }
-        ensures least { IfOk result (IsLeastOf M.distance (IsBlocked (cells self.old) (edge self.old)) (cells_of_path points.now)) }
+        ensures least { IfOk result
+            (IsLeastOf M.distance (IsBlocked (cells self.old) (edge self.old))
+            (cells_of_path points.now)) }
         ensures refused { IfErr result (IsPathRefusal (cells self.old) points.now) }
         ensures map { self.new ≡ self.old };
 
@@ -60,7 +66,9 @@ pub trait Queried {
         d: u32,
     ) -> Result<Option<(Cell, Near)>, Refusal>
         ensures accepted { IfOk result (λ _. path_refusal (cells self.old) points.now ≡ None) }
-        ensures clear { IfOk result (IsClearOf M.distance (IsBlocked (cells self.old) (edge self.old)) (cells_of_path points.now) d) }
+        ensures clear { IfOk result
+            (IsClearOf M.distance (IsBlocked (cells self.old) (edge self.old))
+            (cells_of_path points.now) d) }
         ensures refused { IfErr result (IsPathRefusal (cells self.old) points.now) }
         ensures map { self.new ≡ self.old };
 }

@@ -1,6 +1,7 @@
 //! Queries, and what they ask.
 
-ghost use Rattle.std.specs.Prelude.{◌≡◌, ◌≢◌, option_map, option_and_then, IfOk, IfErr, IsOkAnd, Ok, Err};
+ghost use Rattle.std.specs.Prelude.{◌≡◌, ◌≢◌, option_map, option_and_then, IfOk, IfErr, IsOkAnd};
+ghost use Rattle.std.specs.Prelude.{Ok, Err};
 ghost use Rattle.metric.specs.declared.refusal.Refusal.{Refusal};
 ghost use Rattle.proto.specs.Asked.{arguments_asked, asked_by, query_asked, rect_of, HasPoints};
 ghost use Rattle.proto.specs.Numbers.{points, pair};
@@ -60,9 +61,12 @@ impl Query {
 /// Refuses, in this order: arguments of the wrong number or form; a path of no points or over 1000;
 /// and out of memory, which only the points of a path can meet.
 pub fn read_query(alloc: Global, kind: QueryKind, rest: Option<&[u8]>) -> Result<Query, Refusal>
-    ensures query { IfOk result (λ query. arguments_asked kind (words_left rest.entry) ≡ Ok (asked_by query)) }
-    ensures refusal { IfErr result (λ refusal. refusal ≢ Refusal.Memory → arguments_asked kind (words_left rest.entry) ≡ Err refusal) }
-    ensures memory { result ≡ Err Refusal.Memory → IsOkAnd (arguments_asked kind (words_left rest.entry)) HasPoints }
+    ensures query { IfOk result (λ query. arguments_asked kind (words_left rest.entry)
+        ≡ Ok (asked_by query)) }
+    ensures refusal { IfErr result (λ refusal. refusal ≢ Refusal.Memory
+        → arguments_asked kind (words_left rest.entry) ≡ Err refusal) }
+    ensures memory { result ≡ Err Refusal.Memory
+        → IsOkAnd (arguments_asked kind (words_left rest.entry)) HasPoints }
 {
     let Some((metric, rest)) = read_metric(rest) else {
         return Err(Refusal::BadArguments);
@@ -72,7 +76,8 @@ pub fn read_query(alloc: Global, kind: QueryKind, rest: Option<&[u8]>) -> Result
 
 /// The query of the rectangle in the rest of a line.
 fn rect_query(metric: MetricKind, rest: Option<&[u8]>) -> Option<Query>
-    ensures { option_map asked_by result ≡ option_and_then (λ corners. rect_of metric corners) (pair (points (words_left rest.entry))) }
+    ensures { option_map asked_by result ≡ option_and_then (λ corners. rect_of metric corners)
+        (pair (points (words_left rest.entry))) }
 {
     let rect = read_rect(rest)?;
     Some(Query::Rect { metric, rect })
@@ -85,9 +90,12 @@ fn query_by(
     metric: MetricKind,
     rest: Option<&[u8]>,
 ) -> Result<Query, Refusal>
-    ensures query { IfOk result (λ query. query_asked kind metric (words_left rest.entry) ≡ Ok (asked_by query)) }
-    ensures refusal { IfErr result (λ refusal. refusal ≢ Refusal.Memory → query_asked kind metric (words_left rest.entry) ≡ Err refusal) }
-    ensures memory { result ≡ Err Refusal.Memory → IsOkAnd (query_asked kind metric (words_left rest.entry)) HasPoints }
+    ensures query { IfOk result (λ query. query_asked kind metric (words_left rest.entry)
+        ≡ Ok (asked_by query)) }
+    ensures refusal { IfErr result (λ refusal. refusal ≢ Refusal.Memory
+        → query_asked kind metric (words_left rest.entry) ≡ Err refusal) }
+    ensures memory { result ≡ Err Refusal.Memory
+        → IsOkAnd (query_asked kind metric (words_left rest.entry)) HasPoints }
 {
     match kind {
         QueryKind::At => match read_point(rest) {

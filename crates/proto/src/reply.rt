@@ -3,7 +3,8 @@
 ghost use Rattle.std.specs.Prelude.{◌≡◌, ◌≤◌, ◌+◌, [], ◌∷◌, ◌++◌, codes, length};
 ghost use Rattle.std.specs.Fmt.{decimal};
 ghost use Rattle.metric.specs.Refusal.{refusal_text};
-ghost use Rattle.proto.specs.Replies.{answer_text, cell_text, found_text, near_text, numbers_of, numbers_text, one_text, reply_line, spot_text};
+ghost use Rattle.proto.specs.Replies.{answer_text, cell_text, found_text, near_text, numbers_of};
+ghost use Rattle.proto.specs.Replies.{numbers_text, one_text, reply_line, spot_text};
 
 use crate::answer::Answer;
 use crate::text::Text;

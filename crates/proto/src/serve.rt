@@ -44,7 +44,8 @@ pub fn serve_stream<Id: StoreName, R: Wait, S: Stream>(
     stream: &mut S,
 ) -> (Session<Id>, End)
     requires { CanGoOn (S.wire stream.old) }
-    ensures served { result.1 ≢ End.Memory → IsServed Id.store (Some result.1) (S.wire stream.old) (free session)
+    ensures served { result.1 ≢ End.Memory
+        → IsServed Id.store (Some result.1) (S.wire stream.old) (free session)
         (S.wire stream.new) (free result.0) }
     ensures session { result.1 ≡ End.Memory → result.0 ≡ session }
     ensures untouched { result.1 ≡ End.Memory → S.wire stream.new ≡ S.wire stream.old }

@@ -1,6 +1,7 @@
 //! Splits a line into words, which are separated by single blanks.
 
-ghost use Rattle.std.specs.Prelude.{◌≡◌, ◌==◌, [], ◌∷◌, ◌<◌, ◌≤◌, ◌^◌, length, position, MatchOption, IfSome};
+ghost use Rattle.std.specs.Prelude.{◌≡◌, ◌==◌, [], ◌∷◌, ◌<◌, ◌≤◌, ◌^◌, length, position};
+ghost use Rattle.std.specs.Prelude.{MatchOption, IfSome};
 ghost use Rattle.std.specs.Str.Lines.{strip_carriage_return};
 ghost use Rattle.proto.specs.Words.{words, words_left, bytes_left};
 
@@ -24,7 +25,8 @@ pub fn split_word(bytes: &[u8]) -> (&[u8], Option<&[u8]>)
 
 /// The first word of the rest of a line, and the rest after it.
 pub fn next_word(rest: Option<&[u8]>) -> Option<(&[u8], Option<&[u8]>)>
-    ensures words { MatchOption result (words_left rest.entry ≡ []) (λ found. words_left rest.entry ≡ found.0.now ∷ words_left found.1) }
+    ensures words { MatchOption result (words_left rest.entry ≡ [])
+        (λ found. words_left rest.entry ≡ found.0.now ∷ words_left found.1) }
     ensures fewer { IfSome result (λ found. bytes_left found.1 < bytes_left rest.entry) }
     ensures small { bytes_left rest.entry ≤ 2 ^ 64 }
 {

@@ -58,7 +58,8 @@ pub fn verb_of(bytes: &[u8]) -> Option<Verb>
 /// none where its first word is none of the fifteen.
 #[tactic(auto, unfolding(crate::specs::Said::said, crate::specs::Said::verb_in))]
 pub fn split_verb(bytes: &[u8]) -> Option<(Verb, Option<&[u8]>)>
-    ensures verb { MatchOption result (verb_in bytes.now ≡ None) (λ found. verb_in bytes.now ≡ Some found.0) }
+    ensures verb { MatchOption result (verb_in bytes.now ≡ None)
+        (λ found. verb_in bytes.now ≡ Some found.0) }
     ensures said { MatchOption result (said bytes.now ≡ Err UnknownCommand)
         (λ found. said bytes.now ≡ verb_said found.0 (words_left found.1)) }
 {

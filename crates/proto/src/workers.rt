@@ -1,6 +1,7 @@
 //! Workers that serve streams, each with a session of its own.
 
-ghost use Rattle.std.specs.Prelude.{◌≡◌, ◌≤◌, [], All, length, map, reverse, vec_capacity, Some, IfOk, IfErr, IfSome, IsSome};
+ghost use Rattle.std.specs.Prelude.{◌≡◌, ◌≤◌, [], All, length, map, reverse, vec_capacity, Some};
+ghost use Rattle.std.specs.Prelude.{IfOk, IfErr, IfSome, IsSome};
 ghost use Rattle.metric.specs.declared.refusal.Refusal.TheVariants.{Memory};
 ghost use Rattle.proto.specs.Pools.{AreBoth, AreEach, AreRelated, HasWorked};
 ghost use Rattle.proto.specs.Wire.{CanGoOn};
@@ -40,7 +41,8 @@ pub fn pool<Id: StoreName + Send + Sync, R: Wait + Threads + Sync, T: Streams + 
     sessions: Vec<Session<Id>>,
     streams: T,
 ) -> Result<Vec<Session<Id>>, (Vec<Session<Id>>, Refusal)>
-    ensures worked { IfOk result (λ back. AreRelated (HasWorked T.fresh T.S.wire Id.store) sessions.items back.items) }
+    ensures worked { IfOk result
+        (λ back. AreRelated (HasWorked T.fresh T.S.wire Id.store) sessions.items back.items) }
     ensures refused { IfErr result (λ back. (back.0.items ≡ sessions.items) × (back.1 ≡ Memory)) }
 {
     let room = match Vec::with_capacity(alloc, sessions.len()) {
@@ -74,7 +76,8 @@ fn work_all<Id: StoreName + Send + Sync, R: Wait + Threads + Sync, T: Streams + 
         &|_, seat: &mut Option<Session<Id>>|
             requires { IsSome seat.now }
             ensures full { IsSome seat.exit.now }
-            ensures worked { AreBoth (HasWorked T.fresh T.S.wire Id.store) seat.entry.now seat.exit.now }
+            ensures worked { AreBoth (HasWorked T.fresh T.S.wire Id.store) seat.entry.now
+                seat.exit.now }
         { work(rt, alloc, store, streams, seat) },
     );
 }

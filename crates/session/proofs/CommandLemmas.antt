@@ -15,11 +15,17 @@ pub record HoldsStill (x y : ReaderView) : Type 0 where
   pub holds : y.holds ≡ x.holds
 
 -- however a command is answered, its seat has announced what it had, and holds what it did
-pub applied_still : (store : StoreId) (d e : DeskView) (x y : ReaderView) (c : Command) (answer : Result Reply Refusal) → IsApplied store d x c answer e y → HoldsStill x y
-applied_still store d e x y c answer applied = record { announced = ap (λ (q : ReaderView). q.announced) applied.stays; holds = ap (λ (q : ReaderView). q.holds) applied.stays }
+pub applied_still : (store : StoreId) (d e : DeskView) (x y : ReaderView) (c : Command)
+    (answer : Result Reply Refusal) → IsApplied store d x c answer e y → HoldsStill x y
+applied_still store d e x y c answer applied =
+    record {
+      announced = ap (λ (q : ReaderView). q.announced) applied.stays;
+      holds = ap (λ (q : ReaderView). q.holds) applied.stays;
+    }
 
 -- a session that has announced and holds what it did is still one
-pub session_holds : (store : StoreId) (x y : ReaderView) (size : Size) → IsSession store x size → HoldsStill x y → IsSession store y size
+pub session_holds : (store : StoreId) (x y : ReaderView) (size : Size) → IsSession store x size
+    → HoldsStill x y → IsSession store y size
 session_holds store x y size session still = record {
   quiet = still.announced ∙ session.quiet;
   free = still.holds ∙ session.free;

@@ -26,16 +26,27 @@ use Rattle.shelf.proofs.seats.ReaderSeats.{hold_stays}
 use Rattle.session.specs.Sessions.{PinView, IsPin, bitmap_pinned}
 
 -- a load by a seat that holds, or has announced nothing, changes what it has seen alone
-pub seen_alone : (z : Base) (x y : ReaderView) → (x.announced ≡ None) ⊎ ((v : ℕ) × (x.holds ≡ Some v)) → y ≡ loaded z y.seen x → y ≡ record x { seen = y.seen }
-seen_alone z x y steady is = is ∙ ap (λ (h : Option ℕ). record x { seen = y.seen; holds = h }) (hold_stays x (newest (story z (entries y.seen))) steady)
+pub seen_alone : (z : Base) (x y : ReaderView) → (x.announced ≡ None)
+    ⊎ ((v : ℕ) × (x.holds ≡ Some v)) → y ≡ loaded z y.seen x → y ≡ record x { seen = y.seen }
+seen_alone z x y steady is =
+    is ∙ ap (λ (h : Option ℕ). record x { seen = y.seen; holds = h })
+    (hold_stays x (newest (story z (entries y.seen))) steady)
 
 -- a load by a reader that has announced and holds nothing gives it the hold
-takes_hold : (announced : Option Seen) (holds : Option ℕ) (seen : List Entry) (n : ℕ) (o : Seen) → announced ≡ Some o → holds ≡ None → next_hold record { seen = seen; announced = announced; holds = holds } n ≡ Some n
+takes_hold : (announced : Option Seen) (holds : Option ℕ) (seen : List Entry) (n : ℕ) (o : Seen)
+    → announced ≡ Some o → holds ≡ None
+    → next_hold record { seen = seen; announced = announced; holds = holds } n ≡ Some n
 takes_hold announced holds seen n o some none = rw (some, none) refl
 
--- a seat that loads NOW, announces and loads NOW again holds the newest version that it then has seen
-taken_seat : (z : Base) (x a b d : ReaderView) → x.announced ≡ None → x.holds ≡ None → a ≡ loaded z a.seen x → b ≡ announcing z a → d ≡ loaded z d.seen b
-    → d ≡ record x { seen = d.seen; announced = Some (From (core.newest_seen z (as_reader a))); holds = Some (newest (story z (entries d.seen))) }
+-- a seat that loads NOW, announces and loads NOW again holds the newest version that it then has
+-- seen
+taken_seat : (z : Base) (x a b d : ReaderView) → x.announced ≡ None → x.holds ≡ None
+    → a ≡ loaded z a.seen x → b ≡ announcing z a → d ≡ loaded z d.seen b
+    → d ≡ record x {
+      seen = d.seen;
+      announced = Some (From (core.newest_seen z (as_reader a)));
+      holds = Some (newest (story z (entries d.seen)));
+    }
 taken_seat z x a b d quiet free first told last =
     let n = newest (story z (entries d.seen)) in
     let o : Seen = From (core.newest_seen z (as_reader a)) in
@@ -43,31 +54,50 @@ taken_seat z x a b d quiet free first told last =
     let none : a.holds ≡ None = ap (λ (q : ReaderView). q.holds) a_is ∙ free in
     last
     ∙ (ap (loaded z d.seen) told
-    ∙ (ap (λ (h : Option ℕ). record a { seen = d.seen; announced = Some o; holds = h }) (takes_hold (Some o) a.holds (entries a.seen) n o refl none)
-    ∙ ap (λ (q : ℕ × ℕ). record { number = q.0; seen = d.seen; made = q.1; announced = Some o; holds = Some n }) (λ i. (ap (λ (q : ReaderView). q.number) a_is i, ap (λ (q : ReaderView). q.made) a_is i))))
+    ∙ (ap (λ (h : Option ℕ). record a { seen = d.seen; announced = Some o; holds = h })
+    (takes_hold (Some o) a.holds (entries a.seen) n o refl none)
+    ∙ ap (λ (q : ℕ × ℕ). record {
+      number = q.0;
+      seen = d.seen;
+      made = q.1;
+      announced = Some o;
+      holds = Some n;
+    })
+    (λ i. (ap (λ (q : ReaderView). q.number) a_is i, ap (λ (q : ReaderView). q.made) a_is i))))
 
 -- a seat that has loaded NOW, announced and loaded NOW again may announce the newest version alone
-pub may_confirm : (z : Base) (x a b d : ReaderView) (version : ℕ) → x.announced ≡ None → x.holds ≡ None → a ≡ loaded z a.seen x → b ≡ announcing z a → d ≡ loaded z d.seen b
+pub may_confirm : (z : Base) (x a b d : ReaderView) (version : ℕ) → x.announced ≡ None
+    → x.holds ≡ None → a ≡ loaded z a.seen x → b ≡ announcing z a → d ≡ loaded z d.seen b
     → version ≡ newest (story z (entries d.seen)) → to_confirm d.announced d.holds ≡ Some version
 may_confirm z x a b d version quiet free first told last is =
-    ap (λ (q : ReaderView). to_confirm q.announced q.holds) (taken_seat z x a b d quiet free first told last) ∙ ap (λ (n : ℕ). Some n) (sym is)
+    ap (λ (q : ReaderView). to_confirm q.announced q.holds)
+    (taken_seat z x a b d quiet free first told last) ∙ ap (λ (n : ℕ). Some n) (sym is)
 
--- a seat that loads, announces, loads again and confirms holds the newest version, and has announced it alone
-pinned_seat : (z : Base) (x a b d y : ReaderView) (version : ℕ) → x.announced ≡ None → x.holds ≡ None → a ≡ loaded z a.seen x → b ≡ announcing z a → d ≡ loaded z d.seen b
-    → version ≡ newest (story z (entries d.seen)) → y ≡ confirming version d → y ≡ record x { seen = d.seen; announced = Some (Exact version); holds = Some version }
+-- a seat that loads, announces, loads again and confirms holds the newest version, and has
+-- announced it alone
+pinned_seat : (z : Base) (x a b d y : ReaderView) (version : ℕ) → x.announced ≡ None
+    → x.holds ≡ None → a ≡ loaded z a.seen x → b ≡ announcing z a → d ≡ loaded z d.seen b
+    → version ≡ newest (story z (entries d.seen)) → y ≡ confirming version d
+    → y ≡ record x { seen = d.seen; announced = Some (Exact version); holds = Some version }
 pinned_seat z x a b d y version quiet free first told last is confirmed =
     confirmed ∙ (ap (confirming version) (taken_seat z x a b d quiet free first told last)
-    ∙ ap (λ (n : ℕ). record x { seen = d.seen; announced = Some (Exact version); holds = Some n }) (sym is))
+    ∙ ap (λ (n : ℕ). record x { seen = d.seen; announced = Some (Exact version); holds = Some n })
+    (sym is))
 
 -- the bitmap of a pin stays where its session sees more of the log
-pub bitmap_stays : (store : StoreId) (p : PinView) (y : ReaderView) (slot : ℕ) (bitmap : Cells) (is_read : Bool) → IsPin store p slot bitmap is_read → IsPrefix p.seat.seen y.seen
+pub bitmap_stays : (store : StoreId) (p : PinView) (y : ReaderView) (slot : ℕ) (bitmap : Cells)
+    (is_read : Bool) → IsPin store p slot bitmap is_read → IsPrefix p.seat.seen y.seen
     → bitmap_pinned store record { seat = y; version = p.version } ≡ bitmap_pinned store p
 bitmap_stays store p y slot bitmap is_read pin began =
     let published = pin.published in
-    bitmap-beginning store.base (entries p.seat.seen) (entries y.seen) (prefix-entries p.seat.seen y.seen began) p.version published
+    bitmap-beginning store.base (entries p.seat.seen) (entries y.seen)
+    (prefix-entries p.seat.seen y.seen began) p.version published
 
--- a pin stays where its session sees more of the log: it holds the same version, which has the same bitmap
-pub pin_stays : (store : StoreId) (p : PinView) (y : ReaderView) (slot : ℕ) (bitmap : Cells) (is_read : Bool) → IsPin store p slot bitmap is_read → IsPrefix p.seat.seen y.seen → y.announced ≡ p.seat.announced → y.holds ≡ p.seat.holds
+-- a pin stays where its session sees more of the log: it holds the same version, which has the same
+-- bitmap
+pub pin_stays : (store : StoreId) (p : PinView) (y : ReaderView) (slot : ℕ) (bitmap : Cells)
+    (is_read : Bool) → IsPin store p slot bitmap is_read → IsPrefix p.seat.seen y.seen
+    → y.announced ≡ p.seat.announced → y.holds ≡ p.seat.holds
     → IsPin store record { seat = y; version = p.version } slot bitmap is_read
 pin_stays store p y slot bitmap is_read pin began announced holds =
     let z = store.base in
@@ -79,7 +109,12 @@ pin_stays store p y slot bitmap is_read pin began announced holds =
       announced = announced ∙ pin.announced;
       held = holds ∙ pin.held;
       published = omega arith;
-      slot_is = record { slot_is = pin.slot_is.slot_is ∙ sym (slot-beginning z (entries p.seat.seen) (entries y.seen) begins p.version published); below = pin.slot_is.below };
+      slot_is = record {
+        slot_is = pin.slot_is.slot_is
+            ∙ sym (slot-beginning z (entries p.seat.seen)
+            (entries y.seen) begins p.version published);
+        below = pin.slot_is.below;
+      };
       ready = pin.ready;
       of_map = subst (IsOfMap z) same pin.of_map;
       width_is = pin.width_is;
@@ -87,30 +122,46 @@ pin_stays store p y slot bitmap is_read pin began announced holds =
       bitmap_is = λ read. pin.bitmap_is read ∙ same;
     }
 
--- a session that has loaded, announced, loaded again and confirmed is a pin of the newest version, with room for its bitmap
-pub pin_made : (store : StoreId) (x a b d y : ReaderView) (version slot : ℕ) (bitmap : Cells) → IsReady store.base → x.announced ≡ None → x.holds ≡ None → a ≡ loaded store.base a.seen x → b ≡ announcing store.base a
-    → d ≡ loaded store.base d.seen b → version ≡ newest (story store.base (entries d.seen)) → y ≡ confirming version d → slot ≡ newest_slot store.base d.seen → slot < store.base.setting.versions
-    → IsLegal store.base.setting store.base.opening (entries d.seen) → bitmap.width ≡ store.base.opening.width → bitmap.height ≡ store.base.opening.height → IsPin store record { seat = y; version = version } slot bitmap false
-pin_made store x a b d y version slot bitmap ready quiet free first told last is confirmed slot_is below legal width height =
+-- a session that has loaded, announced, loaded again and confirmed is a pin of the newest version,
+-- with room for its bitmap
+pub pin_made : (store : StoreId) (x a b d y : ReaderView) (version slot : ℕ) (bitmap : Cells)
+    → IsReady store.base → x.announced ≡ None → x.holds ≡ None → a ≡ loaded store.base a.seen x
+    → b ≡ announcing store.base a
+    → d ≡ loaded store.base d.seen b → version ≡ newest (story store.base (entries d.seen))
+    → y ≡ confirming version d → slot ≡ newest_slot store.base d.seen
+    → slot < store.base.setting.versions
+    → IsLegal store.base.setting store.base.opening (entries d.seen)
+    → bitmap.width ≡ store.base.opening.width → bitmap.height ≡ store.base.opening.height
+    → IsPin store record { seat = y; version = version } slot bitmap false
+pin_made store x a b d y version slot bitmap ready quiet free first told last is confirmed slot_is
+    below legal width height =
     let z = store.base in
     let y_is = pinned_seat z x a b d y version quiet free first told last is confirmed in
     let seen : d.seen ≡ y.seen = sym (ap (λ (q : ReaderView). q.seen) confirmed) in
-    let newest_is : version ≡ newest (story z (entries y.seen)) = is ∙ ap (λ (l : List StoreEntry). newest (story z (entries l))) seen in
+    let newest_is : version ≡ newest (story z (entries y.seen)) = is
+    ∙ ap (λ (l : List StoreEntry). newest (story z (entries l))) seen in
     record {
       announced = ap (λ (q : ReaderView). q.announced) y_is;
       held = ap (λ (q : ReaderView). q.holds) y_is;
       published = omega arith;
       slot_is = record {
-        slot_is = slot_is ∙ (ap (λ (l : List StoreEntry). newest_slot z l) seen ∙ ap (λ (v : ℕ). slot_of z (story z (entries y.seen)) v) (sym newest_is));
+        slot_is = slot_is
+            ∙ (ap (λ (l : List StoreEntry). newest_slot z l) seen
+            ∙ ap (λ (v : ℕ). slot_of z (story z (entries y.seen)) v) (sym newest_is));
         below = below;
       };
       ready = ready;
-      of_map = ((IsTidy-legal z (entries y.seen) ready (subst (λ (l : List StoreEntry). IsLegal z.setting z.opening (entries l)) seen legal)).published version (omega arith));
+      of_map =
+          ((IsTidy-legal z (entries y.seen) ready
+          (subst (λ (l : List StoreEntry). IsLegal z.setting z.opening (entries l)) seen
+          legal)).published version (omega arith));
       width_is = width;
       height_is = height;
       bitmap_is = λ read. absurd (cc);
     }
 
 -- what is answered of a bitmap and its border is answered of an equal bitmap and an equal border
-pub asked_so : (P : Cells → Edge → Type 0) (cells held : Cells) (edge own : Edge) → cells ≡ held → edge ≡ own → P cells edge → P held own
-asked_so P cells held edge own same_cells same_edge answered = subst (λ (e : Edge). P held e) same_edge (subst (λ (b : Cells). P b edge) same_cells answered)
+pub asked_so : (P : Cells → Edge → Type 0) (cells held : Cells) (edge own : Edge) → cells ≡ held
+    → edge ≡ own → P cells edge → P held own
+asked_so P cells held edge own same_cells same_edge answered =
+    subst (λ (e : Edge). P held e) same_edge (subst (λ (b : Cells). P b edge) same_cells answered)

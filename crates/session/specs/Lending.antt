@@ -8,4 +8,5 @@ use Rattle.session.specs.contracts.pinned.Pinned.{the_row}
 
 -- a pin whose lent bitmap was returned is as it was
 abbrev pub KeepsPin : (Id : RattleType) → name.Ghosts Id.Denot → MutBor PinView → Fml
-KeepsPin Id named p = follows_so (the_row Id named) (the_row Id named) p.ghost_name none (λ _ _. ⊤) (λ n. n ≡ p.now)
+KeepsPin Id named p =
+    follows_so (the_row Id named) (the_row Id named) p.ghost_name none (λ _ _. ⊤) (λ n. n ≡ p.now)

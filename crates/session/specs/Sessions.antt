@@ -1,5 +1,6 @@
 -- What contracts see of pins and of sessions: this project's own rule.
-use Rattle.std.specs.Prelude.{◌≡◌, ◌+◌, ◌<◌, ◌≤◌, ℕ, Bool, true, false, All, List, drop, length, map, sum_by, Result, Some, None}
+use Rattle.std.specs.Prelude.{◌≡◌, ◌+◌, ◌<◌, ◌≤◌, ℕ, Bool, true, false, All, List, drop, length}
+use Rattle.std.specs.Prelude.{map, sum_by, Result, Some, None}
 use Rattle.std.specs.List.{range_with_len}
 use mathlib.Core.List.{IsPrefix}
 use Rattle.bits.specs.Cells.{Cells}
@@ -45,7 +46,8 @@ abbrev pub IsInLog : List StoreEntry → ReaderView → Type 0
 IsInLog log s = IsPrefix s.seen log × (made_by s.number log ≡ s.made)
 
 -- closing a store returns the end of one log: its last checkpoint's place, and the entries after it
-pub record IsHandedOut (store : StoreId) (handed : List ReaderView) (base : ℕ) (kept : List StoreEntry) : Type 0 where
+pub record IsHandedOut (store : StoreId) (handed : List ReaderView) (base : ℕ)
+    (kept : List StoreEntry) : Type 0 where
   pub log : List StoreEntry
   pub legal : IsLegal store.base.setting store.base.opening (entries log)
   -- it extends what each session has seen, and has as many entries by it as it counts
@@ -80,7 +82,8 @@ is_whole (looks.Words left) = false
 is_whole looks.Whole = true
 
 -- a pin holds a published version that it has seen, has announced exactly, and knows the slot of
-pub record IsPin (store : StoreId) (p : PinView) (slot : ℕ) (bitmap : Cells) (is_read : Bool) : Type 0 where
+pub record IsPin (store : StoreId) (p : PinView) (slot : ℕ) (bitmap : Cells) (is_read : Bool) :
+    Type 0 where
   pub announced : p.seat.announced ≡ Some (Exact p.version)
   pub held : p.seat.holds ≡ Some p.version
   pub published : p.version ≤ newest_of_session store p.seat
@@ -92,7 +95,8 @@ pub record IsPin (store : StoreId) (p : PinView) (slot : ℕ) (bitmap : Cells) (
   pub bitmap_is : is_read ≡ true → bitmap ≡ bitmap_pinned store p
 
 -- a pin's command is answered as its session's, and the pin keeps its version and its bitmap
-pub record IsPinApplied (store : StoreId) (old : DeskView) (p : PinView) (c : Command) (answer : Result Reply Refusal) (new : DeskView) (after : PinView) : Type 0 where
+pub record IsPinApplied (store : StoreId) (old : DeskView) (p : PinView) (c : Command)
+    (answer : Result Reply Refusal) (new : DeskView) (after : PinView) : Type 0 where
   pub applied : IsApplied store old p.seat c answer new after.seat
   pub version : after.version ≡ p.version
   pub bitmap : bitmap_pinned store after ≡ bitmap_pinned store p

@@ -32,7 +32,8 @@ impl Model for Blank {
 
     ghost view = { λ b. b.desk };
 
-    ghost invariant = { λ b. (b.readers.items ≡ all_newcomers b.desk) × (b.map ≡ b.desk.base.opening) };
+    ghost invariant = { λ b. (b.readers.items ≡ all_newcomers b.desk)
+        × (b.map ≡ b.desk.base.opening) };
 }
 
 /// The desk and the readers of a store with this bitmap.
@@ -41,9 +42,11 @@ fn parts(
     setting: Setting,
     map: &Bitmap,
 ) -> Result<(FreshDesk, Vec<FreshReader>), Refusal>
-    ensures base { IfOk result (λ parts. parts.0.base ≡ record { setting = setting; opening = map.now }) }
+    ensures base { IfOk result (λ parts. parts.0.base
+        ≡ record { setting = setting; opening = map.now }) }
     ensures readers { IfOk result (λ parts. parts.1.items ≡ all_newcomers parts.0) }
-    ensures refused { MatchOption (bad_field (tile_count map.now) setting) (IfErr result (λ refusal. refusal ≡ Memory))
+    ensures refused { MatchOption (bad_field (tile_count map.now) setting)
+        (IfErr result (λ refusal. refusal ≡ Memory))
         (λ field. result ≡ Err (BadSetting field)) }
 {
     setting.fits(map)?;
@@ -58,8 +61,10 @@ impl Blank {
     /// Refuses, in this order, the first field of the setting that isn't within its limits for this
     /// map (`BadSetting`; `Setting` has the limits), and when out of memory; returns the bitmap.
     pub fn of(alloc: Global, setting: Setting, map: Bitmap) -> Result<Blank, (Bitmap, Refusal)>
-        ensures base { IfOk result (λ blank. blank.base ≡ record { setting = setting; opening = map }) }
-        ensures refused { MatchOption (bad_field (tile_count map) setting) (IfErr result (λ back. back.1 ≡ Memory))
+        ensures base { IfOk result (λ blank. blank.base
+            ≡ record { setting = setting; opening = map }) }
+        ensures refused { MatchOption (bad_field (tile_count map) setting)
+            (IfErr result (λ back. back.1 ≡ Memory))
             (λ field. result ≡ Err (map, BadSetting field)) }
         ensures back { IfErr result (λ back. back.0 ≡ map) }
     {

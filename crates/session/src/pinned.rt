@@ -43,7 +43,8 @@ impl<Id: StoreName> Model for Pinned<Id> {
 
     ghost view = { λ p. record { seat = p.seat; version = p.version } };
 
-    ghost invariant = { λ p. IsPin Id.store record { seat = p.seat; version = p.version } p.slot p.bitmap (is_whole p.looks) };
+    ghost invariant = { λ p. IsPin Id.store record { seat = p.seat; version = p.version } p.slot
+        p.bitmap (is_whole p.looks) };
 }
 
 impl<Id: StoreName> Pinned<Id> {
@@ -53,7 +54,8 @@ impl<Id: StoreName> Pinned<Id> {
     pub fn version(&self) -> u32
         ensures version { result ≡ self.now.version }
         ensures published { result ≤ newest_of_session Id.store self.now.seat }
-        ensures holds { (self.now.seat.holds ≡ Some result) × (self.now.seat.announced ≡ Some (Exact result)) }
+        ensures holds { (self.now.seat.holds ≡ Some result)
+            × (self.now.seat.announced ≡ Some (Exact result)) }
     {
         self.version
     }
@@ -109,7 +111,8 @@ impl<Id: StoreName> Pinned<Id> {
         ensures began { IsPrefix self.old.seat.seen self.new.seat.seen }
         ensures bitmap { bitmap_pinned Id.store self.new ≡ bitmap_pinned Id.store self.old }
         ensures learned { IsPrefix ticket self.new.seat.seen }
-        ensures legal { IsLegal Id.store.base.setting Id.store.base.opening (entries self.new.seat.seen) }
+        ensures legal { IsLegal Id.store.base.setting Id.store.base.opening
+            (entries self.new.seat.seen) }
     {
         self.seat.learn(ticket);
     }

@@ -49,7 +49,8 @@ pub fn look_word<Id: StoreName>(
     requires row { y < (bitmap_seen Id.store seat.old version).height }
     requires index { index < across }
     ensures seat { seat.new ≡ seat.old }
-    ensures word { result ≡ slice_index (words_of_row (bitmap_seen Id.store seat.old version) y) index }
+    ensures word { result ≡ slice_index (words_of_row (bitmap_seen Id.store seat.old version) y)
+        index }
 {
     let block = seat.look_map(version, slot, y / 64 * across + index);
     seat.look_tile(block, y % 64)

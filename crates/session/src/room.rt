@@ -58,7 +58,8 @@ impl Room {
         requires width { IsSide self.old.width }
         requires height { IsSide self.old.height }
         ensures room { self.new ≡ self.old }
-        ensures size { IfOk result (λ b. (b.width ≡ self.old.width) × (b.height ≡ self.old.height)) }
+        ensures size { IfOk result (λ b. (b.width ≡ self.old.width)
+            × (b.height ≡ self.old.height)) }
         ensures memory { IfErr result (λ refusal. refusal ≡ Memory) }
     {
         match self.bitmap.take() {

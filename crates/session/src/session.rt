@@ -73,10 +73,14 @@ impl<Id: StoreName> Session<Id> {
           announced = pinned.seat.announced;
           holds = Some pinned.version;
         }) }
-        ensures announced { IfOk result (λ pinned. pinned.seat.announced ≡ Some (Exact pinned.version)) }
+        ensures announced { IfOk result
+            (λ pinned. pinned.seat.announced ≡ Some (Exact pinned.version)) }
         ensures began { IfOk result (λ pinned. IsPrefix self.seen pinned.seat.seen) }
-        ensures version { IfOk result (λ pinned. pinned.version ≡ newest_of_session Id.store pinned.seat) }
-        ensures legal { IfOk result (λ pinned. IsLegal Id.store.base.setting Id.store.base.opening (entries pinned.seat.seen)) }
+        ensures version { IfOk result (λ pinned. pinned.version
+            ≡ newest_of_session Id.store pinned.seat) }
+        ensures legal { IfOk result
+            (λ pinned. IsLegal Id.store.base.setting Id.store.base.opening
+            (entries pinned.seat.seen)) }
         ensures refused { IfErr result (λ back. (back.0 ≡ self) × (back.1 ≡ Memory)) }
     {
         let Session { mut seat, mut room } = self;
@@ -106,7 +110,8 @@ impl<Id: StoreName> Session<Id> {
         ensures seat { self.new ≡ record self.old { seen = self.new.seen } }
         ensures began { IsPrefix self.old.seen self.new.seen }
         ensures learned { IsPrefix ticket self.new.seen }
-        ensures legal { IsLegal Id.store.base.setting Id.store.base.opening (entries self.new.seen) }
+        ensures legal { IsLegal Id.store.base.setting Id.store.base.opening
+            (entries self.new.seen) }
     {
         self.seat.learn(ticket);
     }

@@ -13,7 +13,8 @@ pub record Closed : Type 0 where
 
 -- how many readers were given up, and what they have made, by what the keeper knows
 abbrev pub closed_of : KeeperView → Closed
-closed_of k = record { log = k.log; readers = length k.gone; made = sum_by (λ n. made_by n k.log) k.gone }
+closed_of k =
+    record { log = k.log; readers = length k.gone; made = sum_by (λ n. made_by n k.log) k.gone }
 
 -- there is no current command, each commit was met, and no reader was given up twice
 pub record IsClosing (k : KeeperView) : Type 0 where

@@ -72,7 +72,8 @@ as_reader x = record { seen = entries x.seen; announced = x.announced; holds = x
 
 -- the state of the core with these words, the keeper's view without callers, and these readers
 abbrev pub core_of : Base → List ℕ → KeeperView → List Reader → core.State
-core_of z words k readers = record { base = z; words = words; keeper = as_keeper k; readers = readers }
+core_of z words k readers =
+    record { base = z; words = words; keeper = as_keeper k; readers = readers }
 
 -- the idle keeper: this many readers dealt, no command, each commit met, and no reader given up
 abbrev pub resting : ℕ → List StoreEntry → KeeperView
@@ -80,7 +81,8 @@ resting dealt log = record { log = log; task = None; unmet = None; dealt = dealt
 
 -- a reader at the opening has seen the empty log
 abbrev pub reader_at_opening : ℕ → ReaderView
-reader_at_opening number = record { number = number; seen = []; made = 0; announced = None; holds = None }
+reader_at_opening number =
+    record { number = number; seen = []; made = 0; announced = None; holds = None }
 
 -- the keeper in a seat of the keeper; for a seat of another role an idle one
 abbrev pub keeper_in : Role → KeeperView

@@ -11,7 +11,8 @@ use Rattle.map_core.specs.Runs.{fresh_reader}
 use Rattle.map_core.specs.Safe.{times}
 use Rattle.map_core.specs.Sound.{IsWhole}
 use Rattle.shelf.specs.declared.request.Request.{Request}
-use Rattle.shelf.specs.Roles.{KeeperView, ReaderView, Role, idle, keeping, reading, meeting, ticket, learning, entries, made_by, unmet_by, as_reader, core_of}
+use Rattle.shelf.specs.Roles.{KeeperView, ReaderView, Role, idle, keeping, reading, meeting, ticket}
+use Rattle.shelf.specs.Roles.{learning, entries, made_by, unmet_by, as_reader, core_of}
 
 -- this holds between the keeper, the core's readers and a reader's seat
 pub record Fits (z : Base) (k : KeeperView) (readers : List Reader) (x : ReaderView) : Type 0 where
@@ -28,7 +29,8 @@ pub record Fits (z : Base) (k : KeeperView) (readers : List Reader) (x : ReaderV
   pub counted : made_by x.number k.log ≡ x.made + unmet_by x.number k.unmet
 
 -- what a seat knows, given the keeper's view and its seat, and the seats that have the readers
-module _ (z : Base) (k : KeeperView) (readers : List Reader) (keeper : ℕ) (owner : ℕ → ℕ) (seat : ℕ) where
+module _ (z : Base) (k : KeeperView) (readers : List Reader) (keeper : ℕ) (owner : ℕ → ℕ)
+    (seat : ℕ) where
   abbrev pub Knows : Role → Type 0
   Knows idle = Unit {0}
   Knows (keeping u) = (seat ≡ keeper) × (u ≡ k)
@@ -62,7 +64,8 @@ pub record IsSomeSeat (Kind : Role → Type 0) (views : List Role) : Type 0 wher
   pub seated : IsSeated Kind views seat
 
 -- what the seats know agrees with one keeper's view and with the core's readers. No word is read.
-pub record AreSeats (z : Base) (k : KeeperView) (readers : List Reader) (views : List Role) : Type 0 where
+pub record AreSeats (z : Base) (k : KeeperView) (readers : List Reader) (views : List Role) :
+    Type 0 where
   -- the seats that have the keeper's view and the readers
   pub keeper : ℕ
   pub owner : ℕ → ℕ
@@ -70,14 +73,17 @@ pub record AreSeats (z : Base) (k : KeeperView) (readers : List Reader) (views :
   pub few : k.dealt ≤ z.setting.sessions
   pub callers : All (λ e. e.by < k.dealt) k.log
   -- a reader not dealt yet is fresh, and one given up has announced nothing
-  pub fresh : (r : ℕ) → k.dealt ≤ r → r < z.setting.sessions → slice_get readers r ≡ Some fresh_reader
-  pub left : (r : ℕ) (y : Reader) → 1 ≤ times r k.gone → slice_get readers r ≡ Some y → y.announced ≡ None
+  pub fresh : (r : ℕ) → k.dealt ≤ r → r < z.setting.sessions
+      → slice_get readers r ≡ Some fresh_reader
+  pub left : (r : ℕ) (y : Reader) → 1 ≤ times r k.gone → slice_get readers r ≡ Some y
+      → y.announced ≡ None
   -- a reader that is dealt and not given up has a seat
   pub seated : (r : ℕ) → r < k.dealt → times r k.gone ≡ 0 → IsSeated (HasReader r) views (owner r)
   -- the keeper's view has a seat
   pub kept : IsSeated HasKeeper views keeper
   -- each seat's knowledge is valid
-  pub each_seat : (j : ℕ) (v : Role) → get_elem? views j ≡ maybe.some v → Knows z k readers keeper owner j v
+  pub each_seat : (j : ℕ) (v : Role) → get_elem? views j ≡ maybe.some v
+      → Knows z k readers keeper owner j v
 
 -- there is a state of the core with the table's words, whose keeper and readers the seats know
 pub record Agrees (z : Base) (s : State Request Role) : Type 0 where

@@ -1,5 +1,6 @@
 -- What each step does to the view of its seat, and what it proves: this project's own rule.
-use Rattle.std.specs.Prelude.{◌≡◌, ℕ, ◌+◌, ◌*◌, ◌<◌, ◌≤◌, List, [], ◌∷◌, ◌++◌, All, length, slice_index, Option, Some, None}
+use Rattle.std.specs.Prelude.{◌≡◌, ℕ, ◌+◌, ◌*◌, ◌<◌, ◌≤◌, List, [], ◌∷◌, ◌++◌, All, length}
+use Rattle.std.specs.Prelude.{slice_index, Option, Some, None}
 use mathlib.Core.List.{IsPrefix}
 use mathlib.Core.Option as maybe
 use Rattle.atomic_table.specs.Table.{Me, Step}
@@ -17,7 +18,9 @@ use Rattle.map_core.specs.Safe.{times}
 use Rattle.map_core.specs.Tidy.{IsReady}
 use Rattle.shelf.specs.declared.store_entry.StoreEntry.{StoreEntry}
 use Rattle.shelf.specs.declared.request.Request.{Request}
-use Rattle.shelf.specs.Roles.{Task, KeeperView, ReaderView, Role, idle, keeping, reading, meeting, ticket, learning, entries, made_by, unmet_by, reader_at_opening, as_reader}
+use Rattle.shelf.specs.Roles.{Task, KeeperView, ReaderView, Role, idle, keeping, reading, meeting}
+use Rattle.shelf.specs.Roles.{ticket, learning, entries, made_by, unmet_by, reader_at_opening}
+use Rattle.shelf.specs.Roles.{as_reader}
 
 -- ---- what views become
 
@@ -31,7 +34,8 @@ confirming version x = record x { announced = Some (Exact version) }
 
 -- a reader has loaded NOW: it has seen this log, and holds the newest version if it had to hold one
 abbrev pub loaded : Base → List StoreEntry → ReaderView → ReaderView
-loaded z log x = record x { seen = log; holds = next_hold (as_reader x) (newest (story z (entries log))) }
+loaded z log x =
+    record x { seen = log; holds = next_hold (as_reader x) (newest (story z (entries log))) }
 
 -- the reader has left
 abbrev pub leaving : ReaderView → ReaderView
@@ -39,7 +43,13 @@ leaving x = record x { announced = None; holds = None }
 
 -- the keeper has taken this command
 abbrev pub with_command : KeeperView → ℕ → Command → KeeperView
-with_command k by command = record k { task = Some record { by = by; hand = record { command = command; done = 0; scanned = [] } } }
+with_command k by command =
+    record k {
+      task = Some record {
+        by = by;
+        hand = record { command = command; done = 0; scanned = [] };
+      };
+    }
 
 -- the keeper has stored one more word
 abbrev pub wrote : KeeperView → Task → KeeperView
@@ -47,7 +57,13 @@ wrote k t = record k { task = Some record t { hand = record t.hand { done = t.ha
 
 -- the keeper has loaded one more reader's word
 abbrev pub scanned : KeeperView → Task → ℕ → KeeperView
-scanned k t word = record k { task = Some record t { hand = record t.hand { done = t.hand.done + 1; scanned = t.hand.scanned ++ word ∷ [] } } }
+scanned k t word =
+    record k {
+      task = Some record t {
+        hand =
+            record t.hand { done = t.hand.done + 1; scanned = t.hand.scanned ++ word ∷ [] };
+      };
+    }
 
 -- the slot of a log's newest version
 abbrev pub newest_slot : Base → List StoreEntry → ℕ
@@ -77,7 +93,9 @@ announces z st m word m' = (x : ReaderView) → m.0 ≡ reading x → m' ≡ (re
 
 -- a reader's store of the version that it holds
 abbrev pub confirms : At → Sat → ℕ → Sat → Type 0
-confirms st m word m' = (x : ReaderView) (v : ℕ) → m.0 ≡ reading x → x.holds ≡ Some v → m' ≡ (reading (confirming v x), m.1)
+confirms st m word m' =
+    (x : ReaderView) (v : ℕ) → m.0 ≡ reading x → x.holds ≡ Some v
+    → m' ≡ (reading (confirming v x), m.1)
 
 -- a reader stores 0
 abbrev pub leaves : At → Sat → ℕ → Sat → Type 0
@@ -93,7 +111,8 @@ pub record Sees (z : Base) (x : ReaderView) (word : ℕ) (log : List StoreEntry)
 
 -- a reader loads NOW
 abbrev pub taken : Base → At → Sat → ℕ → Sat → Type 0
-taken z st m word m' = (x : ReaderView) → m.0 ≡ reading x → (log : List StoreEntry) × (m' ≡ (reading (loaded z log x), m.1)) × Sees z x word log
+taken z st m word m' = (x : ReaderView) → m.0 ≡ reading x → (log : List StoreEntry)
+    × (m' ≡ (reading (loaded z log x), m.1)) × Sees z x word log
 
 -- the version that a reader holds has this block at a position
 pub record HasBlock (z : Base) (x : ReaderView) (block : ℕ) : Type 0 where
@@ -107,14 +126,18 @@ pub record HasBlock (z : Base) (x : ReaderView) (block : ℕ) : Type 0 where
 abbrev pub looks : Base → At → Sat → ℕ → Sat → Type 0
 looks z st m word m' =
     (m' ≡ m)
-    × ((x : ReaderView) (v p : ℕ) → m.0 ≡ reading x → x.holds ≡ Some v → p < tiles z → st.word ≡ map_at z (slot_of z (story z (entries x.seen)) v) p
-    → (word ≡ slice_index (directory_of (blocks z (entries x.seen)) v) p) × (word < z.setting.blocks) × IsReady z)
-    × ((x : ReaderView) (v p i : ℕ) → m.0 ≡ reading x → x.holds ≡ Some v → p < tiles z → i < 64 → st.word ≡ tile_at z (slice_index (directory_of (blocks z (entries x.seen)) v) p) i
+    × ((x : ReaderView) (v p : ℕ) → m.0 ≡ reading x → x.holds ≡ Some v → p < tiles z
+    → st.word ≡ map_at z (slot_of z (story z (entries x.seen)) v) p
+    → (word ≡ slice_index (directory_of (blocks z (entries x.seen)) v) p)
+    × (word < z.setting.blocks) × IsReady z)
+    × ((x : ReaderView) (v p i : ℕ) → m.0 ≡ reading x → x.holds ≡ Some v → p < tiles z → i < 64
+    → st.word ≡ tile_at z (slice_index (directory_of (blocks z (entries x.seen)) v) p) i
     → word ≡ row_word (bitmap_of (story z (entries x.seen)) v) p i)
 
 -- the keeper takes the command that it is given
 abbrev pub orders : At → Sat → ℕ → Sat → Type 0
-orders st m word m' = (k : KeeperView) (a : Request) → m.0 ≡ keeping k → st.said ≡ maybe.some a → m' ≡ (keeping (with_command k a.by a.command), m.1)
+orders st m word m' = (k : KeeperView) (a : Request) → m.0 ≡ keeping k → st.said ≡ maybe.some a
+    → m' ≡ (keeping (with_command k a.by a.command), m.1)
 
 -- this word, at this index, is the next that the current command stores
 pub record IsNextWrite (z : Base) (k : KeeperView) (at word : ℕ) : Type 0 where
@@ -122,8 +145,10 @@ pub record IsNextWrite (z : Base) (k : KeeperView) (at word : ℕ) : Type 0 wher
   pub in_hand : k.task ≡ Some task
   pub publish : task.hand.command ≡ Publish
   pub more : task.hand.done < steps_before z (blocks z (entries k.log)) Publish
-  pub at_is : at ≡ (write_of z (story z (entries k.log)) (blocks z (entries k.log)) task.hand.done).at
-  pub word_is : word ≡ (write_of z (story z (entries k.log)) (blocks z (entries k.log)) task.hand.done).word
+  pub at_is : at ≡ (write_of z (story z (entries k.log))
+      (blocks z (entries k.log)) task.hand.done).at
+  pub word_is : word ≡ (write_of z (story z (entries k.log))
+      (blocks z (entries k.log)) task.hand.done).word
 
 -- this reader's word is the next that the current command loads
 pub record IsNextScan (z : Base) (k : KeeperView) (reader : ℕ) : Type 0 where
@@ -135,7 +160,8 @@ pub record IsNextScan (z : Base) (k : KeeperView) (reader : ℕ) : Type 0 where
 
 -- the keeper stores a word of a publish
 abbrev pub writes : At → Sat → ℕ → Sat → Type 0
-writes st m word m' = (k : KeeperView) (t : Task) → m.0 ≡ keeping k → k.task ≡ Some t → m' ≡ (keeping (wrote k t), m.1)
+writes st m word m' = (k : KeeperView) (t : Task) → m.0 ≡ keeping k → k.task ≡ Some t
+    → m' ≡ (keeping (wrote k t), m.1)
 
 -- the keeper loads a reader's word, and what it announces is a version that exists
 abbrev pub scans : Base → At → Sat → ℕ → Sat → Type 0
@@ -153,7 +179,8 @@ pub record MayCommit (z : Base) (k : KeeperView) : Type 0 where
 -- the keeper stores NOW
 abbrev pub commits : Base → At → Sat → ℕ → Sat → Type 0
 commits z st m word m' = (k : KeeperView) (t : Task) → m.0 ≡ keeping k → k.task ≡ Some t
-    → (m' ≡ (keeping (committed z k t), m.1)) × IsLegal z.setting z.opening (entries (committed z k t).log)
+    → (m' ≡ (keeping (committed z k t), m.1))
+    × IsLegal z.setting z.opening (entries (committed z k t).log)
 
 -- ---- meetings, tickets, and the end
 
@@ -184,24 +211,40 @@ pub record Meets (z : Base) (k : KeeperView) (x : ReaderView) : Type 0 where
 
 -- the load of a meeting, after which the reader has met the keeper
 abbrev pub meets : Base → At → Sat → ℕ → Sat → Type 0
-meets z st m word m' = (k : KeeperView) (x : ReaderView) → m.0 ≡ meeting k x → (m' ≡ (meeting (met k) (met_by z k x), m.1)) × Meets z k x
+meets z st m word m' = (k : KeeperView) (x : ReaderView) → m.0 ≡ meeting k x
+    → (m' ≡ (meeting (met k) (met_by z k x), m.1)) × Meets z k x
 
 -- the load after which a reader is given up
 abbrev pub gives_up : Base → At → Sat → ℕ → Sat → Type 0
-gives_up z st m word m' = (k : KeeperView) (x : ReaderView) → m.0 ≡ meeting k x → (m' ≡ (keeping (without k x), m.1)) × Meets z k x
+gives_up z st m word m' =
+    (k : KeeperView) (x : ReaderView) → m.0 ≡ meeting k x → (m' ≡ (keeping (without k x), m.1))
+    × Meets z k x
 
 -- a reader with a ticket's view loads NOW, and has then seen all that it and the ticket had seen
 abbrev pub learns : Base → At → Sat → ℕ → Sat → Type 0
 learns z st m word m' = (x : ReaderView) (seen : List StoreEntry) → m.0 ≡ learning x seen
-    → (log : List StoreEntry) × (m' ≡ (reading (loaded z log x), m.1)) × Sees z x word log × IsPrefix seen log
+    → (log : List StoreEntry) × (m' ≡ (reading (loaded z log x), m.1)) × Sees z x word log
+    × IsPrefix seen log
 
 -- the keeper's current command is a collect, whose scan has seen these words
 abbrev pub scanning : KeeperView → ℕ → List ℕ → KeeperView
-scanning k by words = record k { task = Some record { by = by; hand = record { command = Collect; done = length words; scanned = words } } }
+scanning k by words =
+    record k {
+      task = Some record {
+        by = by;
+        hand = record { command = Collect; done = length words; scanned = words };
+      };
+    }
 
 -- the keeper's current command is a publish, with this many words stored
 abbrev pub writing : KeeperView → ℕ → ℕ → KeeperView
-writing k by n = record k { task = Some record { by = by; hand = record { command = Publish; done = n; scanned = [] } } }
+writing k by n =
+    record k {
+      task = Some record {
+        by = by;
+        hand = record { command = Publish; done = n; scanned = [] };
+      };
+    }
 
 -- how many own blocks a position has: one or none
 abbrev pub one_own : Option ℕ → ℕ
@@ -228,7 +271,8 @@ handed (reading x) (ticket seen) = learning x seen
 handed role other = role
 
 -- a reader's seat has learned a ticket by the load of this word
-pub record LearnsIt (z : Base) (x : ReaderView) (seen : List StoreEntry) (word : ℕ) (views : List Role) : Type 0 where
+pub record LearnsIt (z : Base) (x : ReaderView) (seen : List StoreEntry) (word : ℕ)
+    (views : List Role) : Type 0 where
   pub log : List StoreEntry
   pub views_are : views ≡ reading (loaded z log x) ∷ []
   pub sees : Sees z x word log

@@ -18,6 +18,23 @@ readers_of store = store.base.setting.sessions
 abbrev pub no_store : StoreId
 no_store =
     record {
-      table = record { words = 0; slots = 0; views_name = 0; atom = 0; block = 0; offset = 0; slot_names = [] };
-      base = record { setting = record { blocks = 0; versions = 0; sessions = 0; log = 0; edge = Open }; opening = no_bitmap };
+      table = record {
+        words = 0;
+        slots = 0;
+        views_name = 0;
+        atom = 0;
+        block = 0;
+        offset = 0;
+        slot_names = [];
+      };
+      base = record {
+        setting = record {
+          blocks = 0;
+          versions = 0;
+          sessions = 0;
+          log = 0;
+          edge = Open;
+        };
+        opening = no_bitmap;
+      };
     }

@@ -41,7 +41,8 @@ impl<Id: StoreName> Model for Closing<Id> {
 
     ghost view = { λ s. closed_of (keeper_in s.seat.me.0) };
 
-    ghost invariant = { λ s. IsClosingSeat Id.store (arc_value s.words).shared.table_id (arc_value s.words).shared.key s.seat.table_id s.plan s.seat.me };
+    ghost invariant = { λ s. IsClosingSeat Id.store (arc_value s.words).shared.table_id
+        (arc_value s.words).shared.key s.seat.table_id s.plan s.seat.me };
 }
 
 /// The steps of giving up a reader: its view is joined to that of the keeper's seat, and NOW is
@@ -52,7 +53,8 @@ fn give_up_on<Id: StoreName>(words: &Words, keeper: &mut TableSeat, reader: Badg
     requires roles { AreKeeperAndReader keeper.old.me reader.views }
     requires quiet { (reader_on reader.views).announced ≡ None }
     ensures table { keeper.new.table_id ≡ keeper.old.table_id }
-    ensures keeper { keeper.new.me ≡ (keeping (without (keeper_in keeper.old.me.0) (reader_on reader.views)), []) }
+    ensures keeper { keeper.new.me
+        ≡ (keeping (without (keeper_in keeper.old.me.0) (reader_on reader.views)), []) }
     ensures meets { Meets Id.store.base (keeper_in keeper.old.me.0) (reader_on reader.views) }
 {
     lay_together(words, keeper, reader);
@@ -92,7 +94,10 @@ impl<Id: StoreName> Closing<Id> {
     /// Requires that it has announced nothing.
     pub fn give_up(&mut self, reader: ReaderSeat<Id>)
         requires { reader.announced ≡ None }
-        ensures counts { self.new ≡ record self.old { readers = self.old.readers + 1; made = self.old.made + reader.made } }
+        ensures counts { self.new ≡ record self.old {
+          readers = self.old.readers + 1;
+          made = self.old.made + reader.made;
+        } }
         ensures began { IsPrefix reader.seen self.old.log }
         ensures own { made_by reader.number self.old.log ≡ reader.made }
     {

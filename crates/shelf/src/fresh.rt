@@ -32,7 +32,8 @@ impl Model for FreshKeeper {
 
     ghost view = { λ s. store_at s.seat.table_id (arc_value s.words).shared.key };
 
-    ghost invariant = { λ s. IsFreshKeeper (arc_value s.words).shared.table_id (arc_value s.words).shared.key s.seat.table_id s.plan s.seat.me };
+    ghost invariant = { λ s. IsFreshKeeper (arc_value s.words).shared.table_id
+        (arc_value s.words).shared.key s.seat.table_id s.plan s.seat.me };
 }
 
 impl FreshKeeper {
@@ -73,9 +74,11 @@ impl Model for FreshReader {
 
     ghost Value = { Newcomer };
 
-    ghost view = { λ s. newcomer s.number (store_at s.seat.table_id (arc_value s.words).shared.key) };
+    ghost view = { λ s. newcomer s.number
+        (store_at s.seat.table_id (arc_value s.words).shared.key) };
 
-    ghost invariant = { λ s. IsFreshReader (arc_value s.words).shared.table_id (arc_value s.words).shared.key s.seat.table_id s.plan s.seat.views s.number };
+    ghost invariant = { λ s. IsFreshReader (arc_value s.words).shared.table_id
+        (arc_value s.words).shared.key s.seat.table_id s.plan s.seat.views s.number };
 }
 
 impl FreshReader {

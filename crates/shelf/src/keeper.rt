@@ -7,7 +7,8 @@ ghost use Rattle.map_core.specs.Views.{story};
 ghost use Rattle.map_core.specs.Words.{IsPlan};
 ghost use Rattle.shelf.specs.Seats.{is_publish};
 ghost use Rattle.shelf.specs.Roles.{Task, entries};
-ghost use Rattle.shelf.specs.Steps.{with_command, wrote, scanned, IsNextWrite, IsNextScan, MayCommit, committed, newest_slot};
+ghost use Rattle.shelf.specs.Steps.{with_command, wrote, scanned, IsNextWrite, IsNextScan};
+ghost use Rattle.shelf.specs.Steps.{MayCommit, committed, newest_slot};
 
 use crate::name::StoreName;
 use crate::plays::{Commit, Order, Scan, Write};
@@ -46,7 +47,9 @@ impl<Id: StoreName> Model for KeeperSeat<Id> {
 
     ghost view = { λ s. keeper_in s.seat.me.0 };
 
-    ghost invariant = { λ s. IsKeeperSeat Id.store (arc_value s.words).shared.table_id (arc_value s.words).shared.key s.seat.table_id s.plan s.seat.me s.place s.version s.slot s.publishes s.unmet };
+    ghost invariant = { λ s. IsKeeperSeat Id.store (arc_value s.words).shared.table_id
+        (arc_value s.words).shared.key s.seat.table_id s.plan s.seat.me s.place s.version s.slot
+        s.publishes s.unmet };
 }
 
 impl<Id: StoreName> KeeperSeat<Id> {
@@ -63,7 +66,8 @@ impl<Id: StoreName> KeeperSeat<Id> {
     /// after the log.
     pub fn order(&mut self, asked: &Request)
         requires none { self.old.task ≡ None }
-        requires accepted { refused Id.store.base.setting (story Id.store.base (entries self.old.log)) asked.now.command ≡ None }
+        requires accepted { refused Id.store.base.setting
+            (story Id.store.base (entries self.old.log)) asked.now.command ≡ None }
         ensures { self.new ≡ with_command self.old asked.now.by asked.now.command }
     {
         let now = Now {
@@ -96,7 +100,8 @@ impl<Id: StoreName> KeeperSeat<Id> {
     /// Requires that it is the next reader, from 0 on.
     pub fn scan(&mut self, reader: u32) -> u64
         requires { IsNextScan Id.store.base self.old reader }
-        ensures scanned { (t : Task) → self.old.task ≡ Some t → self.new ≡ scanned self.old t result }
+        ensures scanned { (t : Task) → self.old.task ≡ Some t
+            → self.new ≡ scanned self.old t result }
         ensures there { result ≤ 2 * newest (story Id.store.base (entries self.old.log)) + 2 }
     {
         let place = Plan::pin_at(reader);
@@ -111,8 +116,10 @@ impl<Id: StoreName> KeeperSeat<Id> {
     /// keeper. The slot is that of the version that is newest then.
     pub fn commit(&mut self, slot: u32)
         requires may { MayCommit Id.store.base self.old }
-        requires slot { (t : Task) → self.old.task ≡ Some t → slot ≡ newest_slot Id.store.base (committed Id.store.base self.old t).log }
-        ensures committed { (t : Task) → self.old.task ≡ Some t → self.new ≡ committed Id.store.base self.old t }
+        requires slot { (t : Task) → self.old.task ≡ Some t
+            → slot ≡ newest_slot Id.store.base (committed Id.store.base self.old t).log }
+        ensures committed { (t : Task) → self.old.task ≡ Some t
+            → self.new ≡ committed Id.store.base self.old t }
         ensures legal { IsLegal Id.store.base.setting Id.store.base.opening (entries self.new.log) }
     {
         self.place += 1;

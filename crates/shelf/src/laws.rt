@@ -18,13 +18,15 @@ pub fn rule_is_a_state()
 /// Each step by which a seat stores or loads a word, and the order of a command, is the core's
 /// event of its kind, in that state, and stores in no live block.
 pub fn seats_do_events()
-    ensures { (z : Base) (s : State Request Role) (id : ℕ) (r : Agrees z s) → StepsAreEvents z s r id }
+    ensures { (z : Base) (s : State Request Role) (id : ℕ) (r : Agrees z s)
+        → StepsAreEvents z s r id }
 {}
 
 /// Where seats exchange views, and at the loads of a store that is closed, no event happens: one
 /// state of the core is that of the table before and after.
 pub fn handings_are_no_events()
-    ensures { (z : Base) (s : State Request Role) (id other : ℕ) (r : Agrees z s) → HandingsAreNone z s r id other }
+    ensures { (z : Base) (s : State Request Role) (id other : ℕ) (r : Agrees z s)
+        → HandingsAreNone z s r id other }
 {}
 
 /// Between any two steps NOW has the length and the newest version of one legal log, which the
@@ -37,7 +39,8 @@ pub fn seats_have_one_log()
 /// Steps and exchanges of views in sequence are one run of the core: each event starts in the state
 /// in which the one before it ended.
 pub fn schedules_are_runs()
-    ensures { (z : Base) (s : State Request Role) (ts : List (State Request Role)) (r : Agrees z s) → IsSchedule z s ts
+    ensures { (z : Base) (s : State Request Role) (ts : List (State Request Role)) (r : Agrees z s)
+        → IsSchedule z s ts
         → IsOneRun z s r ts }
 {}
 

@@ -20,7 +20,10 @@ pub(crate) fn lay_together(words: &Words, keeper: &mut TableSeat, reader: Badge<
     requires table { AreAt words.now.shared.table_id keeper.old.table_id reader.table_id }
     requires roles { AreKeeperAndReader keeper.old.me reader.views }
     ensures table { keeper.new.table_id ≡ keeper.old.table_id }
-    ensures role { keeper.new.me ≡ (meeting (keeper_in keeper.old.me.0) (reader_on reader.views), []) }
+    ensures role { keeper.new.me ≡ (
+      meeting (keeper_in keeper.old.me.0) (reader_on reader.views),
+      [],
+    ) }
 {
     words
         .shared
@@ -33,10 +36,13 @@ fn meet_on<Id: StoreName>(words: &Words, keeper: &mut TableSeat, reader: Badge<V
     requires table { AreAt words.now.shared.table_id keeper.old.table_id reader.table_id }
     requires base { base_of words.now.shared.key ≡ Id.store.base }
     requires roles { AreKeeperAndReader keeper.old.me reader.views }
-    requires unmet { let unmet = (keeper_in keeper.old.me.0).unmet in (unmet ≡ None) ⊎ (unmet ≡ Some (reader_on reader.views).number) }
-    ensures table { (keeper.new.table_id ≡ keeper.old.table_id) × (result.table_id ≡ reader.table_id) }
+    requires unmet { let unmet = (keeper_in keeper.old.me.0).unmet in
+        (unmet ≡ None) ⊎ (unmet ≡ Some (reader_on reader.views).number) }
+    ensures table { (keeper.new.table_id ≡ keeper.old.table_id)
+        × (result.table_id ≡ reader.table_id) }
     ensures keeper { keeper.new.me ≡ (keeping (met (keeper_in keeper.old.me.0)), []) }
-    ensures reader { result.views ≡ reading (met_by Id.store.base (keeper_in keeper.old.me.0) (reader_on reader.views)) ∷ [] }
+    ensures reader { result.views ≡ reading
+        (met_by Id.store.base (keeper_in keeper.old.me.0) (reader_on reader.views)) ∷ [] }
     ensures meets { Meets Id.store.base (keeper_in keeper.old.me.0) (reader_on reader.views) }
 {
     lay_together(words, keeper, reader);

@@ -29,12 +29,15 @@ fn deal(
     number: u32,
 ) -> Result<FreshReader, Refusal>
     requires of { IsOf (store_at keeper.old.table_id (arc_value words.now).shared.key)
-        (arc_value words.now).shared.table_id (arc_value words.now).shared.key keeper.old.table_id plan }
+        (arc_value words.now).shared.table_id (arc_value words.now).shared.key keeper.old.table_id
+        plan }
     requires keeper { keeper.old.me ≡ (keeping (resting number []), []) }
-    requires below { number < readers_of (store_at keeper.old.table_id (arc_value words.now).shared.key) }
+    requires below { number < readers_of
+        (store_at keeper.old.table_id (arc_value words.now).shared.key) }
     ensures table { keeper.new.table_id ≡ keeper.old.table_id }
     ensures keeper { OnOk result (keeper.new.me ≡ (keeping (resting (number + 1) []), [])) }
-    ensures reader { IfOk result (λ reader. reader ≡ newcomer number (store_at keeper.old.table_id (arc_value words.now).shared.key)) }
+    ensures reader { IfOk result (λ reader. reader
+        ≡ newcomer number (store_at keeper.old.table_id (arc_value words.now).shared.key)) }
     ensures memory { IfErr result (λ refusal. refusal ≡ Memory) }
 {
     let own = Arc::try_clone(words)?;
@@ -55,13 +58,20 @@ fn deal_all(
     plan: Plan,
 ) -> Result<Vec<FreshReader>, Refusal>
     requires of { IsOf (store_at keeper.old.table_id (arc_value words.now).shared.key)
-        (arc_value words.now).shared.table_id (arc_value words.now).shared.key keeper.old.table_id plan }
+        (arc_value words.now).shared.table_id (arc_value words.now).shared.key keeper.old.table_id
+        plan }
     requires keeper { keeper.old.me ≡ (keeping (resting 0 []), []) }
     ensures table { keeper.new.table_id ≡ keeper.old.table_id }
     ensures keeper { OnOk result (keeper.new.me
-        ≡ (keeping (resting (readers_of (store_at keeper.old.table_id (arc_value words.now).shared.key)) []), [])) }
+        ≡ (
+          keeping
+              (resting (readers_of (store_at keeper.old.table_id (arc_value words.now).shared.key))
+              []),
+          [],
+        )) }
     ensures readers { IfOk result
-        (λ dealt. dealt.items ≡ newcomers (store_at keeper.old.table_id (arc_value words.now).shared.key)
+        (λ dealt. dealt.items ≡ newcomers
+        (store_at keeper.old.table_id (arc_value words.now).shared.key)
         (readers_of (store_at keeper.old.table_id (arc_value words.now).shared.key))) }
     ensures memory { IfErr result (λ refusal. refusal ≡ Memory) }
 {
@@ -81,7 +91,8 @@ impl Opening {
     /// Fails only when out of memory.
     pub fn of(alloc: Global, setting: Setting, map: &Bitmap) -> Result<Opening, Refusal>
         requires { bad_field (tile_count map.now) setting ≡ None }
-        ensures base { IfOk result (λ opening. opening.keeper.base ≡ record { setting = setting; opening = map.now }) }
+        ensures base { IfOk result (λ opening. opening.keeper.base
+            ≡ record { setting = setting; opening = map.now }) }
         ensures memory { IfErr result (λ refusal. refusal ≡ Memory) }
     {
         let plan = Plan::of(setting, map);

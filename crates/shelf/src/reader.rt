@@ -1,6 +1,7 @@
 //! A reader's seat, and its steps.
 
-ghost use Rattle.std.specs.Prelude.{◌≡◌, ◌<◌, ◌≤◌, ℕ, length, slice_index, true, None, Some, is_some};
+ghost use Rattle.std.specs.Prelude.{◌≡◌, ◌<◌, ◌≤◌, ℕ, length, slice_index, true, None, Some};
+ghost use Rattle.std.specs.Prelude.{is_some};
 ghost use mathlib.Core.List.{IsPrefix};
 ghost use Rattle.bits.specs.Tiles.{row_word};
 ghost use Rattle.map_core.specs.Story.{newest, bitmap_of};
@@ -49,7 +50,9 @@ impl<Id: StoreName> Model for ReaderSeat<Id> {
 
     ghost view = { λ s. reader_on s.seat.views };
 
-    ghost invariant = { λ s. IsReaderSeat Id.store (arc_value s.words).shared.table_id (arc_value s.words).shared.key s.seat.table_id s.plan s.seat.views s.number s.made s.version };
+    ghost invariant = { λ s. IsReaderSeat Id.store (arc_value s.words).shared.table_id
+        (arc_value s.words).shared.key s.seat.table_id s.plan s.seat.views s.number s.made
+        s.version };
 }
 
 impl<Id: StoreName> ReaderSeat<Id> {
@@ -124,7 +127,8 @@ impl<Id: StoreName> ReaderSeat<Id> {
         ensures version { result.version ≡ newest (story Id.store.base (entries self.new.seen)) }
         ensures slot { result.slot ≡ newest_slot Id.store.base self.new.seen }
         ensures slots { result.slot < Id.store.base.setting.versions }
-        ensures legal { IsLegal Id.store.base.setting Id.store.base.opening (entries self.new.seen) }
+        ensures legal { IsLegal Id.store.base.setting Id.store.base.opening
+            (entries self.new.seen) }
     {
         let mut seat = replace(&mut self.seat, Badge::blank()).into_seat::<Request>();
         let word = self.words.shared.load::<Take<Id>>(&mut seat, 0);
@@ -141,11 +145,13 @@ impl<Id: StoreName> ReaderSeat<Id> {
     /// position.
     pub fn look_map(&mut self, version: u32, slot: u32, position: u16) -> u32
         requires held { self.old.holds ≡ Some version }
-        requires slot { slot ≡ slot_of Id.store.base (story Id.store.base (entries self.old.seen)) version }
+        requires slot { slot ≡ slot_of Id.store.base
+            (story Id.store.base (entries self.old.seen)) version }
         requires slots { slot < Id.store.base.setting.versions }
         requires inside { position < tiles Id.store.base }
         ensures seat { self.new ≡ self.old }
-        ensures block { result ≡ slice_index (directory_of (blocks Id.store.base (entries self.old.seen)) version) position }
+        ensures block { result ≡ slice_index
+            (directory_of (blocks Id.store.base (entries self.old.seen)) version) position }
         ensures within { result < Id.store.base.setting.blocks }
     {
         let mut seat = replace(&mut self.seat, Badge::blank()).into_seat::<Request>();

@@ -37,7 +37,10 @@ impl TableRule<Request, View, Basis> for Law {
     ghost use Rattle.shelf.specs.Roles.{keeping, resting};
     ghost use Rattle.shelf.specs.Rule.{Agrees};
 
-    ghost holds = { λ basis. Agrees record { setting = basis.setting; opening = basis.opening.value } };
+    ghost holds = { λ basis. Agrees record {
+      setting = basis.setting;
+      opening = basis.opening.value;
+    } };
 
     ghost first = { λ _. keeping (resting 0 []) };
 }

@@ -39,7 +39,8 @@ impl<Id: StoreName> Model for Ticket<Id> {
 
     ghost view = { λ t. ticket_on t.seat.views };
 
-    ghost invariant = { λ t. (t.seat.table_id ≡ Id.store.table) × (t.seat.views ≡ ticket (ticket_on t.seat.views) ∷ []) };
+    ghost invariant = { λ t. (t.seat.table_id ≡ Id.store.table)
+        × (t.seat.views ≡ ticket (ticket_on t.seat.views) ∷ []) };
 }
 
 impl<Id: StoreName> Ticket<Id> {
@@ -69,13 +70,15 @@ impl<Id: StoreName> KeeperSeat<Id> {
 
 /// Joins the ticket's view to that of the reader's seat, and loads NOW.
 fn learn_on<Id: StoreName>(words: &Words, reader: &mut Badge<View>, token: Badge<View>) -> u64
-    requires table { (reader.old.table_id ≡ words.now.shared.table_id) × (token.table_id ≡ words.now.shared.table_id)
+    requires table { (reader.old.table_id ≡ words.now.shared.table_id)
+        × (token.table_id ≡ words.now.shared.table_id)
         × (0 < words.now.shared.table_id.words) }
     requires base { base_of words.now.shared.key ≡ Id.store.base }
     requires reader { reader.old.views ≡ reading (reader_on reader.old.views) ∷ [] }
     requires token { token.views ≡ ticket (ticket_on token.views) ∷ [] }
     ensures table { reader.new.table_id ≡ reader.old.table_id }
-    ensures learned { LearnsIt Id.store.base (reader_on reader.old.views) (ticket_on token.views) result reader.new.views }
+    ensures learned { LearnsIt Id.store.base (reader_on reader.old.views)
+        (ticket_on token.views) result reader.new.views }
 {
     let mut seat = replace(reader, Badge::blank()).into_seat::<Request>();
     words
@@ -93,7 +96,8 @@ impl<Id: StoreName> ReaderSeat<Id> {
         ensures seat { self.new ≡ loaded Id.store.base self.new.seen self.old }
         ensures began { IsPrefix self.old.seen self.new.seen }
         ensures learned { IsPrefix ticket self.new.seen }
-        ensures legal { IsLegal Id.store.base.setting Id.store.base.opening (entries self.new.seen) }
+        ensures legal { IsLegal Id.store.base.setting Id.store.base.opening
+            (entries self.new.seen) }
     {
         let Ticket { seat, of: _ } = ticket;
         let word = learn_on::<Id>(&self.words, &mut self.seat, seat);

@@ -49,9 +49,11 @@ pub fn carry_collect<Id: StoreName>(
     requires in_hand { IsInHand Id.store keeper.old holding.old by Collect }
     requires place_each { length announced.old.items ≡ readers_of Id.store }
     requires judged { refused_by_ledger holding.old.ledger Collect ≡ None }
-    ensures worked { IsWorked Id.store keeper.old holding.old by Collect result keeper.new holding.new }
+    ensures worked { IsWorked Id.store keeper.old holding.old by Collect result keeper.new
+        holding.new }
     ensures scanned { keeper.new ≡ scanning keeper.old by (map pin_word announced.new.items) }
-    ensures kept { holding.new.ledger.kept ≡ kept_scanned (story Id.store.base (entries keeper.old.log))
+    ensures kept { holding.new.ledger.kept ≡ kept_scanned
+        (story Id.store.base (entries keeper.old.log))
         (map pin_word announced.new.items) }
     ensures keeps { KeepsScanned holding.old Collect holding.new announced.new.items }
     ensures place_each { length announced.new.items ≡ readers_of Id.store }

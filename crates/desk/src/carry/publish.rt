@@ -53,9 +53,11 @@ fn write_tile<Id: StoreName>(
     requires told { IsToldByLog Id.store.base (entries keeper.old.log) holding.now }
     requires inside { position < tiles Id.store.base }
     requires in_hand { keeper.old ≡ writing keeper.old by (64 * index) }
-    requires index { index ≡ length (own_list (take position (blocks Id.store.base (entries keeper.old.log)).own)) }
+    requires index { index ≡ length
+        (own_list (take position (blocks Id.store.base (entries keeper.old.log)).own)) }
     ensures keeper { keeper.new ≡ writing keeper.old by (64 * (index + result)) }
-    ensures count { index + result ≡ length (own_list (take (position + 1) (blocks Id.store.base (entries keeper.old.log)).own)) }
+    ensures count { index + result ≡ length
+        (own_list (take (position + 1) (blocks Id.store.base (entries keeper.old.log)).own)) }
 {
     match holding.grid.own_tile(position) {
         Some(tile) => {
@@ -98,7 +100,8 @@ fn write_directory<Id: StoreName>(
     requires plan { IsPlan Id.store.base plan }
     requires told { IsToldByLog Id.store.base (entries keeper.old.log) holding.now }
     requires in_hand { keeper.old ≡ writing keeper.old by (64 * stored) }
-    requires stored { stored ≡ length (own_list (blocks Id.store.base (entries keeper.old.log)).own) }
+    requires stored { stored ≡ length
+        (own_list (blocks Id.store.base (entries keeper.old.log)).own) }
     requires slot { length (members holding.now.ledger.kept.slots) < 64 }
     ensures { keeper.new ≡ writing keeper.old by (64 * stored + tiles Id.store.base) }
 {

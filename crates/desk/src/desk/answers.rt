@@ -25,7 +25,8 @@ pub fn stamp_answered(
 ) -> Result<Reply, (Bitmap, Refusal)>
     requires { IfErr applied (λ back. IsStamp back.0) }
     ensures answer { outcome_of result ≡ outcome_of applied }
-    ensures back { (x y : ℕ) (b : Cells) → IfErr applied (λ back. back.0 ≡ Stamp x y b) → IfErr result (λ back. back.0 ≡ b) }
+    ensures back { (x y : ℕ) (b : Cells) → IfErr applied (λ back. back.0 ≡ Stamp x y b)
+        → IfErr result (λ back. back.0 ≡ b) }
 {
     match applied {
         Ok(reply) => Ok(reply),

@@ -4,13 +4,15 @@
 //! Each requires that a seat that has announced a version holds one.
 
 ghost use Rattle.std.specs.Prelude.{◌≡◌, ◌<◌, true, Some, vec_len, vec_capacity, IfOk, IfErr, OnOk};
-ghost use Rattle.map_core.specs.declared.command.Command.TheVariants.{Paint, Stamp, Publish, Revert, Collect, Checkpoint};
+ghost use Rattle.map_core.specs.declared.command.Command.TheVariants.{Paint, Stamp, Publish};
+ghost use Rattle.map_core.specs.declared.command.Command.TheVariants.{Revert, Collect, Checkpoint};
 ghost use Rattle.map_core.specs.Ledger.{takes_room};
 ghost use Rattle.desk.specs.Holdings.{CanAnswer, Refuses};
 ghost use Rattle.desk.specs.Judging.{IsJudged};
 ghost use Rattle.map_core.specs.Legal.{IsLegal};
 ghost use Rattle.shelf.specs.Roles.{entries};
-ghost use Rattle.desk.specs.Desks.{IsApplied, IsSteady, outcome_of, base_place, entries_kept_after, kept_part};
+ghost use Rattle.desk.specs.Desks.{IsApplied, IsSteady, outcome_of, base_place, entries_kept_after};
+ghost use Rattle.desk.specs.Desks.{kept_part};
 
 use crate::carry::carry;
 use crate::desk::Desk;
@@ -30,7 +32,8 @@ fn admit<'a>(
 ) -> Result<Judged<'a>, Refusal>
     requires { CanAnswer holding.now }
     ensures judged { IfOk result (IsJudged holding.now command.now) }
-    ensures room { OnOk result (takes_room command.now ≡ true → vec_len log.new < vec_capacity log.new) }
+    ensures room { OnOk result (takes_room command.now ≡ true
+        → vec_len log.new < vec_capacity log.new) }
     ensures refused { IfErr result (λ refusal. Refuses holding.now command.now refusal) }
     ensures items { log.new.items ≡ log.old.items }
 {
@@ -68,7 +71,8 @@ impl<Id: StoreName> Desk<Id> {
         command: Command,
     ) -> Result<Reply, (Command, Refusal)>
         requires { IsSteady seat.old }
-        ensures applied { IsApplied Id.store self.old seat.old command (outcome_of result) self.new seat.new }
+        ensures applied { IsApplied Id.store self.old seat.old command
+            (outcome_of result) self.new seat.new }
         ensures back { IfErr result (λ back. back.0 ≡ command) }
     {
         meet(&mut self.keeper, seat);
@@ -124,7 +128,8 @@ impl<Id: StoreName> Desk<Id> {
         bitmap: Bitmap,
     ) -> Result<Reply, (Bitmap, Refusal)>
         requires { IsSteady seat.old }
-        ensures applied { IsApplied Id.store self.old seat.old (Stamp x y bitmap) (outcome_of result) self.new seat.new }
+        ensures applied { IsApplied Id.store self.old seat.old (Stamp x y bitmap)
+            (outcome_of result) self.new seat.new }
         ensures back { IfErr result (λ back. back.0 ≡ bitmap) }
     {
         stamp_answered(self.apply(seat, Command::Stamp { x, y, bitmap }))

@@ -33,7 +33,8 @@ impl Model for FreshDesk {
 
     ghost view = { λ d. d.keeper };
 
-    ghost invariant = { λ d. IsToldByLog d.keeper.base [] d.holding × (d.log.items ≡ []) × (length d.announced.items ≡ readers_of d.keeper) };
+    ghost invariant = { λ d. IsToldByLog d.keeper.base [] d.holding × (d.log.items ≡ [])
+        × (length d.announced.items ≡ readers_of d.keeper) };
 }
 
 impl FreshDesk {

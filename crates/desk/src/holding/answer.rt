@@ -2,7 +2,8 @@
 
 ghost use Rattle.std.specs.Prelude.{◌≡◌, None};
 ghost use Rattle.map_core.specs.declared.command.Command.{Command};
-ghost use Rattle.map_core.specs.declared.command.Command.TheVariants.{Publish, Revert, Collect, Checkpoint};
+ghost use Rattle.map_core.specs.declared.command.Command.TheVariants.{Publish, Revert, Collect};
+ghost use Rattle.map_core.specs.declared.command.Command.TheVariants.{Checkpoint};
 ghost use Rattle.map_core.specs.Kept.{IsIn, IsPartOfKept};
 ghost use Rattle.map_core.specs.Ledger.{refused_by_ledger};
 ghost use Rattle.desk.specs.declared.holding.judged.Judged.TheVariants as kinds;
@@ -19,7 +20,8 @@ impl Holding {
     pub fn draw(&mut self, stroke: Stroke) -> Reply
         requires able { CanAnswer self.old }
         requires judged { (c : Command) × IsJudged self.old c (kinds.Draw stroke) }
-        ensures { (c : Command) → IsJudged self.old c (kinds.Draw stroke.entry) → Does self.old c result self.new }
+        ensures { (c : Command) → IsJudged self.old c (kinds.Draw stroke.entry)
+            → Does self.old c result self.new }
     {
         let changed = self.grid.draw(&mut self.arena, stroke);
         self.ledger.enter_draw(changed)

@@ -1,5 +1,6 @@
 -- The lines of `ask`, and the bytes that they count: this project's own rule.
-use Rattle.std.specs.Prelude.{◌≡◌, ◌≢◌, ◌<◌, ℕ, ◌⊎◌, List, ◌∷◌, ◌++◌, All, length, nat_le, Option, Some, Result, Ok, if◌then◌else◌}
+use Rattle.std.specs.Prelude.{◌≡◌, ◌≢◌, ◌<◌, ℕ, ◌⊎◌, List, ◌∷◌, ◌++◌, All, length, nat_le, Option}
+use Rattle.std.specs.Prelude.{Some, Result, Ok, if◌then◌else◌}
 use Rattle.std.specs.Str.Lines.{strip_carriage_return}
 use Rattle.metric.specs.declared.refusal.Refusal.{Refusal}
 use Rattle.proto.specs.Said.{LineView, said, stamp, verb_in}

@@ -1,6 +1,7 @@
 -- A conversation of `ask`: each request is sent after the reply to the one before it was received
 -- and printed. This project's own rule.
-use Rattle.std.specs.Prelude.{◌≡◌, ℕ, ◌⊎◌, All, Bool, false, true, List, [], ◌∷◌, map, Option, Some, bytes_eq, codes, unwrap_or, if◌then◌else◌}
+use Rattle.std.specs.Prelude.{◌≡◌, ℕ, ◌⊎◌, All, Bool, false, true, List, [], ◌∷◌, map, Option, Some}
+use Rattle.std.specs.Prelude.{bytes_eq, codes, unwrap_or, if◌then◌else◌}
 use Rattle.std.specs.List.{concat}
 use Rattle.metric.specs.Stream.{Appends, AppendsFront, Takes}
 use Rattle.proto.specs.Numbers.{numbers, only_number}
@@ -25,7 +26,8 @@ asks_for_bytes (line ∷ others) = is_dump (verb_in line)
 -- how many bytes `OK` and one number count; other words count none
 abbrev pub count_told : List (List ℕ) → ℕ
 count_told [] = 0
-count_told (word ∷ others) = if bytes_eq word (codes "OK") then unwrap_or (only_number (numbers others)) 0 else 0
+count_told (word ∷ others) =
+    if bytes_eq word (codes "OK") then unwrap_or (only_number (numbers others)) 0 else 0
 
 -- how many bytes follow a line of a reply, whether bytes were asked for or not
 abbrev pub bytes_promised : Bool → List ℕ → ℕ
@@ -114,7 +116,8 @@ pub record IsCutPrinting (before after : Talk) : Type 0 where
 -- an exchange was cut off at one of its four steps, and the later ones weren't started
 abbrev pub IsCutOff : Talk → Talk → Type 0
 IsCutOff before after =
-    IsCutReading before after ⊎ (IsCutSending before after ⊎ (IsCutHearing before after ⊎ IsCutPrinting before after))
+    IsCutReading before after
+    ⊎ (IsCutSending before after ⊎ (IsCutHearing before after ⊎ IsCutPrinting before after))
 
 -- exchanges, and then one that was cut off
 pub record Breaks (before after : Talk) : Type 0 where

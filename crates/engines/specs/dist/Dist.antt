@@ -39,7 +39,9 @@ pub record IsReplyToLine (edge : Edge) (line bytes text : List ℕ) (status : �
 
 -- the bytes read as an image, and the text is what the options ask: the table, or a line's reply
 abbrev pub IsAsked : DistOptions → List ℕ → List ℕ → ℕ → Type 0
-IsAsked options bytes text status = MatchOption options.query (IsTable options bytes text status) (λ line. IsReplyToLine options.edge line.now bytes text status)
+IsAsked options bytes text status =
+    MatchOption options.query (IsTable options bytes text status)
+    (λ line. IsReplyToLine options.edge line.now bytes text status)
 
 -- the bytes don't read as an image, and this is their first fault
 pub record IsBadImage (bytes : List ℕ) (fault : PbmFault) : Type 0 where
@@ -56,11 +58,13 @@ pub record IsFault (bytes text : List ℕ) (status : ℕ) : Type 0 where
 
 -- this text is an answer to these bytes under these options, with its status
 abbrev pub IsImageAnswer : DistOptions → List ℕ → List ℕ → ℕ → Type 0
-IsImageAnswer options bytes text status = IsAsked options bytes text status ⊎ IsFault bytes text status
+IsImageAnswer options bytes text status =
+    IsAsked options bytes text status ⊎ IsFault bytes text status
 
 -- this is an answer under these options to any bytes that read as an image of this map
 abbrev pub IsMapAnswer : DistOptions → Cells → List ℕ → ℕ → Type 0
-IsMapAnswer options cells text status = (bytes : List ℕ) (taken : ℕ) → Reads bytes taken cells → IsImageAnswer options bytes text status
+IsMapAnswer options cells text status =
+    (bytes : List ℕ) (taken : ℕ) → Reads bytes taken cells → IsImageAnswer options bytes text status
 
 -- such an answer was wholly written, with its status
 abbrev pub AnswersMap : DistOptions → Cells → Option (List ℕ) → Option (List ℕ) → ℕ → Type 0
@@ -79,10 +83,12 @@ IsMemoryLine text status = (text ≡ image_text faults.Memory ++ 10 ∷ []) × (
 
 -- this text is an answer to these bytes under these options, or that memory ran out reading them
 abbrev pub IsDistAnswer : DistOptions → List ℕ → List ℕ → ℕ → Type 0
-IsDistAnswer options bytes text status = IsImageAnswer options bytes text status ⊎ IsMemoryLine text status
+IsDistAnswer options bytes text status =
+    IsImageAnswer options bytes text status ⊎ IsMemoryLine text status
 
 -- an answer to all bytes that the reader had was wholly written
-pub record AnswersImage (options : DistOptions) (unread held_before held_after : Option (List ℕ)) (status : ℕ) : Type 0 where
+pub record AnswersImage (options : DistOptions) (unread held_before held_after : Option (List ℕ))
+    (status : ℕ) : Type 0 where
   pub bytes : List ℕ
   pub text : List ℕ
   pub all : AreAll unread bytes
@@ -90,7 +96,8 @@ pub record AnswersImage (options : DistOptions) (unread held_before held_after :
   pub written : Appends held_before text held_after
 
 -- a prefix of an answer to all bytes that the reader had was written
-pub record BeginsToAnswerImage (options : DistOptions) (unread held_before held_after : Option (List ℕ)) : Type 0 where
+pub record BeginsToAnswerImage (options : DistOptions)
+    (unread held_before held_after : Option (List ℕ)) : Type 0 where
   pub bytes : List ℕ
   pub text : List ℕ
   pub status : ℕ

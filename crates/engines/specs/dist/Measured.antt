@@ -1,5 +1,6 @@
 -- The text of a table with only distances: this project's own rule.
-use Rattle.std.specs.Prelude.{◌≡◌, ℕ, ◌<◌, ◌==◌, List, [], ◌∷◌, ◌++◌, map, length, slice_index_or, Option, Some, None, if◌then◌else◌}
+use Rattle.std.specs.Prelude.{◌≡◌, ℕ, ◌<◌, ◌==◌, List, [], ◌∷◌, ◌++◌, map, length, slice_index_or}
+use Rattle.std.specs.Prelude.{Option, Some, None, if◌then◌else◌}
 use Rattle.std.specs.Fmt.{decimal}
 use Rattle.std.specs.List.{join_with_byte}
 use Rattle.metric.specs.declared.near.Near.{Near}
@@ -20,4 +21,5 @@ IsDistanceOf (Some near) number = (number ≡ near.dist) × (number < 4294967295
 -- the numbers are the distances of these nearest obstacles, one by one
 pub record AreDistances (nears : List (Option Near)) (numbers : List ℕ) : Type 0 where
   pub as_many : length numbers ≡ length nears
-  pub each : (x : ℕ) → x < length nears → IsDistanceOf (slice_index_or nears x None) (slice_index_or numbers x 0)
+  pub each : (x : ℕ) → x < length nears
+      → IsDistanceOf (slice_index_or nears x None) (slice_index_or numbers x 0)

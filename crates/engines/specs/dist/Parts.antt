@@ -1,5 +1,6 @@
 -- The rows that workers print in parallel: this project's own rule.
-use Rattle.std.specs.Prelude.{◌≡◌, ℕ, ◌+◌, ◌-◌, ◌*◌, ◌<◌, ◌≤◌, All, List, Bool, true, false, length, min, slice_index_or, vec_capacity, vec_len}
+use Rattle.std.specs.Prelude.{◌≡◌, ℕ, ◌+◌, ◌-◌, ◌*◌, ◌<◌, ◌≤◌, All, List, Bool, true, false, length}
+use Rattle.std.specs.Prelude.{min, slice_index_or, vec_capacity, vec_len}
 use Rattle.engines.specs.declared.dist.parts.RowCells.{RowCells}
 use Rattle.engines.specs.declared.dist.parts.RowCells.TheVariants.{Nears, Distances}
 use Rattle.engines.specs.declared.dist.parts.WorkerLines.{WorkerLines}
@@ -28,14 +29,20 @@ pub record AreShares (nearest : Bool) (width rows : ℕ) (parts : List WorkerLin
   pub places : All (IsShare nearest width rows) parts
 
 -- a worker has the lines of this many rows from this one on, or of as many as there are
-pub record HasRows (nearest : Bool) (table : TableView) (rows from : ℕ) (part : WorkerLines) : Type 0 where
+pub record HasRows (nearest : Bool) (table : TableView) (rows from : ℕ) (part : WorkerLines) :
+    Type 0 where
   pub kept : IsShare nearest table.width rows part
-  pub text : part.text.items ≡ rows_text nearest table.width (min table.height from) (min table.height (from + rows) - min table.height from) table.nears
+  pub text : part.text.items ≡ rows_text nearest table.width (min table.height from)
+      (min table.height (from + rows) - min table.height from) table.nears
 
 -- each part has this many rows, one part's after another's
 abbrev pub ShareRows : Bool → TableView → ℕ → ℕ → List WorkerLines → Type 0
-ShareRows nearest table rows from parts = (k : ℕ) (other : WorkerLines) → k < length parts → HasRows nearest table rows (from + rows * k) (slice_index_or parts k other)
+ShareRows nearest table rows from parts =
+    (k : ℕ) (other : WorkerLines) → k < length parts
+    → HasRows nearest table rows (from + rows * k) (slice_index_or parts k other)
 
 -- the lines of a table's rows in this many parts of this many rows each, from this row on
 abbrev pub parts_text : Bool → TableView → ℕ → ℕ → ℕ → List ℕ
-parts_text nearest table rows from count = rows_text nearest table.width (min table.height from) (min table.height (from + rows * count) - min table.height from) table.nears
+parts_text nearest table rows from count =
+    rows_text nearest table.width (min table.height from)
+    (min table.height (from + rows * count) - min table.height from) table.nears

@@ -25,7 +25,9 @@ asked_in line = query_said (verb_in line) (said line)
 
 -- the answer to what a line asks, or to its refusal, by its metric; or out of memory for its points
 abbrev pub IsReplyTo : Cells → Edge → Result QueryView Refusal → Answer → Type 0
-IsReplyTo cells edge (Ok query) answer = IsAnswerBy (distance_of (metric_asked query)) cells edge query answer ⊎ (HasPoints query × (answer ≡ Refused Memory))
+IsReplyTo cells edge (Ok query) answer =
+    IsAnswerBy (distance_of (metric_asked query)) cells edge query answer
+    ⊎ (HasPoints query × (answer ≡ Refused Memory))
 IsReplyTo cells edge (Err refusal) answer = answer ≡ Refused refusal
 
 -- the status of an answer: a refusal has 1

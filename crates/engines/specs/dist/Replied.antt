@@ -8,7 +8,8 @@ use Rattle.engines.specs.dist.Query.{IsReplyTo, asked_in, status_of}
 use Rattle.engines.specs.declared.dist.reply.QueryReply.{QueryReply}
 
 -- this is the reply to the line on the map
-pub record IsReplyOf (edge : Edge) (line : List ℕ) (cells : Cells) (reply : QueryReply) : Type 0 where
+pub record IsReplyOf (edge : Edge) (line : List ℕ) (cells : Cells) (reply : QueryReply) :
+    Type 0 where
   pub answer : Answer
   pub replies : IsReplyTo cells edge (asked_in line) answer
   pub text_is : reply.text ≡ reply_line answer

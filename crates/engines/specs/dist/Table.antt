@@ -1,5 +1,6 @@
 -- The text of a table of distances: this project's own rule.
-use Rattle.std.specs.Prelude.{ℕ, ◌+◌, ◌*◌, List, [], ◌∷◌, ◌++◌, map, Bool, true, false, Option, Some, None}
+use Rattle.std.specs.Prelude.{ℕ, ◌+◌, ◌*◌, List, [], ◌∷◌, ◌++◌, map, Bool, true, false, Option}
+use Rattle.std.specs.Prelude.{Some, None}
 use Rattle.metric.specs.declared.near.Near.{Near}
 use Rattle.metric.specs.declared.spot.Spot.{Spot}
 use Rattle.std.specs.Fmt.{decimal, signed_decimal}
@@ -21,8 +22,12 @@ row_line nearest nears = join_with_byte 32 (map (entry_text nearest) nears) ++ 1
 
 -- a table has the lines of all rows of this width, in order
 unfoldable pub table_text : Bool → ℕ → ℕ → List (Option Near) → List ℕ
-table_text nearest width height nears = flat_map (λ y. row_line nearest (slice_range nears (y * width) (y * width + width))) (range_with_len 0 height)
+table_text nearest width height nears =
+    flat_map (λ y. row_line nearest (slice_range nears (y * width) (y * width + width)))
+    (range_with_len 0 height)
 
 -- the lines of this many rows from this one on
 unfoldable pub rows_text : Bool → ℕ → ℕ → ℕ → List (Option Near) → List ℕ
-rows_text nearest width from count nears = flat_map (λ y. row_line nearest (slice_range nears (y * width) (y * width + width))) (range_with_len from count)
+rows_text nearest width from count nears =
+    flat_map (λ y. row_line nearest (slice_range nears (y * width) (y * width + width)))
+    (range_with_len from count)

@@ -1,6 +1,7 @@
 -- What a line of steps says: this project's own rule. The first word is a letter, and numbers
 -- follow it; after `C` a command line follows.
-use Rattle.std.specs.Prelude.{ℕ, List, [], ◌∷◌, Option, Some, None, Result, Ok, Err, bytes_eq, codes, option_map, unwrap_or, if◌then◌else◌}
+use Rattle.std.specs.Prelude.{ℕ, List, [], ◌∷◌, Option, Some, None, Result, Ok, Err, bytes_eq}
+use Rattle.std.specs.Prelude.{codes, option_map, unwrap_or, if◌then◌else◌}
 use Rattle.metric.specs.declared.refusal.Refusal.{Refusal}
 use Rattle.map_core.specs.declared.event.Event.{Event}
 use Rattle.map_core.specs.declared.event.Event.TheVariants as events
@@ -73,19 +74,28 @@ order_said other line = bad
 
 -- what a letter with the words after it says; a wrong number or form of them says nothing known
 abbrev pub letter_said : Letter → List (List ℕ) → StepSaid
-letter_said letters.Announce words = unwrap_or (option_map (λ reader. event (announce reader)) (only_number (numbers words))) bad
-letter_said letters.Load words = unwrap_or (option_map (λ reader. event (load reader)) (only_number (numbers words))) bad
-letter_said letters.LookMap words = unwrap_or (option_map (λ n. event (look_map n.0 n.1)) (number_pair (numbers words))) bad
-letter_said letters.LookTile words = unwrap_or (option_map (λ n. event (look_tile n.0 n.1 n.2)) (number_triple (numbers words))) bad
-letter_said letters.Leave words = unwrap_or (option_map (λ reader. event (leave reader)) (only_number (numbers words))) bad
-letter_said letters.Confirm words = unwrap_or (option_map (λ reader. event (confirm reader)) (only_number (numbers words))) bad
+letter_said letters.Announce words =
+    unwrap_or (option_map (λ reader. event (announce reader)) (only_number (numbers words))) bad
+letter_said letters.Load words =
+    unwrap_or (option_map (λ reader. event (load reader)) (only_number (numbers words))) bad
+letter_said letters.LookMap words =
+    unwrap_or (option_map (λ n. event (look_map n.0 n.1)) (number_pair (numbers words))) bad
+letter_said letters.LookTile words =
+    unwrap_or (option_map (λ n. event (look_tile n.0 n.1 n.2)) (number_triple (numbers words))) bad
+letter_said letters.Leave words =
+    unwrap_or (option_map (λ reader. event (leave reader)) (only_number (numbers words))) bad
+letter_said letters.Confirm words =
+    unwrap_or (option_map (λ reader. event (confirm reader)) (only_number (numbers words))) bad
 letter_said letters.Order words = order_said (first_verb words) (said_of words)
-letter_said letters.Keep words = unwrap_or (option_map (λ count. keeps count) (only_number (numbers words))) bad
+letter_said letters.Keep words =
+    unwrap_or (option_map (λ count. keeps count) (only_number (numbers words))) bad
 
 -- what the words of a line say, by the letter and the words after it
 abbrev pub step_of : List (List ℕ) → StepSaid
 step_of [] = bad
-step_of (word ∷ others) = elim (letter_named word) as (λ _. StepSaid) [ None ↦ bad | Some letter ↦ letter_said letter others ]
+step_of (word ∷ others) =
+    elim (letter_named word) as (λ _. StepSaid)
+    [ None ↦ bad | Some letter ↦ letter_said letter others ]
 
 -- a line says what its words say
 unfoldable pub step_said : List ℕ → StepSaid

@@ -12,13 +12,15 @@ pub record IsAnswerLine (line : StepSaid) (old : State) (text : List ℕ) (new :
   pub text_is : text ≡ answer ++ 10 ∷ []
 
 -- these lines were done, and their answer lines written
-pub record AreLinesDone (old : State) (lines : List (List ℕ)) (held_before held_after : Option (List ℕ)) (new : State) : Type 0 where
+pub record AreLinesDone (old : State) (lines : List (List ℕ))
+    (held_before held_after : Option (List ℕ)) (new : State) : Type 0 where
   pub answers : List (List ℕ)
   pub answered : AreAnswered old lines answers new
   pub written : Appends held_before (written_lines answers) held_after
 
 -- a prefix of these lines was done, and a prefix of their answer lines written
-pub record IsDoneInPart (old : State) (lines : List (List ℕ)) (held_before held_after : Option (List ℕ)) : Type 0 where
+pub record IsDoneInPart (old : State) (lines : List (List ℕ))
+    (held_before held_after : Option (List ℕ)) : Type 0 where
   pub heard : List (List ℕ)
   pub unheard : List (List ℕ)
   pub last : State
@@ -28,13 +30,15 @@ pub record IsDoneInPart (old : State) (lines : List (List ℕ)) (held_before hel
   pub written : AppendsFront held_before (written_lines answers) held_after
 
 -- the text of a world that does these lines was written
-pub record IsWorldTold (start : State) (positions : ℕ) (lines : List (List ℕ)) (held_before held_after : Option (List ℕ)) : Type 0 where
+pub record IsWorldTold (start : State) (positions : ℕ) (lines : List (List ℕ))
+    (held_before held_after : Option (List ℕ)) : Type 0 where
   pub text : List ℕ
   pub text_is : IsWorldText start positions lines text
   pub written : Appends held_before text held_after
 
 -- a prefix of the text of a world that does a prefix of these lines was written
-pub record IsToldInPart (start : State) (positions : ℕ) (lines : List (List ℕ)) (held_before held_after : Option (List ℕ)) : Type 0 where
+pub record IsToldInPart (start : State) (positions : ℕ) (lines : List (List ℕ))
+    (held_before held_after : Option (List ℕ)) : Type 0 where
   pub heard : List (List ℕ)
   pub unheard : List (List ℕ)
   pub text : List ℕ

@@ -1,6 +1,7 @@
 -- What steps answers to a text: this project's own rule. The first line opens a world.
 -- Each line after it is done in that world, and gets one answer line.
-use Rattle.std.specs.Prelude.{◌≡◌, ◌≤◌, ℕ, ◌⊎◌, List, [], ◌∷◌, ◌++◌, replicate, codes, Option, Result, Ok, Err, IsErr, IsOk}
+use Rattle.std.specs.Prelude.{◌≡◌, ◌≤◌, ℕ, ◌⊎◌, List, [], ◌∷◌, ◌++◌, replicate, codes, Option}
+use Rattle.std.specs.Prelude.{Result, Ok, Err, IsErr, IsOk}
 use Rattle.std.specs.Fmt.{decimal}
 use Rattle.std.specs.List.{flat_map}
 use Rattle.metric.specs.Refusal.{refusal_text}
@@ -18,7 +19,8 @@ use Rattle.map_core.specs.declared.event.StepReply.{StepReply}
 use Rattle.engines.specs.declared.steps.opening.OpenLine.{OpenLine}
 use Rattle.engines.specs.steps.Opening.{base_opened, later_lines, opened_by}
 use Rattle.engines.specs.steps.StepAnswers.{step_text}
-use Rattle.engines.specs.steps.StepLines.{StepSaid, EventView, bad, event, keeps, refused, step_said, told_event}
+use Rattle.engines.specs.steps.StepLines.{StepSaid, EventView, bad, event, keeps, refused}
+use Rattle.engines.specs.steps.StepLines.{step_said, told_event}
 use Rattle.engines.specs.streams.TextLines.{lines_of}
 
 -- the current command has at least this many steps left, and this is at least one
@@ -27,19 +29,22 @@ pub record CanKeep (count : ℕ) (w : State) : Type 0 where
   pub left : count ≤ steps_left w w.keeper.hand
 
 -- the keeper does this many steps in order, and the last has this answer
-pub record Keeps (count : ℕ) (old : State) (answer : Result StepReply NotEnabled) (new : State) : Type 0 where
+pub record Keeps (count : ℕ) (old : State) (answer : Result StepReply NotEnabled) (new : State) :
+    Type 0 where
   pub before : List (Result StepReply NotEnabled)
   pub run : IsRun old (replicate count events.Keep) (before ++ answer ∷ []) new
 
 -- not all of this many steps are enabled, and none is done
-pub record KeepsNone (count : ℕ) (old : State) (answer : Result StepReply NotEnabled) (new : State) : Type 0 where
+pub record KeepsNone (count : ℕ) (old : State) (answer : Result StepReply NotEnabled)
+    (new : State) : Type 0 where
   pub cannot : CanKeep count old → ⊥
   pub answer_is : IsErr answer
   pub same : new ≡ old
 
 -- the keeper does this many steps if all of them are enabled, and none otherwise
 abbrev pub KeepsAll : ℕ → State → Result StepReply NotEnabled → State → Type 0
-KeepsAll count old answer new = (CanKeep count old × Keeps count old answer new) ⊎ KeepsNone count old answer new
+KeepsAll count old answer new =
+    (CanKeep count old × Keeps count old answer new) ⊎ KeepsNone count old answer new
 
 -- the event is done, and this is the text of its answer
 pub record IsStepText (told : EventView) (old : State) (text : List ℕ) (new : State) : Type 0 where
@@ -67,21 +72,24 @@ abbrev pub AreAnswered : State → List (List ℕ) → List (List ℕ) → State
 AreAnswered old [] [] new = new ≡ old
 AreAnswered old [] (text ∷ texts) new = ⊥
 AreAnswered old (line ∷ lines) [] new = ⊥
-AreAnswered old (line ∷ lines) (text ∷ texts) new = (mid : State) × IsAnswered (step_said line) old text mid × AreAnswered mid lines texts new
+AreAnswered old (line ∷ lines) (text ∷ texts) new =
+    (mid : State) × IsAnswered (step_said line) old text mid × AreAnswered mid lines texts new
 
 -- lines are written with an LF at the end of each
 unfoldable pub written_lines : List (List ℕ) → List ℕ
 written_lines lines = flat_map (λ line. line ++ 10 ∷ []) lines
 
 -- the text of a world has its number of positions, and then an answer line for each line in turn
-pub record IsWorldText (start : State) (positions : ℕ) (lines : List (List ℕ)) (text : List ℕ) : Type 0 where
+pub record IsWorldText (start : State) (positions : ℕ) (lines : List (List ℕ)) (text : List ℕ) :
+    Type 0 where
   pub last : State
   pub answers : List (List ℕ)
   pub answered : AreAnswered start lines answers last
   pub text_is : text ≡ written_lines ((codes "OPENED " ++ decimal positions) ∷ answers)
 
 -- a world was opened with this, and the text is its own
-pub record AreSteps (opening : OpenLine) (lines : List (List ℕ)) (text : List ℕ) (status : ℕ) : Type 0 where
+pub record AreSteps (opening : OpenLine) (lines : List (List ℕ)) (text : List ℕ) (status : ℕ) :
+    Type 0 where
   pub start : State
   pub opened : IsOpened (base_opened opening) start
   pub text_is : IsWorldText start (tiles (base_opened opening)) lines text
@@ -99,10 +107,13 @@ IsAnswerOf (Err refusal) lines text status = IsOneRefusal refusal text status
 
 -- an answer to a text, with these lines after the first; or out of memory to open its world
 abbrev pub IsStepsAnswer : List ℕ → List (List ℕ) → List ℕ → ℕ → Type 0
-IsStepsAnswer bytes heard text status = IsAnswerOf (opened_by (lines_of bytes)) heard text status ⊎ (IsOk (opened_by (lines_of bytes)) × IsOneRefusal refusals.Memory text status)
+IsStepsAnswer bytes heard text status =
+    IsAnswerOf (opened_by (lines_of bytes)) heard text status
+    ⊎ (IsOk (opened_by (lines_of bytes)) × IsOneRefusal refusals.Memory text status)
 
 -- an answer to these bytes was wholly written
-pub record IsAnsweredWhole (bytes : List ℕ) (held_before held_after : Option (List ℕ)) (status : ℕ) : Type 0 where
+pub record IsAnsweredWhole (bytes : List ℕ) (held_before held_after : Option (List ℕ))
+    (status : ℕ) : Type 0 where
   pub text : List ℕ
   pub answer : IsStepsAnswer bytes (later_lines (lines_of bytes)) text status
   pub written : Appends held_before text held_after
@@ -125,7 +136,8 @@ memory_line = refusal_text refusals.Memory ++ 10 ∷ []
 pub record AnswersText (unread held_before held_after : Option (List ℕ)) (status : ℕ) : Type 0 where
   pub bytes : List ℕ
   pub all : AreAll unread bytes
-  pub whole : IsAnsweredWhole bytes held_before held_after status ⊎ (Appends held_before memory_line held_after × (status ≡ 1))
+  pub whole : IsAnsweredWhole bytes held_before held_after status
+      ⊎ (Appends held_before memory_line held_after × (status ≡ 1))
 
 -- a prefix was written: of an answer to all of the reader's bytes, or of the line for out of memory
 pub record BeginsToAnswerText (unread held_before held_after : Option (List ℕ)) : Type 0 where

@@ -8,13 +8,15 @@ use Rattle.engines.specs.declared.ask.Stop.{Stop}
 use Rattle.engines.specs.declared.ask.Stop.TheVariants as stops
 
 -- what was read is in a buffer, after its earlier bytes
-pub record Gathers (unread : Option (List ℕ)) (before after : List ℕ) (left : Option (List ℕ)) : Type 0 where
+pub record Gathers (unread : Option (List ℕ)) (before after : List ℕ) (left : Option (List ℕ)) :
+    Type 0 where
   pub bytes : List ℕ
   pub taken : Takes unread bytes left
   pub after_is : after ≡ before ++ bytes
 
 -- all that the stream had left is in a buffer, after its earlier bytes
-pub record GathersAll (unread : Option (List ℕ)) (before after : List ℕ) (left : Option (List ℕ)) : Type 0 where
+pub record GathersAll (unread : Option (List ℕ)) (before after : List ℕ) (left : Option (List ℕ)) :
+    Type 0 where
   pub gathered : Gathers unread before after left
   pub ended : AreAll left []
 
@@ -65,7 +67,8 @@ abbrev pub IsEndLine : Type 0 → List ℕ → Type 0
 IsEndLine sound line = (line ≡ net_text) ⊎ ((line ≡ memory_text) × sound)
 
 -- a prefix of what was read was written, and after it the line that says why it ended
-pub record EndsEarly (sound : Type 0) (unread left held_before held_after : Option (List ℕ)) : Type 0 where
+pub record EndsEarly (sound : Type 0) (unread left held_before held_after : Option (List ℕ)) :
+    Type 0 where
   pub bytes : List ℕ
   pub front : List ℕ
   pub back : List ℕ
@@ -76,7 +79,8 @@ pub record EndsEarly (sound : Type 0) (unread left held_before held_after : Opti
   pub written : Appends held_before (front ++ line) held_after
 
 -- a prefix of what was read was written, and after it a prefix of the line that says why it ended
-pub record BreaksOff (sound : Type 0) (unread left held_before held_after : Option (List ℕ)) : Type 0 where
+pub record BreaksOff (sound : Type 0) (unread left held_before held_after : Option (List ℕ)) :
+    Type 0 where
   pub bytes : List ℕ
   pub front : List ℕ
   pub back : List ℕ
@@ -106,7 +110,8 @@ pub record EndsCut (unread left : Option (List ℕ)) : Type 0 where
   pub ended : AreAll left []
 
 -- requests were read and sent, up to a reply that ends the stream or to the end of the reader
-pub record AsksAll (unread left held_before held_after printed_before printed_after : Option (List ℕ)) : Type 0 where
+pub record AsksAll (unread left held_before held_after printed_before printed_after : Option
+    (List ℕ)) : Type 0 where
   pub between : Option (List ℕ)
   pub asked : Asks unread between held_before held_after
   pub over : ((left ≡ between) × EndsByBye printed_before printed_after) ⊎ EndsCut between left

@@ -1,7 +1,9 @@
 -- The command line: this project's own rule, in the words of `clap`.
-use Rattle.std.specs.Prelude.{◌≡◌, ℕ, List, [], ◌∷◌, Some, None, IsSome, ◌⊎◌, codes, map, option_map, option_and_then, true, false}
+use Rattle.std.specs.Prelude.{◌≡◌, ℕ, List, [], ◌∷◌, Some, None, IsSome, ◌⊎◌, codes, map}
+use Rattle.std.specs.Prelude.{option_map, option_and_then, true, false}
 use Rattle.std.specs.Borrow.{Bor}
-use Rattle.clap.specs.Words.{App, Row, Rule, first_of, kind_of, takes, new_app, new_rule, one_of, subcommand_of, with_rule, with_subcommand}
+use Rattle.clap.specs.Words.{App, Row, Rule, first_of, kind_of, takes, new_app, new_rule, one_of}
+use Rattle.clap.specs.Words.{subcommand_of, with_rule, with_subcommand}
 use Rattle.clap.specs.Simple.{on_top}
 use Rattle.clap.specs.declared.builder.ArgAction.TheVariants.{SetTrue}
 use Rattle.clap.specs.declared.error.Error.{Error}
@@ -14,10 +16,12 @@ use Rattle.engines.specs.declared.command_line.arguments.AskOptions.{AskOptions}
 use Rattle.engines.specs.declared.command_line.arguments.DistOptions.{DistOptions}
 use Rattle.engines.specs.declared.command_line.arguments.ServeOptions.{ServeOptions}
 use Rattle.engines.specs.declared.command_line.arguments.Options.{Options}
-use Rattle.engines.specs.declared.command_line.arguments.Options.TheVariants.{Ask, Dist, Serve, Steps}
+use Rattle.engines.specs.declared.command_line.arguments.Options.TheVariants.{Ask, Dist, Serve}
+use Rattle.engines.specs.declared.command_line.arguments.Options.TheVariants.{Steps}
 use Rattle.engines.specs.declared.command_line.arguments.Fault.{Fault}
 use Rattle.engines.specs.declared.command_line.arguments.Fault.TheVariants.{Memory}
-use Rattle.engines.specs.words.ServeLine.{AreAskOptions, AreServeOptions, ask_app, default_rule, in_range, serve_app}
+use Rattle.engines.specs.words.ServeLine.{AreAskOptions, AreServeOptions, ask_app, default_rule}
+use Rattle.engines.specs.words.ServeLine.{in_range, serve_app}
 
 -- the texts of some words are their bytes
 abbrev pub texts_of : List (Bor (List ℕ)) → List (List ℕ)
@@ -25,11 +29,17 @@ texts_of words = map (λ word. word.now) words
 
 -- the flag `--metric` has the default `euclid2`
 abbrev pub metric_rule : Rule
-metric_rule = record (new_rule (codes "metric")) { long = Some (codes "metric"); value_names = 1; defaults = codes "euclid2" ∷ [] }
+metric_rule =
+    record (new_rule (codes "metric")) {
+      long = Some (codes "metric");
+      value_names = 1;
+      defaults = codes "euclid2" ∷ [];
+    }
 
 -- the flag `--nearest` takes no value
 abbrev pub nearest_rule : Rule
-nearest_rule = record (new_rule (codes "nearest")) { long = Some (codes "nearest"); action = Some SetTrue }
+nearest_rule =
+    record (new_rule (codes "nearest")) { long = Some (codes "nearest"); action = Some SetTrue }
 
 -- the flag `--query` has no default
 abbrev pub query_rule : Rule
@@ -37,7 +47,11 @@ query_rule = record (new_rule (codes "query")) { long = Some (codes "query"); va
 
 -- the subcommand `dist` has these flags
 abbrev pub dist_app : App
-dist_app = with_rule (with_rule (with_rule (with_rule (with_rule (new_app (codes "dist")) metric_rule) nearest_rule) query_rule) (default_rule (codes "workers") (codes "1"))) (default_rule (codes "edge") (codes "open"))
+dist_app =
+    with_rule
+    (with_rule (with_rule (with_rule (with_rule (new_app (codes "dist")) metric_rule) nearest_rule)
+    query_rule) (default_rule (codes "workers") (codes "1")))
+    (default_rule (codes "edge") (codes "open"))
 
 -- the subcommand `steps` has no flags
 abbrev pub steps_app : App
@@ -46,7 +60,11 @@ steps_app = new_app (codes "steps")
 -- the program has a version, and requires a subcommand
 abbrev pub program_app : App
 program_app =
-    with_subcommand (with_subcommand (with_subcommand (with_subcommand (on_top (λ s. record s { has_version = true; subcommand_required = true }) (new_app (codes "clearmap"))) dist_app.top) steps_app.top) serve_app.top) ask_app.top
+    with_subcommand
+    (with_subcommand
+    (with_subcommand
+    (with_subcommand (on_top (λ s. record s { has_version = true; subcommand_required = true })
+    (new_app (codes "clearmap"))) dist_app.top) steps_app.top) serve_app.top) ask_app.top
 
 -- the flags of `dist` are as the words give them, each with its default if it isn't given
 pub record AreDistOptions (rows : List Row) (options : DistOptions) : Type 0 where
@@ -61,18 +79,27 @@ pub record AreDistOptions (rows : List Row) (options : DistOptions) : Type 0 whe
 abbrev pub AreNoDistOptions : List Row → Type 0
 AreNoDistOptions rows =
     (option_and_then metric_named (first_of (codes "metric") rows) ≡ None)
-    ⊎ ((option_and_then edge_named (first_of (codes "edge") rows) ≡ None) ⊎ (in_range 1 16 (first_of (codes "workers") rows) ≡ None))
+    ⊎ ((option_and_then edge_named (first_of (codes "edge") rows) ≡ None)
+    ⊎ (in_range 1 16 (first_of (codes "workers") rows) ≡ None))
 
 -- the options of `dist` without flags
 abbrev pub default_options : DistOptions
-default_options = record { metric = Euclid2; edge = Open; nearest = false; query = None; workers = 1 }
+default_options =
+    record { metric = Euclid2; edge = Open; nearest = false; query = None; workers = 1 }
 
 -- the options are those of the subcommand that the words name
 abbrev pub AreOptions : List (List ℕ) → Options → Type 0
-AreOptions words (Dist options) = (rows : List Row) × (subcommand_of program_app words ≡ Some (codes "dist", rows)) × AreDistOptions rows options
-AreOptions words Steps = (rows : List Row) × (subcommand_of program_app words ≡ Some (codes "steps", rows))
-AreOptions words (Serve options) = (rows : List Row) × (subcommand_of program_app words ≡ Some (codes "serve", rows)) × AreServeOptions rows options
-AreOptions words (Ask options) = (rows : List Row) × (subcommand_of program_app words ≡ Some (codes "ask", rows)) × AreAskOptions rows options
+AreOptions words (Dist options) =
+    (rows : List Row) × (subcommand_of program_app words ≡ Some (codes "dist", rows))
+    × AreDistOptions rows options
+AreOptions words Steps =
+    (rows : List Row) × (subcommand_of program_app words ≡ Some (codes "steps", rows))
+AreOptions words (Serve options) =
+    (rows : List Row) × (subcommand_of program_app words ≡ Some (codes "serve", rows))
+    × AreServeOptions rows options
+AreOptions words (Ask options) =
+    (rows : List Row) × (subcommand_of program_app words ≡ Some (codes "ask", rows))
+    × AreAskOptions rows options
 
 -- the words name `dist`, a metric and an edge that exist, and a number of workers
 pub record NameDist (words : List (List ℕ)) : Type 0 where
@@ -97,7 +124,8 @@ NameAsk words = (options : AskOptions) × AreOptions words (Ask options)
 
 -- the program accepts these words, which have the form of its commands and flags for `clap`
 abbrev pub AreTaken : List (List ℕ) → Type 0
-AreTaken words = (takes program_app words ≡ true) × (NameDist words ⊎ (NameSteps words ⊎ (NameServe words ⊎ NameAsk words)))
+AreTaken words = (takes program_app words ≡ true)
+    × (NameDist words ⊎ (NameSteps words ⊎ (NameServe words ⊎ NameAsk words)))
 
 -- an error of `clap` becomes this fault, and out of memory is a fault of its own
 abbrev pub IsFaultOf : Error → Fault → Type 0

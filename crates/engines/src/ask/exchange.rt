@@ -65,12 +65,14 @@ fn send<S: Stream>(stream: &mut S, request: &[u8]) -> Result<(), Stop>
 /// Appends a reply to the buffer, with the bytes that it counts if it was asked for bytes.
 fn read_reply<S: Stream>(stream: &mut S, dump: bool, reply: &mut Vec<u8>) -> Result<(), Stop>
     requires { CanFail (S.failed_reads stream.old) }
-    ensures all { OnOk result (Gathers (S.rest stream.old) reply.old.items reply.new.items (S.rest stream.new)) }
+    ensures all { OnOk result (Gathers (S.rest stream.old) reply.old.items reply.new.items
+        (S.rest stream.new)) }
     ensures taken { (taken : List ℕ) × Takes (S.rest stream.old) taken (S.rest stream.new) }
     ensures written { S.written stream.new ≡ S.written stream.old }
     ensures reads { result ≢ Err Net → S.failed_reads stream.new ≡ S.failed_reads stream.old }
     ensures net { result ≢ Err Standard }
-    ensures reply { reply.old.items ≡ [] → OnOk result (IsCounted (bytes_promised dump) reply.new.items) }
+    ensures reply { reply.old.items ≡ []
+        → OnOk result (IsCounted (bytes_promised dump) reply.new.items) }
 {
     match read_whole(stream, dump, reply) {
         Ok(()) => Ok(()),
@@ -82,11 +84,13 @@ fn read_reply<S: Stream>(stream: &mut S, dump: bool, reply: &mut Vec<u8>) -> Res
 /// Reads a line into the empty buffer, and the bytes that it counts if it was asked for bytes.
 fn read_whole<S: Stream>(stream: &mut S, dump: bool, reply: &mut Vec<u8>) -> Result<(), PartStop>
     requires { CanFail (S.failed_reads stream.old) }
-    ensures all { OnOk result (Gathers (S.rest stream.old) reply.old.items reply.new.items (S.rest stream.new)) }
+    ensures all { OnOk result (Gathers (S.rest stream.old) reply.old.items reply.new.items
+        (S.rest stream.new)) }
     ensures taken { (taken : List ℕ) × Takes (S.rest stream.old) taken (S.rest stream.new) }
     ensures written { S.written stream.new ≡ S.written stream.old }
     ensures reads { result ≢ Err Failed → S.failed_reads stream.new ≡ S.failed_reads stream.old }
-    ensures reply { reply.old.items ≡ [] → OnOk result (IsCounted (bytes_promised dump) reply.new.items) }
+    ensures reply { reply.old.items ≡ []
+        → OnOk result (IsCounted (bytes_promised dump) reply.new.items) }
 {
     read_line(stream, reply)?;
     let count = promised(without_end(reply.as_slice()), dump);

@@ -1,6 +1,7 @@
 //! A line of `ask`, with the bytes that it counts.
 
-ghost use Rattle.std.specs.Prelude.{◌≡◌, ◌≢◌, ◌++◌, ◌∷◌, [], ℕ, List, ◌+◌, OnOk, Ok, Err, true, false};
+ghost use Rattle.std.specs.Prelude.{◌≡◌, ◌≢◌, ◌++◌, ◌∷◌, [], ℕ, List, ◌+◌, OnOk, Ok, Err, true};
+ghost use Rattle.std.specs.Prelude.{false};
 ghost use Rattle.std.specs.Str.Lines.{strip_carriage_return};
 ghost use Rattle.metric.specs.Stream.{CanFail, Takes};
 ghost use Rattle.engines.specs.ask.Asking.{IsRequest, counted_by};
@@ -17,10 +18,12 @@ use proto::{Line, MOST_COUNTED, Verb, read_stamp, split_verb, without_cr};
 /// all of them.
 pub fn read_request<R: Source>(reader: &mut R, request: &mut Vec<u8>) -> Result<bool, Stop>
     requires { CanFail (R.failed_reads reader.old) }
-    ensures all { result ≡ Ok true → Takes (R.rest reader.old) request.new.items (R.rest reader.new) }
+    ensures all { result ≡ Ok true
+        → Takes (R.rest reader.old) request.new.items (R.rest reader.new) }
     ensures taken { (taken : List ℕ) × Takes (R.rest reader.old) taken (R.rest reader.new) }
     ensures counts { result ≢ Err Standard → R.failed_reads reader.new ≡ R.failed_reads reader.old }
-    ensures failed { result ≡ Err Standard → R.failed_reads reader.new ≡ R.failed_reads reader.old + 1 }
+    ensures failed { result ≡ Err Standard
+        → R.failed_reads reader.new ≡ R.failed_reads reader.old + 1 }
     ensures request { result ≡ Ok true → IsRequest request.new.items }
     ensures ended { result ≡ Ok false → EndsCut (R.rest reader.old) (R.rest reader.new) }
 {
@@ -36,12 +39,15 @@ pub fn read_request<R: Source>(reader: &mut R, request: &mut Vec<u8>) -> Result<
 /// Reads a line and the bytes that it counts into the empty buffer.
 fn read_whole<R: Source>(reader: &mut R, request: &mut Vec<u8>) -> Result<(), PartStop>
     requires { CanFail (R.failed_reads reader.old) }
-    ensures all { OnOk result (Gathers (R.rest reader.old) request.old.items request.new.items (R.rest reader.new)) }
+    ensures all { OnOk result (Gathers (R.rest reader.old) request.old.items request.new.items
+        (R.rest reader.new)) }
     ensures taken { (taken : List ℕ) × Takes (R.rest reader.old) taken (R.rest reader.new) }
     ensures counts { result ≢ Err Failed → R.failed_reads reader.new ≡ R.failed_reads reader.old }
-    ensures failed { result ≡ Err Failed → R.failed_reads reader.new ≡ R.failed_reads reader.old + 1 }
+    ensures failed { result ≡ Err Failed
+        → R.failed_reads reader.new ≡ R.failed_reads reader.old + 1 }
     ensures request { request.old.items ≡ [] → OnOk result (IsRequest request.new.items) }
-    ensures ended { request.old.items ≡ [] → result ≡ Err Ended → EndsCut (R.rest reader.old) (R.rest reader.new) }
+    ensures ended { request.old.items ≡ [] → result ≡ Err Ended
+        → EndsCut (R.rest reader.old) (R.rest reader.new) }
 {
     read_line(reader, request)?;
     let count = counted(without_end(request.as_slice()));
@@ -50,7 +56,8 @@ fn read_whole<R: Source>(reader: &mut R, request: &mut Vec<u8>) -> Result<(), Pa
 
 /// A line without its LF and the CR before it.
 pub fn without_end(line: &[u8]) -> &[u8]
-    ensures { (front : List ℕ) → line.now ≡ front ++ 10 ∷ [] → result.now ≡ strip_carriage_return front }
+    ensures { (front : List ℕ) → line.now ≡ front ++ 10 ∷ []
+        → result.now ≡ strip_carriage_return front }
 {
     match line.split_last() {
         Some((_, line)) => without_cr(line),

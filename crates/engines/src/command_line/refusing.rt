@@ -53,7 +53,8 @@ fn tell_memory<W: Sink>(writer: &mut W, refusal: Refusal) -> u8
     requires memory { refusal ≡ Refusal.Memory }
     ensures written { W.failed_writes writer.new ≡ W.failed_writes writer.old
         → Appends (W.held writer.old) (refusal_text Refusal.Memory ++ 10 ∷ []) (W.held writer.new) }
-    ensures failed { W.failed_writes writer.new ≢ W.failed_writes writer.old → Begins (W.held writer.old) (W.held writer.new) }
+    ensures failed { W.failed_writes writer.new ≢ W.failed_writes writer.old
+        → Begins (W.held writer.old) (W.held writer.new) }
     ensures one_failure { W.failed_writes writer.new ≤ W.failed_writes writer.old + 1 }
     ensures status { result ≡ 1 }
 {
@@ -70,12 +71,16 @@ pub fn tell<W: Sink, E: Sink>(
 ) -> u8
     requires writer { CanFail (W.failed_writes writer.old) }
     requires errors { CanFail (E.failed_writes errors.old) }
-    ensures told { W.failed_writes writer.new ≡ W.failed_writes writer.old → E.failed_writes errors.new ≡ E.failed_writes errors.old
-        → IsFaultTold fault.now (W.held writer.old) (W.held writer.new) (E.held errors.old) (E.held errors.new) result }
+    ensures told { W.failed_writes writer.new ≡ W.failed_writes writer.old
+        → E.failed_writes errors.new ≡ E.failed_writes errors.old
+        → IsFaultTold fault.now (W.held writer.old) (W.held writer.new) (E.held errors.old)
+        (E.held errors.new) result }
     ensures failed_write { W.failed_writes writer.new ≢ W.failed_writes writer.old
-        → Begins (W.held writer.old) (W.held writer.new) × (E.held errors.new ≡ E.held errors.old) × (result ≡ 1) }
+        → Begins (W.held writer.old) (W.held writer.new) × (E.held errors.new ≡ E.held errors.old)
+        × (result ≡ 1) }
     ensures failed_error { E.failed_writes errors.new ≢ E.failed_writes errors.old
-        → Begins (E.held errors.old) (E.held errors.new) × (W.held writer.new ≡ W.held writer.old) × (result ≡ 1) }
+        → Begins (E.held errors.old) (E.held errors.new) × (W.held writer.new ≡ W.held writer.old)
+        × (result ≡ 1) }
     ensures one_failure { W.failed_writes writer.new + E.failed_writes errors.new
         ≤ W.failed_writes writer.old + E.failed_writes errors.old + 1 }
 {

@@ -1,6 +1,7 @@
 //! The words that `serve` and `ask` accept, by `clap`.
 
-ghost use Rattle.std.specs.Prelude.{◌≡◌, ◌≤◌, IfOk, IfErr, OnErr, MatchResult, true, false, Some, None, codes, option_and_then};
+ghost use Rattle.std.specs.Prelude.{◌≡◌, ◌≤◌, IfOk, IfErr, OnErr, MatchResult, true, false, Some};
+ghost use Rattle.std.specs.Prelude.{None, codes, option_and_then};
 ghost use Rattle.clap.specs.Words.{app_of, first_value, found_of, kind_of, rows_of, rule_of};
 ghost use Rattle.clap.specs.Matches.{subcommand_name_of};
 ghost use Rattle.clap.specs.declared.builder.command.Command.TheViews.{out-Command};
@@ -9,7 +10,9 @@ ghost use Rattle.metric.specs.Edge.{edge_named};
 ghost use Rattle.proto.specs.Numbers.{number};
 ghost use Rattle.engines.specs.declared.command_line.arguments.AskOptions.{AskOptions as TheAskOptions};
 ghost use Rattle.engines.specs.declared.command_line.arguments.ServeOptions.{ServeOptions as TheServeOptions};
-ghost use Rattle.engines.specs.words.ServeLine.{AreAskOptions, AreMatched, AreNoMatch, AreServeOptions, ask_app, default_rule, in_range, required_rule, serve_app, within};
+ghost use Rattle.engines.specs.words.ServeLine.{AreAskOptions, AreMatched, AreNoMatch};
+ghost use Rattle.engines.specs.words.ServeLine.{AreServeOptions, ask_app, default_rule, in_range};
+ghost use Rattle.engines.specs.words.ServeLine.{required_rule, serve_app, within};
 
 use crate::command_line::arguments::{AskOptions, Fault, Options, ServeOptions};
 use clap::{Arg, ArgMatches, Command, Error};
@@ -48,7 +51,8 @@ pub fn serve_or_ask<'a>(matches: &ArgMatches<'a>) -> Result<Options<'a>, Fault<'
 /// The flags of `serve`.
 fn serve_options<'a>(flags: &ArgMatches<'a>) -> Result<ServeOptions, Fault<'a>>
     ensures options { IfOk result (AreServeOptions (rows_of (found_of flags.now))) }
-    ensures refused { OnErr result ((options : TheServeOptions) → AreServeOptions (rows_of (found_of flags.now)) options → ⊥) }
+    ensures refused { OnErr result ((options : TheServeOptions)
+        → AreServeOptions (rows_of (found_of flags.now)) options → ⊥) }
 {
     Ok(ServeOptions {
         connections: number_given(flags, "connections", 1, 1_000_000)?,
@@ -63,8 +67,10 @@ fn serve_options<'a>(flags: &ArgMatches<'a>) -> Result<ServeOptions, Fault<'a>>
 
 /// The edge that `--edge` names.
 pub fn edge_given<'a>(flags: &ArgMatches<'a>) -> Result<Edge, Fault<'a>>
-    ensures { MatchResult result (λ edge. option_and_then edge_named (first_value (found_of flags.now) (codes "edge"))
-        ≡ Some edge) (λ _. option_and_then edge_named (first_value (found_of flags.now) (codes "edge")) ≡ None) }
+    ensures { MatchResult result
+        (λ edge. option_and_then edge_named (first_value (found_of flags.now) (codes "edge"))
+        ≡ Some edge) (λ _. option_and_then edge_named
+        (first_value (found_of flags.now) (codes "edge")) ≡ None) }
 {
     match edge_of(flags) {
         Some(edge) => Ok(edge),
@@ -76,7 +82,8 @@ pub fn edge_given<'a>(flags: &ArgMatches<'a>) -> Result<Edge, Fault<'a>>
 
 /// The edge of this name, if there is one.
 fn edge_of(flags: &ArgMatches<'_>) -> Option<Edge>
-    ensures { result ≡ option_and_then edge_named (first_value (found_of flags.now) (codes "edge")) }
+    ensures { result ≡ option_and_then edge_named
+        (first_value (found_of flags.now) (codes "edge")) }
 {
     flags
         .get_str("edge")
@@ -86,7 +93,8 @@ fn edge_of(flags: &ArgMatches<'_>) -> Option<Edge>
 /// The flag of `ask`.
 fn ask_options(flags: &ArgMatches<'_>) -> Result<AskOptions, Fault<'static>>
     ensures options { IfOk result (AreAskOptions (rows_of (found_of flags.now))) }
-    ensures refused { OnErr result ((options : TheAskOptions) → AreAskOptions (rows_of (found_of flags.now)) options → ⊥) }
+    ensures refused { OnErr result ((options : TheAskOptions)
+        → AreAskOptions (rows_of (found_of flags.now)) options → ⊥) }
 {
     Ok(AskOptions {
         port: port_given(flags, 1)?,
@@ -95,7 +103,8 @@ fn ask_options(flags: &ArgMatches<'_>) -> Result<AskOptions, Fault<'static>>
 
 /// The port that `--port` gives, at least `least`.
 fn port_given(flags: &ArgMatches<'_>, least: u32) -> Result<u16, Fault<'static>>
-    ensures { MatchResult result (λ port. in_range least 65535 (first_value (found_of flags.now) (codes "port")) ≡ Some port)
+    ensures { MatchResult result
+        (λ port. in_range least 65535 (first_value (found_of flags.now) (codes "port")) ≡ Some port)
         (λ _. in_range least 65535 (first_value (found_of flags.now) (codes "port")) ≡ None) }
 {
     let port = number_given(flags, "port", least, 65535)?;
@@ -109,7 +118,9 @@ pub fn number_given(
     least: u32,
     most: u32,
 ) -> Result<u32, Fault<'static>>
-    ensures { MatchResult result (λ n. (in_range least most (first_value (found_of flags.now) name.now) ≡ Some n) × (n ≤ most))
+    ensures { MatchResult result
+        (λ n. (in_range least most (first_value (found_of flags.now) name.now) ≡ Some n)
+        × (n ≤ most))
         (λ _. in_range least most (first_value (found_of flags.now) name.now) ≡ None) }
 {
     match value_given(flags, name) {

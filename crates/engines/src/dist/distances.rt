@@ -31,7 +31,8 @@ pub fn put_distances(decimals: &Decimals, text: &mut [u8], at: usize, distances:
 #[inline(always)]
 fn put_others(decimals: &Decimals, text: &mut [u8], at: usize, distances: &[u32]) -> usize
     requires { at + (25 * length distances.now + 3) ≤ length text.old }
-    ensures text { Puts text.old at (flat_map (λ distance. 32 ∷ distance_text distance) distances.now) text.new result }
+    ensures text { Puts text.old at
+        (flat_map (λ distance. 32 ∷ distance_text distance) distances.now) text.new result }
     ensures end { result ≤ at + 25 * length distances.now }
 {
     let mut end = at;

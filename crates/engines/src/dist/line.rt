@@ -38,7 +38,8 @@ pub fn put_row(decimals: &Decimals, text: &mut [u8], at: usize, nears: &[Option<
 #[inline(always)]
 fn put_others(decimals: &Decimals, text: &mut [u8], at: usize, nears: &[Option<Near>]) -> usize
     requires { at + (25 * length nears.now + 3) ≤ length text.old }
-    ensures text { Puts text.old at (flat_map (λ near. 32 ∷ entry_text true near) nears.now) text.new result }
+    ensures text { Puts text.old at (flat_map (λ near. 32 ∷ entry_text true near) nears.now)
+        text.new result }
     ensures end { result ≤ at + 25 * length nears.now }
 {
     let mut end = at;

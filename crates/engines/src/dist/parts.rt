@@ -1,6 +1,7 @@
 //! The lines of a table's rows, written by workers in parallel.
 
-ghost use Rattle.std.specs.Prelude.{◌≡◌, ◌+◌, ◌-◌, ◌*◌, ◌<◌, ◌≤◌, All, IfOk, length, vec_capacity, vec_len};
+ghost use Rattle.std.specs.Prelude.{◌≡◌, ◌+◌, ◌-◌, ◌*◌, ◌<◌, ◌≤◌, All, IfOk, length, vec_capacity};
+ghost use Rattle.std.specs.Prelude.{vec_len};
 ghost use Rattle.std.specs.List.{slice_range};
 ghost use Rattle.engines.specs.dist.Putting.{Puts};
 ghost use Rattle.engines.specs.dist.Table.{row_line, rows_text};

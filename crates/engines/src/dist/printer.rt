@@ -145,7 +145,8 @@ impl<M: Metric + Sync> Printer<M> {
             &|place, part: &mut WorkerLines|
                 requires { (place < 16) × (from < LATEST_ROWS) × (1 ≤ printer.now.rows)
                     × (printer.now.rows ≤ MOST_SIDE)
-                    × IsShare printer.now.nearest printer.now.table.width printer.now.rows part.now }
+                    × IsShare printer.now.nearest printer.now.table.width printer.now.rows
+                    part.now }
                 ensures { HasRows printer.entry.now.nearest printer.entry.now.table
                     printer.entry.now.rows (from + printer.entry.now.rows * place) part.exit.now }
             { part.put(printer, row_after(from, printer.rows, place)) },

@@ -24,7 +24,8 @@ pub fn answer_query_line(alloc: Global, bitmap: &Bitmap, edge: Edge, line: &[u8]
 /// The query in a line. A command that isn't a query is unknown here, whatever its arguments.
 fn query_in(alloc: Global, line: &[u8]) -> Result<Query, Refusal>
     ensures query { IfOk result (λ query. asked_in line.now ≡ Ok (asked_by query)) }
-    ensures refusal { IfErr result (λ refusal. refusal ≢ Refusal.Memory → asked_in line.now ≡ Err refusal) }
+    ensures refusal { IfErr result (λ refusal. refusal ≢ Refusal.Memory
+        → asked_in line.now ≡ Err refusal) }
     ensures memory { result ≡ Err Refusal.Memory → IsOkAnd (asked_in line.now) HasPoints }
 {
     match split_verb(line) {

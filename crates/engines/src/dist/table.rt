@@ -27,7 +27,11 @@ impl<M: Metric> Model for Table<M> {
 
     ghost Value = { TableView };
 
-    ghost view = { λ t. record { width = t.width; height = t.height; nears = nears_told M.distance t.obstacles } };
+    ghost view = { λ t. record {
+      width = t.width;
+      height = t.height;
+      nears = nears_told M.distance t.obstacles;
+    } };
 
     ghost invariant = { λ t. HasAllRows M.distance t.width t.height t.obstacles };
 }
@@ -77,7 +81,8 @@ impl<M: Metric + Sync> Table<M> {
     pub fn fill_row(&self, y: u16, nears: &mut [Option<Near>])
         requires row { y < self.now.height }
         requires width { length nears.old ≡ self.now.width }
-        ensures { nears.new ≡ slice_range self.now.nears (y * self.now.width) (y * self.now.width + self.now.width) }
+        ensures { nears.new ≡ slice_range self.now.nears (y * self.now.width)
+            (y * self.now.width + self.now.width) }
     {
         self.obstacles.fill_row(y, nears);
     }
@@ -87,7 +92,8 @@ impl<M: Metric + Sync> Table<M> {
     pub fn fill_distances(&self, y: u16, distances: &mut [u32])
         requires row { y < self.now.height }
         requires width { length distances.old ≡ self.now.width }
-        ensures { AreDistances (slice_range self.now.nears (y * self.now.width) (y * self.now.width + self.now.width)) distances.new }
+        ensures { AreDistances (slice_range self.now.nears (y * self.now.width)
+            (y * self.now.width + self.now.width)) distances.new }
     {
         self.obstacles.fill_distances(y, distances);
     }

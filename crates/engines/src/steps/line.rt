@@ -3,7 +3,8 @@
 ghost use Rattle.std.specs.Prelude.{◌≡◌, option_map, unwrap_or};
 ghost use Rattle.proto.specs.Said.{first_verb, said_of};
 ghost use Rattle.proto.specs.Words.{words_left};
-ghost use Rattle.engines.specs.steps.StepLines.{bad, letter_named, letter_said, order_said, step_said, step_said_by};
+ghost use Rattle.engines.specs.steps.StepLines.{bad, letter_named, letter_said, order_said};
+ghost use Rattle.engines.specs.steps.StepLines.{step_said, step_said_by};
 
 use map_core::Event;
 use metric::Refusal;
@@ -64,7 +65,8 @@ fn letter_of(word: &[u8]) -> Option<Letter>
 /// anything.
 #[tactic(auto, unfolding(proto::specs::Said::said, proto::specs::Said::verb_in))]
 fn order(rest: Option<&[u8]>) -> StepLine
-    ensures { step_said_by result ≡ order_said (first_verb (words_left rest.entry)) (said_of (words_left rest.entry)) }
+    ensures { step_said_by result ≡ order_said (first_verb (words_left rest.entry))
+        (said_of (words_left rest.entry)) }
 {
     let Some(line) = rest else {
         return StepLine::Bad;
@@ -80,7 +82,8 @@ fn order(rest: Option<&[u8]>) -> StepLine
 
 /// What a letter says with the rest of its line; nothing if that isn't what the letter takes.
 fn letter_line(letter: Letter, rest: Option<&[u8]>) -> Option<StepLine>
-    ensures { unwrap_or (option_map step_said_by result) bad ≡ letter_said letter (words_left rest.entry) }
+    ensures { unwrap_or (option_map step_said_by result) bad
+        ≡ letter_said letter (words_left rest.entry) }
 {
     Some(match letter {
         Letter::Announce => StepLine::Event(Event::Announce {

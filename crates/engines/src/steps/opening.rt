@@ -1,13 +1,15 @@
 //! The first line of steps, and the world that it opens.
 
-ghost use Rattle.std.specs.Prelude.{◌≡◌, ◌≢◌, ◌∷◌, ◌++◌, [], Ok, Err, true, false, option_and_then, IfOk, IfErr, IfSome, IsOk, MatchOption};
+ghost use Rattle.std.specs.Prelude.{◌≡◌, ◌≢◌, ◌∷◌, ◌++◌, [], Ok, Err, true, false, option_and_then};
+ghost use Rattle.std.specs.Prelude.{IfOk, IfErr, IfSome, IsOk, MatchOption};
 ghost use Rattle.bits.specs.Cells.{IsSide};
 ghost use Rattle.map_core.specs.Runs.{IsOpened};
 ghost use Rattle.map_core.specs.Words.{tiles};
 ghost use Rattle.proto.specs.Numbers.{numbers};
 ghost use Rattle.proto.specs.Words.{words_left};
 ghost use Rattle.engines.specs.words.Refusals.{HasWordsAlone};
-ghost use Rattle.engines.specs.steps.Opening.{base_opened, is_map_side, judged, opening_told, setting_of};
+ghost use Rattle.engines.specs.steps.Opening.{base_opened, is_map_side, judged, opening_told};
+ghost use Rattle.engines.specs.steps.Opening.{setting_of};
 
 use bits::Bitmap;
 use map_core::{Setting, World};
@@ -35,7 +37,8 @@ pub struct Opened {
 
 /// A side of a map, if the number is one.
 fn side(number: u32) -> Option<u16>
-    ensures { MatchOption result (is_map_side number ≡ false) (λ side. (side ≡ number) × (is_map_side number ≡ true)) }
+    ensures { MatchOption result (is_map_side number ≡ false)
+        (λ side. (side ≡ number) × (is_map_side number ≡ true)) }
 {
     if 1 <= number && number <= 4096 {
         Some(number as u16)
@@ -88,9 +91,12 @@ impl Opened {
     /// The world that a first line opens. Runs out of memory only if the map and the setting are
     /// valid.
     pub fn of(alloc: Global, line: &[u8]) -> Result<Self, Refusal>
-        ensures opened { IfOk result (λ opened. (opening : OpenLine) × (judged (opening_told line.now) ≡ Ok opening)
-            × IsOpened (base_opened opening) opened.world × (opened.tiles ≡ tiles (base_opened opening))) }
-        ensures refusal { IfErr result (λ refusal. refusal ≢ Refusal.Memory → judged (opening_told line.now) ≡ Err refusal) }
+        ensures opened { IfOk result (λ opened. (opening : OpenLine)
+            × (judged (opening_told line.now) ≡ Ok opening)
+            × IsOpened (base_opened opening) opened.world
+            × (opened.tiles ≡ tiles (base_opened opening))) }
+        ensures refusal { IfErr result (λ refusal. refusal ≢ Refusal.Memory
+            → judged (opening_told line.now) ≡ Err refusal) }
         ensures memory { result ≡ Err Refusal.Memory → IsOk (judged (opening_told line.now)) }
         ensures words { IfErr result HasWordsAlone }
     {

@@ -3,7 +3,8 @@
 ghost use Rattle.std.specs.Prelude.{◌≡◌, ◌≤◌, ◌∷◌, ◌++◌, [], length, IfOk, OnOk, OnErr};
 ghost use Rattle.metric.specs.Stream.{Appends, AppendsFront, Counts, CanFail};
 ghost use Rattle.engines.specs.steps.StepLines.{step_said};
-ghost use Rattle.engines.specs.steps.StepRuns.{IsAnswerLine, AreLinesDone, IsDoneInPart, IsWorldTold, IsToldInPart};
+ghost use Rattle.engines.specs.steps.StepRuns.{IsAnswerLine, AreLinesDone, IsDoneInPart};
+ghost use Rattle.engines.specs.steps.StepRuns.{IsWorldTold, IsToldInPart};
 ghost use Rattle.engines.specs.steps.Steps.{IsBegun, IsAnsweredWhole, KeepsAll};
 ghost use Rattle.engines.specs.streams.TextLines.{lines_of};
 
@@ -54,8 +55,10 @@ fn answer_lines<W: Sink>(
     writer: &mut W,
 ) -> Result<(), WriteFault>
     requires { CanFail (W.failed_writes writer.old) }
-    ensures all { OnOk result (AreLinesDone world.old (lines_of lines.now) (W.held writer.old) (W.held writer.new) world.new) }
-    ensures front { OnErr result (IsDoneInPart world.old (lines_of lines.now) (W.held writer.old) (W.held writer.new)) }
+    ensures all { OnOk result (AreLinesDone world.old (lines_of lines.now) (W.held writer.old)
+        (W.held writer.new) world.new) }
+    ensures front { OnErr result
+        (IsDoneInPart world.old (lines_of lines.now) (W.held writer.old) (W.held writer.new)) }
     ensures counts { Counts (W.failed_writes writer.old) result (W.failed_writes writer.new) }
 {
     let mut rest = lines;
@@ -76,8 +79,12 @@ fn write_world<W: Sink>(
 ) -> Result<u8, WriteFault>
     requires { CanFail (W.failed_writes writer.old) }
     ensures status { IfOk result (λ status. status ≡ 0) }
-    ensures whole { OnOk result (IsWorldTold opened.world opened.tiles (lines_of lines.now) (W.held writer.old) (W.held writer.new)) }
-    ensures front { OnErr result (IsToldInPart opened.world opened.tiles (lines_of lines.now) (W.held writer.old) (W.held writer.new)) }
+    ensures whole { OnOk result
+        (IsWorldTold opened.world opened.tiles (lines_of lines.now) (W.held writer.old)
+        (W.held writer.new)) }
+    ensures front { OnErr result
+        (IsToldInPart opened.world opened.tiles (lines_of lines.now) (W.held writer.old)
+        (W.held writer.new)) }
     ensures counts { Counts (W.failed_writes writer.old) result (W.failed_writes writer.new) }
 {
     let Opened {
@@ -95,7 +102,8 @@ fn write_world<W: Sink>(
 /// Writes the answer to a text.
 pub fn write_steps<W: Sink>(alloc: Global, bytes: &[u8], writer: &mut W) -> Result<u8, WriteFault>
     requires { CanFail (W.failed_writes writer.old) }
-    ensures whole { IfOk result (IsAnsweredWhole bytes.now (W.held writer.old) (W.held writer.new)) }
+    ensures whole { IfOk result
+        (IsAnsweredWhole bytes.now (W.held writer.old) (W.held writer.new)) }
     ensures front { OnErr result (IsBegun bytes.now (W.held writer.old) (W.held writer.new)) }
     ensures counts { Counts (W.failed_writes writer.old) result (W.failed_writes writer.new) }
 {

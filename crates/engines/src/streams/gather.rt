@@ -1,8 +1,10 @@
 //! Reads a line, or a number of bytes, into a buffer.
 
-ghost use Rattle.std.specs.Prelude.{◌≡◌, ◌≢◌, ◌+◌, ◌++◌, ◌∷◌, [], ℕ, List, vec_len, IfOk, OnOk, OnErr, Err};
+ghost use Rattle.std.specs.Prelude.{◌≡◌, ◌≢◌, ◌+◌, ◌++◌, ◌∷◌, [], ℕ, List, vec_len, IfOk, OnOk};
+ghost use Rattle.std.specs.Prelude.{OnErr, Err};
 ghost use Rattle.metric.specs.Stream.{CanFail, Takes};
-ghost use Rattle.engines.specs.streams.Passing.{Gathers, GathersAll, PutsCount, PutsFewer, PutsLine, PutsUnended};
+ghost use Rattle.engines.specs.streams.Passing.{Gathers, GathersAll, PutsCount, PutsFewer};
+ghost use Rattle.engines.specs.streams.Passing.{PutsLine, PutsUnended};
 ghost use Rattle.engines.specs.declared.streams.gather.PartStop.{PartStop};
 ghost use Rattle.engines.specs.declared.streams.gather.PartStop.TheVariants.{Ended, Failed};
 
@@ -34,10 +36,12 @@ impl From<AllocFailed<u8>> for PartStop {
 /// Appends a line with its LF to the buffer.
 pub fn read_line<R: Source>(reader: &mut R, bytes: &mut Vec<u8>) -> Result<(), PartStop>
     requires { CanFail (R.failed_reads reader.old) }
-    ensures all { OnOk result (Gathers (R.rest reader.old) bytes.old.items bytes.new.items (R.rest reader.new)) }
+    ensures all { OnOk result (Gathers (R.rest reader.old) bytes.old.items bytes.new.items
+        (R.rest reader.new)) }
     ensures taken { (taken : List ℕ) × Takes (R.rest reader.old) taken (R.rest reader.new) }
     ensures counts { result ≢ Err Failed → R.failed_reads reader.new ≡ R.failed_reads reader.old }
-    ensures failed { result ≡ Err Failed → R.failed_reads reader.new ≡ R.failed_reads reader.old + 1 }
+    ensures failed { result ≡ Err Failed
+        → R.failed_reads reader.new ≡ R.failed_reads reader.old + 1 }
     ensures written { R.written reader.new ≡ R.written reader.old }
     ensures line { OnOk result (PutsLine bytes.old.items bytes.new.items) }
     ensures ended { result ≡ Err Ended → PutsUnended bytes.old.items bytes.new.items
@@ -58,10 +62,12 @@ pub fn read_count<R: Source>(
     count: u32,
 ) -> Result<(), PartStop>
     requires { CanFail (R.failed_reads reader.old) }
-    ensures all { OnOk result (Gathers (R.rest reader.old) bytes.old.items bytes.new.items (R.rest reader.new)) }
+    ensures all { OnOk result (Gathers (R.rest reader.old) bytes.old.items bytes.new.items
+        (R.rest reader.new)) }
     ensures taken { (taken : List ℕ) × Takes (R.rest reader.old) taken (R.rest reader.new) }
     ensures counts { result ≢ Err Failed → R.failed_reads reader.new ≡ R.failed_reads reader.old }
-    ensures failed { result ≡ Err Failed → R.failed_reads reader.new ≡ R.failed_reads reader.old + 1 }
+    ensures failed { result ≡ Err Failed
+        → R.failed_reads reader.new ≡ R.failed_reads reader.old + 1 }
     ensures written { R.written reader.new ≡ R.written reader.old }
     ensures count { OnOk result (PutsCount count bytes.old.items bytes.new.items) }
     ensures ended { result ≡ Err Ended → PutsFewer count bytes.old.items bytes.new.items
@@ -76,10 +82,12 @@ pub fn read_count<R: Source>(
 /// Appends the next byte to the buffer.
 fn read_byte<R: Source>(reader: &mut R, bytes: &mut Vec<u8>) -> Result<u8, PartStop>
     requires { CanFail (R.failed_reads reader.old) }
-    ensures all { OnOk result (Gathers (R.rest reader.old) bytes.old.items bytes.new.items (R.rest reader.new)) }
+    ensures all { OnOk result (Gathers (R.rest reader.old) bytes.old.items bytes.new.items
+        (R.rest reader.new)) }
     ensures taken { (taken : List ℕ) × Takes (R.rest reader.old) taken (R.rest reader.new) }
     ensures counts { result ≢ Err Failed → R.failed_reads reader.new ≡ R.failed_reads reader.old }
-    ensures failed { result ≡ Err Failed → R.failed_reads reader.new ≡ R.failed_reads reader.old + 1 }
+    ensures failed { result ≡ Err Failed
+        → R.failed_reads reader.new ≡ R.failed_reads reader.old + 1 }
     ensures written { R.written reader.new ≡ R.written reader.old }
     ensures byte { IfOk result (λ byte. bytes.new.items ≡ bytes.old.items ++ byte ∷ []) }
     ensures len { OnOk result (vec_len bytes.new ≡ vec_len bytes.old + 1) }

@@ -33,7 +33,8 @@ pub fn read_to_end<R: Source>(alloc: Global, reader: &mut R) -> Result<Vec<u8>, 
     requires { CanFail (R.failed_reads reader.old) }
     ensures all { IfOk result (λ bytes. AreAll (R.rest reader.old) bytes.items) }
     ensures counts { result ≢ Err Failed → R.failed_reads reader.new ≡ R.failed_reads reader.old }
-    ensures failed { result ≡ Err Failed → R.failed_reads reader.new ≡ R.failed_reads reader.old + 1 }
+    ensures failed { result ≡ Err Failed
+        → R.failed_reads reader.new ≡ R.failed_reads reader.old + 1 }
 {
     let mut bytes = Vec::new(alloc);
     let mut block = [0; BLOCK];

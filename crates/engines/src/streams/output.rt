@@ -27,8 +27,10 @@ pub fn write_refusal<W: Sink>(writer: &mut W, refusal: Refusal) -> Result<u8, Wr
     requires can_fail { CanFail (W.failed_writes writer.old) }
     requires words { HasWordsAlone refusal }
     ensures status { IfOk result (λ status. status ≡ 1) }
-    ensures whole { OnOk result (Appends (W.held writer.old) (refusal_text refusal ++ 10 ∷ []) (W.held writer.new)) }
-    ensures front { OnErr result (AppendsFront (W.held writer.old) (refusal_text refusal ++ 10 ∷ []) (W.held writer.new)) }
+    ensures whole { OnOk result
+        (Appends (W.held writer.old) (refusal_text refusal ++ 10 ∷ []) (W.held writer.new)) }
+    ensures front { OnErr result
+        (AppendsFront (W.held writer.old) (refusal_text refusal ++ 10 ∷ []) (W.held writer.new)) }
     ensures counts { Counts (W.failed_writes writer.old) result (W.failed_writes writer.new) }
 {
     write_words(writer, refusal.title().as_bytes(), name_behind(refusal))?;
@@ -63,8 +65,12 @@ fn name_behind(refusal: Refusal) -> Option<&'static str>
 /// Writes a title, the name after it if there is one, and LF.
 fn write_words<W: Sink>(writer: &mut W, title: &[u8], name: Option<&str>) -> Result<(), WriteFault>
     requires { CanFail (W.failed_writes writer.old) }
-    ensures whole { OnOk result (Appends (W.held writer.old) ((title.now ++ name_text name.entry) ++ 10 ∷ []) (W.held writer.new)) }
-    ensures front { OnErr result (AppendsFront (W.held writer.old) ((title.now ++ name_text name.entry) ++ 10 ∷ []) (W.held writer.new)) }
+    ensures whole { OnOk result
+        (Appends (W.held writer.old) ((title.now ++ name_text name.entry) ++ 10 ∷ [])
+        (W.held writer.new)) }
+    ensures front { OnErr result
+        (AppendsFront (W.held writer.old) ((title.now ++ name_text name.entry) ++ 10 ∷ [])
+        (W.held writer.new)) }
     ensures counts { Counts (W.failed_writes writer.old) result (W.failed_writes writer.new) }
 {
     match name {
@@ -76,8 +82,12 @@ fn write_words<W: Sink>(writer: &mut W, title: &[u8], name: Option<&str>) -> Res
 /// Writes a title, a blank, a name and LF.
 fn write_named<W: Sink>(writer: &mut W, title: &[u8], name: &[u8]) -> Result<(), WriteFault>
     requires { CanFail (W.failed_writes writer.old) }
-    ensures whole { OnOk result (Appends (W.held writer.old) ((title.now ++ 32 ∷ []) ++ (name.now ++ 10 ∷ [])) (W.held writer.new)) }
-    ensures front { OnErr result (AppendsFront (W.held writer.old) ((title.now ++ 32 ∷ []) ++ (name.now ++ 10 ∷ [])) (W.held writer.new)) }
+    ensures whole { OnOk result
+        (Appends (W.held writer.old) ((title.now ++ 32 ∷ []) ++ (name.now ++ 10 ∷ []))
+        (W.held writer.new)) }
+    ensures front { OnErr result
+        (AppendsFront (W.held writer.old) ((title.now ++ 32 ∷ []) ++ (name.now ++ 10 ∷ []))
+        (W.held writer.new)) }
     ensures counts { Counts (W.failed_writes writer.old) result (W.failed_writes writer.new) }
 {
     write_pair(writer, title, b" ")?;
@@ -87,8 +97,10 @@ fn write_named<W: Sink>(writer: &mut W, title: &[u8], name: &[u8]) -> Result<(),
 /// Writes two texts, one after the other.
 fn write_pair<W: Sink>(writer: &mut W, first: &[u8], second: &[u8]) -> Result<(), WriteFault>
     requires { CanFail (W.failed_writes writer.old) }
-    ensures whole { OnOk result (Appends (W.held writer.old) (first.now ++ second.now) (W.held writer.new)) }
-    ensures front { OnErr result (AppendsFront (W.held writer.old) (first.now ++ second.now) (W.held writer.new)) }
+    ensures whole { OnOk result
+        (Appends (W.held writer.old) (first.now ++ second.now) (W.held writer.new)) }
+    ensures front { OnErr result
+        (AppendsFront (W.held writer.old) (first.now ++ second.now) (W.held writer.new)) }
     ensures counts { Counts (W.failed_writes writer.old) result (W.failed_writes writer.new) }
 {
     writer.write_all(first)?;

@@ -7,7 +7,8 @@ use proto::without_cr;
 
 /// The first line of a text, and what follows its LF; none if no LF is left.
 pub fn split_line(text: &[u8]) -> Option<(&[u8], &[u8])>
-    ensures lines { MatchOption result (lines_of text.now ≡ []) (λ found. lines_of text.now ≡ found.0.now ∷ lines_of found.1.now) }
+    ensures lines { MatchOption result (lines_of text.now ≡ [])
+        (λ found. lines_of text.now ≡ found.0.now ∷ lines_of found.1.now) }
     ensures fewer { IfSome result (λ found. length found.1.now < length text.now) }
 {
     let end = first_end(text)?;

@@ -1,5 +1,6 @@
 -- Different numbers, counted; and the positions that have changed.
-use Rattle.std.proofs.Common.{◌≡◌, ◌≢◌, ℕ, zero, suc, ◌+◌, ◌<◌, ◌≤◌, ◌==◌, ◌||◌, Bool, true, false, cond, List, [], ◌∷◌, length, refl, ap, arith}
+use Rattle.std.proofs.Common.{◌≡◌, ◌≢◌, ℕ, zero, suc, ◌+◌, ◌<◌, ◌≤◌, ◌==◌, ◌||◌, Bool, true, false}
+use Rattle.std.proofs.Common.{cond, List, [], ◌∷◌, length, refl, ap, arith}
 use Rattle.std.specs.Prelude.{sum_by}
 use Rattle.std.specs.List.{range_with_len, list_any}
 use Rattle.std.proofs.lemmas.Bool.{cases_eq, eq-eqb, ne_eqb}
@@ -16,26 +17,45 @@ sum_by-add f g h a zero each = refl
 sum_by-add f g h a (suc n) each =
     let rest = sum_by-add f g h (a + 1) n (λ k low high. each k (omega arith) (omega arith)) in
     let first = each a (omega arith) (omega arith) in
-    omega (arith, sum_by-cons h a (range_with_len (a + 1) n), sum_by-cons f a (range_with_len (a + 1) n), sum_by-cons g a (range_with_len (a + 1) n), rest, first)
+    omega (
+      arith,
+      sum_by-cons h a (range_with_len (a + 1) n),
+      sum_by-cons f a (range_with_len (a + 1) n),
+      sum_by-cons g a (range_with_len (a + 1) n),
+      rest,
+      first,
+    )
 
 -- a sum of ones is their number
 pub sum_by-ones : (f : ℕ → ℕ) (a n : ℕ) → ((k : ℕ) → f k ≡ 1) → sum_by f (range_with_len a n) ≡ n
 sum_by-ones f a zero each = refl
-sum_by-ones f a (suc n) each = omega (arith, sum_by-cons f a (range_with_len (a + 1) n), sum_by-ones f (a + 1) n each, each a)
+sum_by-ones f a (suc n) each =
+    omega (arith, sum_by-cons f a (range_with_len (a + 1) n), sum_by-ones f (a + 1) n each, each a)
 
 -- a position is one of a range
-pub sum_by-place : (q a n : ℕ) → a ≤ q → q < a + n → sum_by (λ p. cond (q == p) 1 0) (range_with_len a n) ≡ 1
+pub sum_by-place : (q a n : ℕ) → a ≤ q → q < a + n
+    → sum_by (λ p. cond (q == p) 1 0) (range_with_len a n) ≡ 1
 sum_by-place q a zero low high = absurd (omega arith)
 sum_by-place q a (suc n) low high =
     elim (cases_eq q a) [
       | inl same ↦
           let here = one_if q a same in
           let rest = sum_by-before q (a + 1) n (omega arith) in
-          omega (arith, sum_by-cons (λ p. cond (q == p) 1 0) a (range_with_len (a + 1) n), here, rest)
+          omega (
+            arith,
+            sum_by-cons (λ p. cond (q == p) 1 0) a (range_with_len (a + 1) n),
+            here,
+            rest,
+          )
       | inr apart ↦
           let here = none_if q a apart in
           let rest = sum_by-place q (a + 1) n (omega arith) (omega arith) in
-          omega (arith, sum_by-cons (λ p. cond (q == p) 1 0) a (range_with_len (a + 1) n), here, rest)
+          omega (
+            arith,
+            sum_by-cons (λ p. cond (q == p) 1 0) a (range_with_len (a + 1) n),
+            here,
+            rest,
+          )
     ]
   where
     sum_by-before : (q a n : ℕ) → q < a → sum_by (λ p. cond (q == p) 1 0) (range_with_len a n) ≡ 0
@@ -71,10 +91,12 @@ length-without n (m ∷ ms) some =
           by_false n m ms (ne_eqb n m apart) rest
     ]
   where
-    by_true : (n m : ℕ) (ms : List ℕ) → (n == m) ≡ true → length (m ∷ ms) ≡ suc (length (cond (n == m) ms (m ∷ without n ms)))
+    by_true : (n m : ℕ) (ms : List ℕ) → (n == m) ≡ true
+        → length (m ∷ ms) ≡ suc (length (cond (n == m) ms (m ∷ without n ms)))
     by_true n m ms test = rw test refl
 
-    by_false : (n m : ℕ) (ms : List ℕ) → (n == m) ≡ false → length ms ≡ suc (length (without n ms)) → length (m ∷ ms) ≡ suc (length (cond (n == m) ms (m ∷ without n ms)))
+    by_false : (n m : ℕ) (ms : List ℕ) → (n == m) ≡ false → length ms ≡ suc (length (without n ms))
+        → length (m ∷ ms) ≡ suc (length (cond (n == m) ms (m ∷ without n ms)))
     by_false n m ms test rest = rw test (ap suc rest)
 
 -- a number that stands in a list at most once isn't there once its first place is left out
@@ -94,7 +116,8 @@ times-others : (n o : ℕ) (ms : List ℕ) → o ≢ n → times o (without n ms
 times-others n o [] apart = refl
 times-others n o (m ∷ ms) apart =
     elim (cases_eq n m) [
-      | inl same ↦ rw (eq-eqb n m same) (let tail = times-tail o m ms (λ is. apart (omega arith)) in omega arith)
+      | inl same ↦ rw (eq-eqb n m same) (let tail = times-tail o m ms (λ is. apart (omega arith)) in
+          omega arith)
       | inr other ↦ rw (ne_eqb n m other) (let rest = times-others n o ms apart in omega arith)
     ]
 
@@ -106,7 +129,8 @@ any-times n (m ∷ ms) is =
       | inl same ↦ let head = times-head n m ms same in omega arith
       | inr apart ↦
           let tail = times-tail n m ms apart in
-          let rest = any-times n ms (skipped (n == m) (list_any (λ o. n == o) ms) (ne_eqb n m apart) is) in
+          let rest = any-times n ms (skipped (n == m) (list_any (λ o. n == o) ms)
+          (ne_eqb n m apart) is) in
           omega arith
     ]
   where
@@ -119,10 +143,12 @@ none-times : (n : ℕ) (ms : List ℕ) → list_any (λ m. n == m) ms ≡ false 
 none-times n [] is = refl
 none-times n (m ∷ ms) is =
     elim (cases_eq n m) [
-      | inl same ↦ absurd (let yes_is = eq-eqb n m same in both (n == m) (list_any (λ o. n == o) ms) yes_is is)
+      | inl same ↦ absurd (let yes_is = eq-eqb n m same in
+          both (n == m) (list_any (λ o. n == o) ms) yes_is is)
       | inr apart ↦
           let tail = times-tail n m ms apart in
-          let rest = none-times n ms (skipped (n == m) (list_any (λ o. n == o) ms) (ne_eqb n m apart) is) in
+          let rest = none-times n ms
+          (skipped (n == m) (list_any (λ o. n == o) ms) (ne_eqb n m apart) is) in
           omega arith
     ]
   where
@@ -134,13 +160,17 @@ none-times n (m ∷ ms) is =
     skipped true b off is = absurd (cc)
     skipped false b off is = is
 
--- a list has as many different numbers as another one is long that has the same numbers, and none twice
-pub values_counted : (xs ys : List ℕ) → ((n : ℕ) → 1 ≤ times n xs → 1 ≤ times n ys) → ((n : ℕ) → 1 ≤ times n ys → 1 ≤ times n xs) → ((n : ℕ) → times n ys ≤ 1)
+-- a list has as many different numbers as another one is long that has the same numbers, and none
+-- twice
+pub values_counted : (xs ys : List ℕ) → ((n : ℕ) → 1 ≤ times n xs → 1 ≤ times n ys)
+    → ((n : ℕ) → 1 ≤ times n ys → 1 ≤ times n xs) → ((n : ℕ) → times n ys ≤ 1)
     → number_of_values xs ≡ length ys
 values_counted [] [] to back once = refl
-values_counted [] (y ∷ ys) to back once = absurd (let here = back y (let head = times-head y y ys refl in omega arith) in omega arith)
+values_counted [] (y ∷ ys) to back once =
+    absurd (let here = back y (let head = times-head y y ys refl in omega arith) in omega arith)
 values_counted (x ∷ xs) ys to back once =
-    elim (list_any (λ m. x == m) xs) as (λ b. list_any (λ m. x == m) xs ≡ b → cond b 0 1 + number_of_values xs ≡ length ys) [
+    elim (list_any (λ m. x == m) xs) as
+    (λ b. list_any (λ m. x == m) xs ≡ b → cond b 0 1 + number_of_values xs ≡ length ys) [
       | true ↦ λ again.
           let there = any-times x xs again in
           let rest = values_counted xs ys (λ n some. to n (omega arith))
@@ -161,12 +191,16 @@ values_counted (x ∷ xs) ys to back once =
           (λ n there.
           elim (cases_eq n x) [
             | inl same ↦ absurd (let is = ap (λ (o : ℕ). times o xs) same in omega arith)
-            | inr apart ↦ let tail = times-tail n x xs apart in let found = to n (omega arith) in let other = times-others x n ys apart in omega arith
+            | inr apart ↦ let tail = times-tail n x xs apart in let found = to n (omega arith) in
+                let other = times-others x n ys apart in omega arith
           ])
           (λ n there.
           elim (cases_eq n x) [
-            | inl same ↦ absurd (let is = ap (λ (o : ℕ). times o (without x ys)) same in omega arith)
-            | inr apart ↦ let other = times-others x n ys apart in let found = back n (omega arith) in let tail = times-tail n x xs apart in omega arith
+            | inl same ↦ absurd (let is = ap (λ (o : ℕ). times o (without x ys)) same in
+                omega arith)
+            | inr apart ↦ let other = times-others x n ys apart in
+                let found = back n (omega arith) in let tail = times-tail n x xs apart in
+                omega arith
           ])
           (λ n.
           elim (cases_eq n x) [

@@ -2,7 +2,8 @@
 use Rattle.std.proofs.Common.{◌≡◌, ℕ, ◌+◌, not, List, length, map, refl, arith}
 use Rattle.std.specs.Prelude.{None, filter}
 use Rattle.map_core.specs.declared.command.Command.{Command}
-use Rattle.map_core.specs.declared.command.Command.TheVariants.{Paint, Stamp, Publish, Revert, Collect, Checkpoint}
+use Rattle.map_core.specs.declared.command.Command.TheVariants.{Paint, Stamp, Publish, Revert}
+use Rattle.map_core.specs.declared.command.Command.TheVariants.{Collect, Checkpoint}
 use Rattle.map_core.specs.declared.kept.Kept.{Kept}
 use Rattle.map_core.specs.Story.{Story, newest, kept, IsKept, with_kept, inuse}
 use Rattle.map_core.specs.Legal.{refused, IsAnswer}
@@ -17,10 +18,13 @@ use Rattle.map_core.proofs.invariants.TidyDraft.{free_is}
 use Rattle.map_core.proofs.accounts.TimesLemmas.{length-given_back, length-blocks_of}
 
 -- the blocks that are freed are those that are no longer in use
-pub freed_is : (k : Base) (s : Story) (m : Blocks) → IsTidy k s m → (kept_now : Kept) → IsChoice s kept_now
-    → length (filter (λ r. not (is_used (kept (with_kept s kept_now)) r)) m.retired) + inuse (with_kept s kept_now) ≡ inuse s
+pub freed_is : (k : Base) (s : Story) (m : Blocks) → IsTidy k s m → (kept_now : Kept)
+    → IsChoice s kept_now
+    → length (filter (λ r. not (is_used (kept (with_kept s kept_now)) r)) m.retired)
+    + inuse (with_kept s kept_now) ≡ inuse s
 freed_is k s m tidy kept_now choice =
-    let back : List RetiredBlock = filter (λ r. not (is_used (kept (with_kept s kept_now)) r)) m.retired in
+    let back : List RetiredBlock = filter (λ r. not (is_used (kept (with_kept s kept_now)) r))
+    m.retired in
     let before = free_is k s m tidy in
     let after = free_is k _ _ (IsTidy-keeping k s m tidy s.places kept_now choice) in
     let given = length-given_back (blocks_of back) m.free in
@@ -28,22 +32,42 @@ freed_is k s m tidy kept_now choice =
     omega arith
 
 -- what a collect keeps was kept, newest among it
-pub scanned_choice : (k : Base) (s : Story) (m : Blocks) → IsTidy k s m → (words : List ℕ) → IsChoice s (kept_scanned s words)
+pub scanned_choice : (k : Base) (s : Story) (m : Blocks) → IsTidy k s m → (words : List ℕ)
+    → IsChoice s (kept_scanned s words)
 unfolding kept_scanned IsKept
 scanned_choice k s m tidy words = record {
   part = part-after (newest s) (map seen_in words) s.kept.slots;
-  newest_in = IsIn-after s.kept (newest s) (map seen_in words) (newest s) tidy.slots.newest_in (stay-newest (newest s) (map seen_in words));
+  newest_in = IsIn-after s.kept (newest s) (map seen_in words) (newest s) tidy.slots.newest_in
+      (stay-newest (newest s) (map seen_in words));
 }
 
 -- the reply that a command commits is an answer
-pub reply_is_answer : (k : Base) (s : Story) (m : Blocks) → IsTidy k s m → (c : Command) (words : List ℕ) → refused k.setting s c ≡ None
+pub reply_is_answer : (k : Base) (s : Story) (m : Blocks) → IsTidy k s m
+    → (c : Command) (words : List ℕ) → refused k.setting s c ≡ None
     → IsAnswer k.setting s c (reply_of s c words)
 unfolding reply_of
-reply_is_answer k s m tidy (Paint r black) words accepted = record { accepted = accepted; reply_is = refl }
-reply_is_answer k s m tidy (Stamp x y b) words accepted = record { accepted = accepted; reply_is = refl }
+reply_is_answer k s m tidy (Paint r black) words accepted =
+    record { accepted = accepted; reply_is = refl }
+reply_is_answer k s m tidy (Stamp x y b) words accepted =
+    record { accepted = accepted; reply_is = refl }
 reply_is_answer k s m tidy Publish words accepted = record { accepted = accepted; reply_is = refl }
 reply_is_answer k s m tidy Revert words accepted = record { accepted = accepted; reply_is = refl }
-reply_is_answer k s m tidy Checkpoint words accepted = record { accepted = accepted; reply_is = refl }
+reply_is_answer k s m tidy Checkpoint words accepted =
+    record { accepted = accepted; reply_is = refl }
 reply_is_answer k s m tidy Collect words accepted =
     let choice = scanned_choice k s m tidy words in
-    record { accepted = accepted; reply_is = (_, _, _, refl, record { part = choice.part; newest_in = choice.newest_in; floor_is = refl; freed_is = let freed = freed_is k s m tidy (kept_scanned s words) choice in omega arith }) }
+    record {
+      accepted = accepted;
+      reply_is = (
+        _,
+        _,
+        _,
+        refl,
+        record {
+          part = choice.part;
+          newest_in = choice.newest_in;
+          floor_is = refl;
+          freed_is = let freed = freed_is k s m tidy (kept_scanned s words) choice in omega arith;
+        },
+      );
+    }

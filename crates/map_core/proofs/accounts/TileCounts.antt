@@ -1,10 +1,13 @@
 -- Which tiles differ, row by row, and how many need a block, position by position.
-use Rattle.std.proofs.Common.{◌≡◌, ◌≢◌, ℕ, zero, suc, ◌+◌, ◌-◌, ◌<◌, ◌≤◌, ◌==◌, ◌&&◌, ◌||◌, Bool, true, false, not, cond, List, [], ◌∷◌, ◌++◌, length, map, take, drop, get_or, refl, ap, sym, ◌∙◌, arith}
+use Rattle.std.proofs.Common.{◌≡◌, ◌≢◌, ℕ, zero, suc, ◌+◌, ◌-◌, ◌<◌, ◌≤◌, ◌==◌, ◌&&◌, ◌||◌, Bool}
+use Rattle.std.proofs.Common.{true, false, not, cond, List, [], ◌∷◌, ◌++◌, length, map, take, drop}
+use Rattle.std.proofs.Common.{get_or, refl, ap, sym, ◌∙◌, arith}
 use Rattle.std.specs.Prelude.{Option, Some, None, is_some}
 use Rattle.std.specs.List.{list_any, range_with_len}
 use Rattle.std.proofs.lemmas.Bool.{cases_eq}
 use Rattle.std.proofs.lemmas.Bool.Decides.{nat_tests}
-use Rattle.std.proofs.lemmas.List.{take_more, take_all, drop_more, length-take, length-map, get_or-map}
+use Rattle.std.proofs.lemmas.List.{take_more, take_all, drop_more, length-take, length-map}
+use Rattle.std.proofs.lemmas.List.{get_or-map}
 use Rattle.std.proofs.lemmas.List.FromFn.{length-map-range_with_len, get_or-map-range_with_len}
 use mathlib.Core.Logic.{inl, inr}
 use mir.Val.{bool_byte}
@@ -16,13 +19,16 @@ use Rattle.map_core.specs.Blocks.{own_list}
 use Rattle.map_core.specs.Steps.{own_positions}
 
 -- a row that differs tells that the tile does
-differs_at : (old new : Cells) (p a n i : ℕ) → a ≤ i → i < a + n → row_word old p i ≢ row_word new p i
+differs_at : (old new : Cells) (p a n i : ℕ) → a ≤ i → i < a + n
+    → row_word old p i ≢ row_word new p i
     → list_any (λ i. not (row_word old p i == row_word new p i)) (range_with_len a n) ≡ true
 differs_at old new p a zero i low high apart = absurd (omega arith)
 differs_at old new p a (suc n) i low high apart =
     elim (cases_eq a i) [
-      | inl same ↦ here (row_word old p a) (row_word new p a) _ (λ e. apart (sym (ap (row_word old p) same) ∙ (e ∙ ap (row_word new p) same)))
-      | inr other ↦ later (row_word old p a) (row_word new p a) _ (differs_at old new p (a + 1) n i (omega arith) (omega arith) apart)
+      | inl same ↦ here (row_word old p a) (row_word new p a) _
+          (λ e. apart (sym (ap (row_word old p) same) ∙ (e ∙ ap (row_word new p) same)))
+      | inr other ↦ later (row_word old p a) (row_word new p a) _
+          (differs_at old new p (a + 1) n i (omega arith) (omega arith) apart)
     ]
   where
     here : (x y : ℕ) (rest : Bool) → x ≢ y → (not (x == y) || rest) ≡ true
@@ -32,24 +38,30 @@ differs_at old new p a (suc n) i low high apart =
     later x y rest is = grind (arith, nat_tests)
 
 -- rows that are all the same tell that the tile is
-same_all : (old new : Cells) (p a n : ℕ) → ((i : ℕ) → a ≤ i → i < a + n → row_word old p i ≡ row_word new p i)
+same_all : (old new : Cells) (p a n : ℕ)
+    → ((i : ℕ) → a ≤ i → i < a + n → row_word old p i ≡ row_word new p i)
     → list_any (λ i. not (row_word old p i == row_word new p i)) (range_with_len a n) ≡ false
 same_all old new p a zero same = refl
 same_all old new p a (suc n) same =
-    both (row_word old p a) (row_word new p a) _ (same a (omega arith) (omega arith)) (same_all old new p (a + 1) n (λ i low high. same i (omega arith) (omega arith)))
+    both (row_word old p a) (row_word new p a) _ (same a (omega arith) (omega arith))
+    (same_all old new p (a + 1) n (λ i low high. same i (omega arith) (omega arith)))
   where
     both : (x y : ℕ) (rest : Bool) → x ≡ y → rest ≡ false → (not (x == y) || rest) ≡ false
     both x y rest is none = grind (arith, nat_tests)
 
 -- a tile differs where a row of it does
-pub tile_differs_at : (old new : Cells) (p i : ℕ) → i < 64 → row_word old p i ≢ row_word new p i → true ≡ tile_differs old new p
+pub tile_differs_at : (old new : Cells) (p i : ℕ) → i < 64 → row_word old p i ≢ row_word new p i
+    → true ≡ tile_differs old new p
 unfolding tile_differs
-tile_differs_at old new p i h apart = sym (differs_at old new p 0 64 i (omega arith) (omega arith) apart)
+tile_differs_at old new p i h apart =
+    sym (differs_at old new p 0 64 i (omega arith) (omega arith) apart)
 
 -- a tile differs nowhere where no row of it does
-pub tile_differs_none : (old new : Cells) (p : ℕ) → ((i : ℕ) → i < 64 → row_word old p i ≡ row_word new p i) → false ≡ tile_differs old new p
+pub tile_differs_none : (old new : Cells) (p : ℕ)
+    → ((i : ℕ) → i < 64 → row_word old p i ≡ row_word new p i) → false ≡ tile_differs old new p
 unfolding tile_differs
-tile_differs_none old new p same = sym (same_all old new p 0 64 (λ i low high. same i (omega arith)))
+tile_differs_none old new p same =
+    sym (same_all old new p 0 64 (λ i low high. same i (omega arith)))
 
 -- another answer at the end counts where it is true
 trues-push : (bs : List Bool) (b : Bool) → trues (bs ++ b ∷ []) ≡ trues bs + cond b 1 0
@@ -66,11 +78,13 @@ length-new_ones (t ∷ ts) [] same = absurd (omega arith)
 length-new_ones (t ∷ ts) (o ∷ os) same = ap suc (length-new_ones ts os (omega arith))
 
 -- a position is new where it is touched and hadn't changed
-get_or-new_ones : (ts os : List Bool) (p : ℕ) → length ts ≡ length os → p < length ts → get_or (new_ones ts os) p false ≡ (get_or ts p false && not (get_or os p false))
+get_or-new_ones : (ts os : List Bool) (p : ℕ) → length ts ≡ length os → p < length ts
+    → get_or (new_ones ts os) p false ≡ (get_or ts p false && not (get_or os p false))
 get_or-new_ones [] os p same h = absurd (omega arith)
 get_or-new_ones (t ∷ ts) [] p same h = absurd (omega arith)
 get_or-new_ones (t ∷ ts) (o ∷ os) zero same h = refl
-get_or-new_ones (t ∷ ts) (o ∷ os) (suc p) same h = get_or-new_ones ts os p (omega arith) (omega arith)
+get_or-new_ones (t ∷ ts) (o ∷ os) (suc p) same h =
+    get_or-new_ones ts os p (omega arith) (omega arith)
 
 -- no more answers are true than there are
 trues-le : (bs : List Bool) → trues bs ≤ length bs
@@ -84,39 +98,54 @@ pub record IsCounted (old new : Cells) (own : List (Option ℕ)) (p needed : ℕ
   pub count : needed ≡ trues (take p (new_ones (differing old new) (map is_some own)))
 
 -- nothing has been counted at the start
-pub counted_first : (old new : Cells) (own : List (Option ℕ)) → length own ≡ tile_count old → IsCounted old new own 0 0
+pub counted_first : (old new : Cells) (own : List (Option ℕ)) → length own ≡ tile_count old
+    → IsCounted old new own 0 0
 counted_first old new own long = record { long = long; count = refl }
 
 -- once the next position is counted, one more position is done
-pub counted_next : (old new : Cells) (own : List (Option ℕ)) (p needed more : ℕ) (o : Option ℕ) → IsCounted old new own p needed → p < tile_count old → o ≡ get_or own p o
-    → more ≡ cond (tile_differs old new p && not (is_some o)) 1 0 → IsCounted old new own (p + 1) (needed + more)
+pub counted_next : (old new : Cells) (own : List (Option ℕ)) (p needed more : ℕ) (o : Option ℕ)
+    → IsCounted old new own p needed → p < tile_count old → o ≡ get_or own p o
+    → more ≡ cond (tile_differs old new p && not (is_some o)) 1 0
+    → IsCounted old new own (p + 1) (needed + more)
 counted_next old new own p needed more o so_far h read is =
     let ts = differing old new in
     let os = map is_some own in
     let long = so_far.long in
-    let same : length ts ≡ length os = length-map-range_with_len (tile_differs old new) 0 (tile_count old) ∙ (sym long ∙ sym (length-map own is_some)) in
+    let same : length ts ≡ length os = length-map-range_with_len (tile_differs old new) 0
+    (tile_count old) ∙ (sym long ∙ sym (length-map own is_some)) in
     let wide = length-map-range_with_len (tile_differs old new) 0 (tile_count old) in
-    let touched : get_or ts p false ≡ tile_differs old new p = get_or-map-range_with_len (tile_differs old new) 0 (tile_count old) p p false h (omega arith) in
-    let has : get_or os p false ≡ is_some o = get_or-map is_some own p o false (omega arith) ∙ sym (ap is_some read) in
-    let here = get_or-new_ones ts os p same (omega arith) ∙ (ap (λ (t : Bool). t && not (get_or os p false)) touched ∙ ap (λ (b : Bool). tile_differs old new p && not b) has) in
+    let touched : get_or ts p false ≡ tile_differs old new p =
+    get_or-map-range_with_len (tile_differs old new) 0 (tile_count old) p p false h
+    (omega arith) in
+    let has : get_or os p false ≡ is_some o = get_or-map is_some own p o false (omega arith)
+    ∙ sym (ap is_some read) in
+    let here = get_or-new_ones ts os p same (omega arith)
+    ∙ (ap (λ (t : Bool). t && not (get_or os p false)) touched
+    ∙ ap (λ (b : Bool). tile_differs old new p && not b) has) in
     let all = length-new_ones ts os same in
-    let step = ap trues (take_more (new_ones ts os) p false (omega arith)) ∙ trues-push (take p (new_ones ts os)) (get_or (new_ones ts os) p false) in
+    let step = ap trues (take_more (new_ones ts os) p false (omega arith))
+    ∙ trues-push (take p (new_ones ts os)) (get_or (new_ones ts os) p false) in
     let count = so_far.count in
-    let one : ◌≡◌ {A = ℕ} (cond (get_or (new_ones ts os) p false) 1 0) (cond (tile_differs old new p && not (is_some o)) 1 0) = ap (λ (b : Bool). cond b 1 0) here in
+    let one : ◌≡◌ {A = ℕ} (cond (get_or (new_ones ts os) p false) 1 0)
+    (cond (tile_differs old new p && not (is_some o)) 1 0) = ap (λ (b : Bool). cond b 1 0) here in
     record { long = long; count = omega arith }
 
 -- after the last position all is counted
-pub counted_all : (old new : Cells) (own : List (Option ℕ)) (p needed : ℕ) → IsCounted old new own p needed → tile_count old ≤ p
+pub counted_all : (old new : Cells) (own : List (Option ℕ)) (p needed : ℕ)
+    → IsCounted old new own p needed → tile_count old ≤ p
     → needed ≡ trues (new_ones (differing old new) (map is_some own))
 counted_all old new own p needed so_far h =
     let long = so_far.long in
     let wide = length-map-range_with_len (tile_differs old new) 0 (tile_count old) in
-    let same : length (differing old new) ≡ length (map is_some own) = wide ∙ (sym long ∙ sym (length-map own is_some)) in
+    let same : length (differing old new) ≡ length (map is_some own) = wide
+    ∙ (sym long ∙ sym (length-map own is_some)) in
     let all = length-new_ones (differing old new) (map is_some own) same in
-    so_far.count ∙ ap trues (take_all p (new_ones (differing old new) (map is_some own)) (omega arith))
+    so_far.count
+    ∙ ap trues (take_all p (new_ones (differing old new) (map is_some own)) (omega arith))
 
 -- a count of the positions before one is at most that
-pub counted_few : (old new : Cells) (own : List (Option ℕ)) (p needed : ℕ) → IsCounted old new own p needed → needed ≤ p
+pub counted_few : (old new : Cells) (own : List (Option ℕ)) (p needed : ℕ)
+    → IsCounted old new own p needed → needed ≤ p
 counted_few old new own p needed so_far =
     let few = trues-le (take p (new_ones (differing old new) (map is_some own))) in
     let long = length-take p (new_ones (differing old new) (map is_some own)) in
@@ -138,32 +167,43 @@ pub record IsLeft (own : List (Option ℕ)) (number p left : ℕ) : Type 0 where
   pub within : p ≤ length own
   pub many : length (own_list own) + left ≡ length (own_list (drop p own)) + number
   pub block : get_or (own_list own) number 0 ≡ get_or (own_list (drop p own)) left 0
-  pub position : get_or (own_positions 0 own) number 0 ≡ get_or (own_positions p (drop p own)) left 0
+  pub position : get_or (own_positions 0 own) number 0
+      ≡ get_or (own_positions p (drop p own)) left 0
 
 -- a tile without a block of its own is passed
-pub left_none : (own : List (Option ℕ)) (number p left : ℕ) (o : Option ℕ) → IsLeft own number p left → p < length own → get_or own p o ≡ None → IsLeft own number (p + 1) left
+pub left_none : (own : List (Option ℕ)) (number p left : ℕ) (o : Option ℕ)
+    → IsLeft own number p left → p < length own → get_or own p o ≡ None
+    → IsLeft own number (p + 1) left
 left_none own number p left o so_far h is =
-    let rest : drop p own ≡ None ∷ drop (p + 1) own = drop_more own p o h ∙ ap (λ (x : Option ℕ). x ∷ drop (p + 1) own) is in
+    let rest : drop p own ≡ None ∷ drop (p + 1) own = drop_more own p o h
+    ∙ ap (λ (x : Option ℕ). x ∷ drop (p + 1) own) is in
     let blocks = ap own_list rest in
     record {
       within = omega arith;
       many = let many = so_far.many in let count = ap length blocks in omega arith;
       block = so_far.block ∙ ap (λ (bs : List ℕ). get_or bs left 0) blocks;
-      position = so_far.position ∙ ap (λ (os : List (Option ℕ)). get_or (own_positions p os) left 0) rest;
+      position = so_far.position
+          ∙ ap (λ (os : List (Option ℕ)). get_or (own_positions p os) left 0) rest;
     }
 
 -- a tile with a block of its own is passed, and counted
-pub left_some : (own : List (Option ℕ)) (number p left : ℕ) (o : Option ℕ) (b : ℕ) → IsLeft own number p left → p < length own → get_or own p o ≡ Some b → 0 < left
+pub left_some : (own : List (Option ℕ)) (number p left : ℕ) (o : Option ℕ) (b : ℕ)
+    → IsLeft own number p left → p < length own → get_or own p o ≡ Some b → 0 < left
     → IsLeft own number (p + 1) (left - 1)
 left_some own number p left o b so_far h is more =
-    let rest : drop p own ≡ Some b ∷ drop (p + 1) own = drop_more own p o h ∙ ap (λ (x : Option ℕ). x ∷ drop (p + 1) own) is in
+    let rest : drop p own ≡ Some b ∷ drop (p + 1) own = drop_more own p o h
+    ∙ ap (λ (x : Option ℕ). x ∷ drop (p + 1) own) is in
     let blocks = ap own_list rest in
     let next : left ≡ suc (left - 1) = omega arith in
     record {
       within = omega arith;
       many = let many = so_far.many in let count = ap length blocks in omega arith;
-      block = so_far.block ∙ (ap (λ (bs : List ℕ). get_or bs left 0) blocks ∙ ap (λ (n : ℕ). get_or (b ∷ own_list (drop (p + 1) own)) n 0) next);
-      position = so_far.position ∙ (ap (λ (os : List (Option ℕ)). get_or (own_positions p os) left 0) rest ∙ ap (λ (n : ℕ). get_or (p ∷ own_positions (p + 1) (drop (p + 1) own)) n 0) next);
+      block = so_far.block
+          ∙ (ap (λ (bs : List ℕ). get_or bs left 0) blocks
+          ∙ ap (λ (n : ℕ). get_or (b ∷ own_list (drop (p + 1) own)) n 0) next);
+      position = so_far.position
+          ∙ (ap (λ (os : List (Option ℕ)). get_or (own_positions p os) left 0) rest
+          ∙ ap (λ (n : ℕ). get_or (p ∷ own_positions (p + 1) (drop (p + 1) own)) n 0) next);
     }
 
 -- each position differs, or it doesn't

@@ -1,5 +1,7 @@
--- How many blocks are in use: one for each position, one for each retired one, and one for each position that has changed since.
-use Rattle.std.proofs.Common.{◌≡◌, ℕ, zero, suc, ◌+◌, ◌<◌, ◌≤◌, ◌==◌, Bool, true, false, cond, List, [], ◌∷◌, ◌++◌, length, map, get_or, refl, ap, sym, ◌∙◌, arith}
+-- How many blocks are in use: one for each position, one for each retired one, and one for each
+-- position that has changed since.
+use Rattle.std.proofs.Common.{◌≡◌, ℕ, zero, suc, ◌+◌, ◌<◌, ◌≤◌, ◌==◌, Bool, true, false, cond, List}
+use Rattle.std.proofs.Common.{[], ◌∷◌, ◌++◌, length, map, get_or, refl, ap, sym, ◌∙◌, arith}
 use Rattle.std.specs.Prelude.{sum_by, nat_lt}
 use Rattle.std.specs.List.{AllByRecursion, range_with_len}
 use Rattle.std.proofs.lemmas.Bool.{cases_lt, cases_eq}
@@ -15,7 +17,8 @@ use Rattle.map_core.specs.Words.{Base, tiles}
 use Rattle.map_core.specs.Safe.{times}
 use Rattle.map_core.specs.Tidy.{IsRetired, IsBlockAt, IsAmongRetired, IsTidy}
 use Rattle.map_core.proofs.accounts.CameLemmas.{came-changed, came-le, came_order, came_between}
-use Rattle.map_core.proofs.accounts.CountLemmas.{sum_by-add, sum_by-ones, sum_by-place, values_counted}
+use Rattle.map_core.proofs.accounts.CountLemmas.{sum_by-add, sum_by-ones, sum_by-place}
+use Rattle.map_core.proofs.accounts.CountLemmas.{values_counted}
 use Rattle.map_core.proofs.logs.KeptLemmas.{times-member, member-times}
 use Rattle.map_core.proofs.accounts.RetiredLemmas.{used_by}
 use Rattle.map_core.proofs.accounts.TimesLemmas.{one_if, none_if, times-append}
@@ -26,7 +29,8 @@ firsts p [] = []
 firsts p (r ∷ rs) = cond (r.position == p) (r.first ∷ firsts p rs) (firsts p rs)
 
 -- one of some retired blocks is of this position, and has come with this version
-pub record IsFirst (k : Base) (s : Story) (m : Blocks) (p n : ℕ) (rs : List RetiredBlock) : Type 0 where
+pub record IsFirst (k : Base) (s : Story) (m : Blocks) (p n : ℕ) (rs : List RetiredBlock) :
+    Type 0 where
   pub old : RetiredBlock
   pub is : IsRetired k s m old
   pub at : old.position ≡ p
@@ -34,53 +38,85 @@ pub record IsFirst (k : Base) (s : Story) (m : Blocks) (p n : ℕ) (rs : List Re
   pub there : 1 ≤ times old.block (blocks_of rs)
 
 -- a number among them is of one of the blocks
-first_of : (k : Base) (s : Story) (m : Blocks) (p n : ℕ) (rs : List RetiredBlock) → AllByRecursion (IsRetired k s m) rs → 1 ≤ times n (firsts p rs) → IsFirst k s m p n rs
+first_of : (k : Base) (s : Story) (m : Blocks) (p n : ℕ) (rs : List RetiredBlock)
+    → AllByRecursion (IsRetired k s m) rs → 1 ≤ times n (firsts p rs) → IsFirst k s m p n rs
 first_of k s m p n [] all some = absurd (omega arith)
 first_of k s m p n (r ∷ rs) all some =
     elim (cases_eq r.position p) [
       | inl here ↦
           elim (cases_eq r.first n) [
-            | inl same ↦ record { old = r; is = all.0; at = here; first = same; there = (let one = one_if r.block r.block refl in omega arith) }
-            | inr apart ↦ later k s m p n r rs (first_of k s m p n rs all.1 (passed (r.position == p) n r.first (firsts p rs) apart some))
+            | inl same ↦ record {
+              old = r;
+              is = all.0;
+              at = here;
+              first = same;
+              there = (let one = one_if r.block r.block refl in omega arith);
+            }
+            | inr apart ↦ later k s m p n r rs
+                (first_of k s m p n rs all.1
+                (passed (r.position == p) n r.first (firsts p rs) apart some))
           ]
-      | inr other ↦ later k s m p n r rs (first_of k s m p n rs all.1 (skipped (r.position == p) n r.first (firsts p rs) (no r.position p other) some))
+      | inr other ↦ later k s m p n r rs
+          (first_of k s m p n rs all.1
+          (skipped (r.position == p) n r.first (firsts p rs) (no r.position p other) some))
     ]
   where
     no : (a b : ℕ) → (a ≡ b → ⊥) → (a == b) ≡ false
     no a b apart = grind (arith, nat_tests)
 
-    later : (k : Base) (s : Story) (m : Blocks) (p n : ℕ) (r : RetiredBlock) (rs : List RetiredBlock) → IsFirst k s m p n rs → IsFirst k s m p n (r ∷ rs)
-    later k s m p n r rs h = record { old = h.old; is = h.is; at = h.at; first = h.first; there = (let before = h.there in omega arith) }
+    later : (k : Base) (s : Story) (m : Blocks) (p n : ℕ) (r : RetiredBlock)
+        (rs : List RetiredBlock) → IsFirst k s m p n rs → IsFirst k s m p n (r ∷ rs)
+    later k s m p n r rs h = record {
+      old = h.old;
+      is = h.is;
+      at = h.at;
+      first = h.first;
+      there = (let before = h.there in omega arith);
+    }
 
-    passed : (test : Bool) (n f : ℕ) (ns : List ℕ) → (f ≡ n → ⊥) → 1 ≤ times n (cond test (f ∷ ns) ns) → 1 ≤ times n ns
+    passed : (test : Bool) (n f : ℕ) (ns : List ℕ) → (f ≡ n → ⊥)
+        → 1 ≤ times n (cond test (f ∷ ns) ns) → 1 ≤ times n ns
     passed true n f ns apart some = let none = none_if n f (λ same. apart (sym same)) in omega arith
     passed false n f ns apart some = some
 
-    skipped : (test : Bool) (n f : ℕ) (ns : List ℕ) → test ≡ false → 1 ≤ times n (cond test (f ∷ ns) ns) → 1 ≤ times n ns
+    skipped : (test : Bool) (n f : ℕ) (ns : List ℕ) → test ≡ false
+        → 1 ≤ times n (cond test (f ∷ ns) ns) → 1 ≤ times n ns
     skipped true n f ns is some = absurd (cc)
     skipped false n f ns is some = some
 
 -- the version with which a block among some has come is among them
-Among-first : (k : Base) (s : Story) (m : Blocks) (block v p : ℕ) (rs : List RetiredBlock) → AllByRecursion (IsRetired k s m) rs → IsAmongRetired block v p rs → 1 ≤ times (came s p v) (firsts p rs)
+Among-first : (k : Base) (s : Story) (m : Blocks) (block v p : ℕ) (rs : List RetiredBlock)
+    → AllByRecursion (IsRetired k s m) rs → IsAmongRetired block v p rs
+    → 1 ≤ times (came s p v) (firsts p rs)
 Among-first k s m block v p [] all among = absurd among
-Among-first k s m block v p (r ∷ rs) all (inl h) = counted r.position p (came s p v) r.first (firsts p rs) h.position_is (came_with k s m block v p r all.0 h)
+Among-first k s m block v p (r ∷ rs) all (inl h) =
+    counted r.position p (came s p v) r.first (firsts p rs) h.position_is
+    (came_with k s m block v p r all.0 h)
   where
-    came_with : (k : Base) (s : Story) (m : Blocks) (block v p : ℕ) (r : RetiredBlock) → IsRetired k s m r → IsBlockAt block v p r → came s p v ≡ r.first
+    came_with : (k : Base) (s : Story) (m : Blocks) (block v p : ℕ) (r : RetiredBlock)
+        → IsRetired k s m r → IsBlockAt block v p r → came s p v ≡ r.first
     came_with k s m block v p r is h =
-        let first_is : r.first ≡ came s p r.last = is.first_is ∙ ap (λ (q : ℕ). came s q r.last) h.position_is in
+        let first_is : r.first ≡ came s p r.last = is.first_is
+        ∙ ap (λ (q : ℕ). came s q r.last) h.position_is in
         let since = h.since in
         came_between s p v r.last (omega arith) h.until ∙ sym first_is
 
     counted : (q p n f : ℕ) (ns : List ℕ) → q ≡ p → n ≡ f → 1 ≤ times n (cond (q == p) (f ∷ ns) ns)
-    counted q p n f ns at same = let here : (q == p) ≡ true = grind (arith, nat_tests) in let one = one_if n f same in rw here (omega arith)
-Among-first k s m block v p (r ∷ rs) all (inr among) = more (r.position == p) (came s p v) r.first (firsts p rs) (Among-first k s m block v p rs all.1 among)
+    counted q p n f ns at same = let here : (q == p) ≡ true = grind (arith, nat_tests) in
+        let one = one_if n f same in rw here (omega arith)
+Among-first k s m block v p (r ∷ rs) all (inr among) =
+    more (r.position == p) (came s p v) r.first (firsts p rs)
+    (Among-first k s m block v p rs all.1 among)
   where
-    more : (test : Bool) (n f : ℕ) (ns : List ℕ) → 1 ≤ times n ns → 1 ≤ times n (cond test (f ∷ ns) ns)
+    more : (test : Bool) (n f : ℕ) (ns : List ℕ) → 1 ≤ times n ns
+        → 1 ≤ times n (cond test (f ∷ ns) ns)
     more true n f ns some = omega arith
     more false n f ns some = some
 
 -- two retired blocks of one position that have come with one version are the same block
-pub one_block : (k : Base) (s : Story) (m : Blocks) (r q : RetiredBlock) → IsRetired k s m r → IsRetired k s m q → r.position ≡ q.position → r.first ≡ q.first → (r.last ≡ q.last) × (r.block ≡ q.block)
+pub one_block : (k : Base) (s : Story) (m : Blocks) (r q : RetiredBlock) → IsRetired k s m r
+    → IsRetired k s m q → r.position ≡ q.position → r.first ≡ q.first → (r.last ≡ q.last)
+    × (r.block ≡ q.block)
 one_block k s m r q is_r is_q at first =
     let last : r.last ≡ q.last =
     elim (cases_lt r.last q.last) [
@@ -90,10 +126,15 @@ one_block k s m r q is_r is_q at first =
             | inl more ↦ absurd (not_before k s m q r is_q is_r (sym at) (sym first) more)
             | inr least ↦ omega arith
           ]
-    ] in
-    (last, is_r.block_is ∙ (ap (λ (v : ℕ). get_or (directory_of m v) r.position 0) last ∙ (ap (λ (p : ℕ). get_or (directory_of m q.last) p 0) at ∙ sym is_q.block_is)))
+    ] in (
+      last,
+      is_r.block_is
+          ∙ (ap (λ (v : ℕ). get_or (directory_of m v) r.position 0) last
+          ∙ (ap (λ (p : ℕ). get_or (directory_of m q.last) p 0) at ∙ sym is_q.block_is)),
+    )
   where
-    not_before : (k : Base) (s : Story) (m : Blocks) (r q : RetiredBlock) → IsRetired k s m r → IsRetired k s m q → r.position ≡ q.position → r.first ≡ q.first → r.last < q.last → ⊥
+    not_before : (k : Base) (s : Story) (m : Blocks) (r q : RetiredBlock) → IsRetired k s m r
+        → IsRetired k s m q → r.position ≡ q.position → r.first ≡ q.first → r.last < q.last → ⊥
     not_before k s m r q is_r is_q at first less =
         let next = came-changed s r.position r.last is_r.gone in
         let up = came_order s r.position (suc r.last) q.last (omega arith) in
@@ -104,7 +145,9 @@ one_block k s m r q is_r is_q at first =
         absurd (omega arith)
 
 -- no version is twice among the firsts of a position
-firsts-once : (k : Base) (s : Story) (m : Blocks) (p n : ℕ) (rs : List RetiredBlock) → AllByRecursion (IsRetired k s m) rs → ((b : ℕ) → times b (blocks_of rs) ≤ 1) → times n (firsts p rs) ≤ 1
+firsts-once : (k : Base) (s : Story) (m : Blocks) (p n : ℕ) (rs : List RetiredBlock)
+    → AllByRecursion (IsRetired k s m) rs → ((b : ℕ) → times b (blocks_of rs) ≤ 1)
+    → times n (firsts p rs) ≤ 1
 firsts-once k s m p n [] all once = omega arith
 firsts-once k s m p n (r ∷ rs) all once =
     let rest = firsts-once k s m p n rs all.1 (λ b. let few = once b in omega arith) in
@@ -115,7 +158,8 @@ firsts-once k s m p n (r ∷ rs) all once =
                 elim (cases_lt 0 (times n (firsts p rs))) [
                   | inl twice ↦
                       let h = first_of k s m p n rs all.1 (omega arith) in
-                      let block = (one_block k s m r h.old all.0 h.is (here ∙ sym h.at) (same ∙ sym h.first)).1 in
+                      let block = (one_block k s m r h.old all.0 h.is (here ∙ sym h.at)
+                      (same ∙ sym h.first)).1 in
                       let both = ap (λ (b : ℕ). times b (blocks_of rs)) block in
                       let there = h.there in
                       let few = once r.block in
@@ -134,20 +178,25 @@ firsts-once k s m p n (r ∷ rs) all once =
     at_most_one : (n f : ℕ) → cond (n == f) 1 0 ≤ 1
     at_most_one n f = grind (arith, nat_tests)
 
-    at_most : (test : Bool) (n f : ℕ) (ns : List ℕ) → times n ns ≡ 0 → times n (cond test (f ∷ ns) ns) ≤ 1
+    at_most : (test : Bool) (n f : ℕ) (ns : List ℕ) → times n ns ≡ 0
+        → times n (cond test (f ∷ ns) ns) ≤ 1
     at_most true n f ns none = let few = at_most_one n f in omega arith
     at_most false n f ns none = omega arith
 
-    still : (test : Bool) (n f : ℕ) (ns : List ℕ) → (f ≡ n → ⊥) → times n ns ≤ 1 → times n (cond test (f ∷ ns) ns) ≤ 1
+    still : (test : Bool) (n f : ℕ) (ns : List ℕ) → (f ≡ n → ⊥) → times n ns ≤ 1
+        → times n (cond test (f ∷ ns) ns) ≤ 1
     still true n f ns apart few = let none = none_if n f (λ same. apart (sym same)) in omega arith
     still false n f ns apart few = few
 
-    skipped : (test : Bool) (n f : ℕ) (ns : List ℕ) → test ≡ false → times n ns ≤ 1 → times n (cond test (f ∷ ns) ns) ≤ 1
+    skipped : (test : Bool) (n f : ℕ) (ns : List ℕ) → test ≡ false → times n ns ≤ 1
+        → times n (cond test (f ∷ ns) ns) ≤ 1
     skipped true n f ns is few = absurd (cc)
     skipped false n f ns is few = few
 
--- the version with which newest's block of a position came is none of those with which its retired blocks came
-newest_first : (k : Base) (s : Story) (m : Blocks) (p : ℕ) (rs : List RetiredBlock) → AllByRecursion (IsRetired k s m) rs → times (came s p (newest s)) (firsts p rs) ≡ 0
+-- the version with which newest's block of a position came is none of those with which its retired
+-- blocks came
+newest_first : (k : Base) (s : Story) (m : Blocks) (p : ℕ) (rs : List RetiredBlock)
+    → AllByRecursion (IsRetired k s m) rs → times (came s p (newest s)) (firsts p rs) ≡ 0
 newest_first k s m p rs all =
     elim (cases_lt 0 (times (came s p (newest s)) (firsts p rs))) [
       | inl some ↦
@@ -165,18 +214,26 @@ newest_first k s m p rs all =
     ]
 
 -- a number stands at most once among the retired blocks
-few_retired : (k : Base) (s : Story) (m : Blocks) → IsTidy k s m → (b : ℕ) → times b (blocks_of m.retired) ≤ 1
+few_retired : (k : Base) (s : Story) (m : Blocks) → IsTidy k s m → (b : ℕ)
+    → times b (blocks_of m.retired) ≤ 1
 few_retired k s m tidy b =
     let all = tidy.once b in
     let few : cond (nat_lt b k.setting.blocks) 1 0 ≤ 1 = few_of (nat_lt b k.setting.blocks) in
-    omega (arith, times-append b (m.free ++ own_list m.own ++ directory_of m (newest s)) (blocks_of m.retired), times-append b (m.free ++ own_list m.own) (directory_of m (newest s)), times-append b m.free (own_list m.own))
+    omega (
+      arith,
+      times-append b (m.free ++ own_list m.own ++ directory_of m (newest s))
+          (blocks_of m.retired),
+      times-append b (m.free ++ own_list m.own) (directory_of m (newest s)),
+      times-append b m.free (own_list m.own),
+    )
   where
     few_of : (test : Bool) → cond test 1 0 ≤ 1
     few_of true = omega arith
     few_of false = omega arith
 
 -- the kept versions have at a position newest's block and those that retired there, each once
-blocks_at-kept : (k : Base) (s : Story) (m : Blocks) → IsTidy k s m → (p : ℕ) → p < tiles k → blocks_at s (kept s) p ≡ suc (length (firsts p m.retired))
+blocks_at-kept : (k : Base) (s : Story) (m : Blocks) → IsTidy k s m → (p : ℕ) → p < tiles k
+    → blocks_at s (kept s) p ≡ suc (length (firsts p m.retired))
 unfolding kept IsKept
 blocks_at-kept k s m tidy p inside =
     let newest_in = tidy.slots.newest_in in
@@ -188,53 +245,71 @@ blocks_at-kept k s m tidy p inside =
     let of = member-times (came s p) s.kept.slots n some in
     elim (tidy.mapped of.version p record { slot = of.slot; there = of.there } inside) [
       | inl has ↦ let one = one_if n last (sym of.is ∙ has.came_is) in omega arith
-      | inr among ↦ let there = Among-first k s m _ of.version p m.retired tidy.retired among in let is = ap (λ (q : ℕ). times q (firsts p m.retired)) of.is in omega arith
+      | inr among ↦ let there = Among-first k s m _ of.version p m.retired tidy.retired among in
+          let is = ap (λ (q : ℕ). times q (firsts p m.retired)) of.is in omega arith
     ])
     (λ n some.
     elim (cases_eq last n) [
-      | inl same ↦ times-member (came s p) s.kept.slots newest_in.slot (newest s) n newest_in.there same
+      | inl same ↦ times-member (came s p) s.kept.slots newest_in.slot
+          (newest s) n newest_in.there same
       | inr apart ↦
           let no_head = none_if n last (λ same. apart (sym same)) in
           let h = first_of k s m p n m.retired tidy.retired (omega arith) in
           let user = used_by s.kept.slots h.old h.is.used in
-          let first_is : h.old.first ≡ came s p h.old.last = h.is.first_is ∙ ap (λ (q : ℕ). came s q h.old.last) h.at in
+          let first_is : h.old.first ≡ came s p h.old.last = h.is.first_is
+          ∙ ap (λ (q : ℕ). came s q h.old.last) h.at in
           let since = user.since in
-          times-member (came s p) s.kept.slots user.slot user.version n user.there (came_between s p user.version h.old.last (omega arith) user.until ∙ (sym first_is ∙ h.first))
+          times-member (came s p) s.kept.slots user.slot user.version n user.there
+          (came_between s p user.version h.old.last (omega arith) user.until
+          ∙ (sym first_is ∙ h.first))
     ])
     (λ n.
     let few = firsts-once k s m p n m.retired tidy.retired blocks_once in
     elim (cases_eq last n) [
-      | inl same ↦ let gone = ap (λ (q : ℕ). times q (firsts p m.retired)) same in let one = one_if n last (sym same) in omega arith
+      | inl same ↦ let gone = ap (λ (q : ℕ). times q (firsts p m.retired)) same in
+          let one = one_if n last (sym same) in omega arith
       | inr apart ↦ let no_head = none_if n last (λ same. apart (sym same)) in omega arith
     ])
 
 -- the retired blocks counted position by position are as many as all of them
-firsts-all : (tiles_here : ℕ) (rs : List RetiredBlock) → AllByRecursion (λ r. r.position < tiles_here) rs → sum_by (λ p. length (firsts p rs)) (range_with_len 0 tiles_here) ≡ length rs
+firsts-all : (tiles_here : ℕ) (rs : List RetiredBlock)
+    → AllByRecursion (λ r. r.position < tiles_here) rs
+    → sum_by (λ p. length (firsts p rs)) (range_with_len 0 tiles_here) ≡ length rs
 firsts-all n [] all = none n 0
   where
     none : (n a : ℕ) → sum_by (λ p. 0) (range_with_len a n) ≡ 0
     none zero a = refl
-    none (suc n) a = let rest = none n (a + 1) in omega (arith, sum_by-cons (λ p. 0) a (range_with_len (a + 1) n))
+    none (suc n) a = let rest = none n (a + 1) in
+        omega (arith, sum_by-cons (λ p. 0) a (range_with_len (a + 1) n))
 firsts-all n (r ∷ rs) all =
     let rest = firsts-all n rs all.1 in
     let here = sum_by-place r.position 0 n (omega arith) (let inside = all.0 in omega arith) in
-    let both = sum_by-add (λ p. cond (r.position == p) 1 0) (λ p. length (firsts p rs)) (λ p. length (firsts p (r ∷ rs))) 0 n (λ p low high. by_test (r.position == p) r.first (firsts p rs)) in
+    let both = sum_by-add (λ p. cond (r.position == p) 1 0) (λ p. length (firsts p rs))
+    (λ p. length (firsts p (r ∷ rs))) 0 n
+    (λ p low high. by_test (r.position == p) r.first (firsts p rs)) in
     omega arith
   where
-    by_test : (test : Bool) (f : ℕ) (ns : List ℕ) → length (cond test (f ∷ ns) ns) ≡ cond test 1 0 + length ns
+    by_test : (test : Bool) (f : ℕ) (ns : List ℕ)
+        → length (cond test (f ∷ ns) ns) ≡ cond test 1 0 + length ns
     by_test true f ns = omega arith
     by_test false f ns = omega arith
 
--- the blocks in use are one for each position, the retired ones, and one for each position that has changed
-pub inuse_is : (k : Base) (s : Story) (m : Blocks) → IsTidy k s m → tile_count s.draft ≡ tiles k → inuse s ≡ tiles k + length m.retired + trues s.changed
+-- the blocks in use are one for each position, the retired ones, and one for each position that has
+-- changed
+pub inuse_is : (k : Base) (s : Story) (m : Blocks) → IsTidy k s m → tile_count s.draft ≡ tiles k
+    → inuse s ≡ tiles k + length m.retired + trues s.changed
 unfolding inuse
 inuse_is k s m tidy size =
     let inside = All-inside k s m m.retired tidy.retired in
     let all = firsts-all (tiles k) m.retired inside in
     let ones = sum_by-ones (λ p. 1) 0 (tiles k) (λ p. refl) in
-    let both = sum_by-add (λ p. 1) (λ p. length (firsts p m.retired)) (blocks_at s (kept s)) 0 (tiles k) (λ p low high. let here = blocks_at-kept k s m tidy p (omega arith) in omega arith) in
-    ap (λ (t : ℕ). sum_by (blocks_at s (kept s)) (range_with_len 0 t) + trues s.changed) size ∙ (omega arith)
+    let both = sum_by-add (λ p. 1) (λ p. length (firsts p m.retired)) (blocks_at s (kept s)) 0
+    (tiles k) (λ p low high. let here = blocks_at-kept k s m tidy p (omega arith) in omega arith)
+    in
+    ap (λ (t : ℕ). sum_by (blocks_at s (kept s)) (range_with_len 0 t) + trues s.changed) size
+    ∙ (omega arith)
   where
-    All-inside : (k : Base) (s : Story) (m : Blocks) (rs : List RetiredBlock) → AllByRecursion (IsRetired k s m) rs → AllByRecursion (λ r. r.position < tiles k) rs
+    All-inside : (k : Base) (s : Story) (m : Blocks) (rs : List RetiredBlock)
+        → AllByRecursion (IsRetired k s m) rs → AllByRecursion (λ r. r.position < tiles k) rs
     All-inside k s m [] all = tt
     All-inside k s m (r ∷ rs) all = (all.0.inside, All-inside k s m rs all.1)

@@ -1,22 +1,28 @@
 -- The last step of a command keeps what holds of the keeper and of each reader.
-use Rattle.std.proofs.Common.{◌≡◌, ℕ, zero, suc, ◌+◌, ◌-◌, ◌*◌, ◌/◌, ◌%◌, ◌<◌, ◌≤◌, ◌⊎◌, true, false, List, [], ◌∷◌, ◌++◌, length, get_or, set, refl, ap, subst, sym, ◌∙◌, arith}
+use Rattle.std.proofs.Common.{◌≡◌, ℕ, zero, suc, ◌+◌, ◌-◌, ◌*◌, ◌/◌, ◌%◌, ◌<◌, ◌≤◌, ◌⊎◌, true}
+use Rattle.std.proofs.Common.{false, List, [], ◌∷◌, ◌++◌, length, get_or, set, refl, ap, subst, sym}
+use Rattle.std.proofs.Common.{◌∙◌, arith}
 use Rattle.std.specs.Prelude.{Option, Some, None, slice_get, nat_lt}
 use Rattle.std.proofs.lemmas.Bool.Decides.{nat_tests}
-use Rattle.std.proofs.lemmas.List.{length-set, get_or-set_same, get_or-set_other, get_or_append_left, get_or_push}
+use Rattle.std.proofs.lemmas.List.{length-set, get_or-set_same, get_or-set_other}
+use Rattle.std.proofs.lemmas.List.{get_or_append_left, get_or_push}
 use mathlib.Core.Logic.{inl, inr}
 use Rattle.bits.specs.Cells.{Cells}
 use Rattle.bits.specs.Tiles.{row_word}
 use Rattle.map_core.specs.declared.command.Entry.{Entry}
 use Rattle.map_core.specs.declared.command.Command.{Command}
-use Rattle.map_core.specs.declared.command.Command.TheVariants.{Paint, Stamp, Publish, Revert, Collect, Checkpoint}
+use Rattle.map_core.specs.declared.command.Command.TheVariants.{Paint, Stamp, Publish, Revert}
+use Rattle.map_core.specs.declared.command.Command.TheVariants.{Collect, Checkpoint}
 use Rattle.map_core.specs.declared.command.Reply.{Reply}
 use Rattle.map_core.specs.Kept.{first_free, IsIn}
 use Rattle.map_core.specs.Story.{Story, opened, newest, bitmap_of, IsKept}
 use Rattle.map_core.specs.Legal.{IsAnswer, told}
 use Rattle.map_core.specs.Blocks.{Blocks, directory_of, own_list, mapped, moved}
-use Rattle.map_core.specs.Words.{Base, tiles, now_at, pin_at, map_at, tile_at, now_of, slot_of, next_slot}
+use Rattle.map_core.specs.Words.{Base, tiles, now_at, pin_at, map_at, tile_at, now_of, slot_of}
+use Rattle.map_core.specs.Words.{next_slot}
 use Rattle.map_core.specs.Views.{Hand, Reader, story, blocks}
-use Rattle.map_core.specs.Steps.{tile_steps, steps_before, own_positions, tile_write, map_write, write_of, kept_scanned, reply_of, entry_of}
+use Rattle.map_core.specs.Steps.{tile_steps, steps_before, own_positions, tile_write, map_write}
+use Rattle.map_core.specs.Steps.{write_of, kept_scanned, reply_of, entry_of}
 use Rattle.map_core.specs.Tidy.{IsShaped, AreSlots, IsTidy}
 use Rattle.map_core.specs.Sound.{Shows, InHand, KeeperSound, ReaderSound}
 use Rattle.map_core.proofs.accounts.FreedLemmas.{reply_is_answer}
@@ -24,27 +30,38 @@ use Rattle.map_core.proofs.logs.LogLemmas.{newest-told, beginning-push}
 use Rattle.map_core.proofs.shared_words.PlaceLemmas.{pin-now, map-now, tile-now, now-within}
 use Rattle.map_core.proofs.invariants.TidyCollect.{kept_of}
 use Rattle.map_core.proofs.invariants.TidyLog.{IsLegal-push}
-use Rattle.map_core.proofs.invariants.TidyPublish.{newest_is, bitmap_of-publish, bitmap_of-new, directory_of-publish, directory_of-new, published_story, published_blocks, kept_published, kept_still}
+use Rattle.map_core.proofs.invariants.TidyPublish.{newest_is, bitmap_of-publish, bitmap_of-new}
+use Rattle.map_core.proofs.invariants.TidyPublish.{directory_of-publish, directory_of-new}
+use Rattle.map_core.proofs.invariants.TidyPublish.{published_story, published_blocks}
+use Rattle.map_core.proofs.invariants.TidyPublish.{kept_published, kept_still}
 
 -- a version is shown still where NOW is stored
-Shows-now : (k : Base) (s : Story) (m : Blocks) (words : List ℕ) (v word : ℕ) → Shows k s m words v → Shows k s m (set words now_at word) v
+Shows-now : (k : Base) (s : Story) (m : Blocks) (words : List ℕ) (v word : ℕ) → Shows k s m words v
+    → Shows k s m (set words now_at word) v
 Shows-now k s m words v word shows = record {
-  mapped = λ p inside. get_or-set_other words now_at (map_at k (slot_of k s v) p) word 0 (map-now k _ p) ∙ shows.mapped p inside;
-  rows = λ p i inside row. get_or-set_other words now_at (tile_at k (get_or (directory_of m v) p 0) i) word 0 (tile-now k _ i) ∙ shows.rows p i inside row;
+  mapped = λ p inside. get_or-set_other words now_at (map_at k (slot_of k s v) p) word 0
+      (map-now k _ p) ∙ shows.mapped p inside;
+  rows = λ p i inside row. get_or-set_other words now_at
+      (tile_at k (get_or (directory_of m v) p 0) i) word 0 (tile-now k _ i)
+      ∙ shows.rows p i inside row;
 }
 
 -- a version whose blocks and whose bitmap are as before is shown as before
-Shows-same : (k : Base) (s t : Story) (m n : Blocks) (words : List ℕ) (v : ℕ) → directory_of n v ≡ directory_of m v → bitmap_of t v ≡ bitmap_of s v → slot_of k t v ≡ slot_of k s v
+Shows-same : (k : Base) (s t : Story) (m n : Blocks) (words : List ℕ) (v : ℕ)
+    → directory_of n v ≡ directory_of m v → bitmap_of t v ≡ bitmap_of s v
+    → slot_of k t v ≡ slot_of k s v
     → Shows k s m words v → Shows k t n words v
 Shows-same k s t m n words v blocks cells slot shows = record {
-  mapped = λ p inside. ap (λ (i : ℕ). get_or words (map_at k i p) 0) slot ∙ shows.mapped p inside ∙ sym (ap (λ (d : List ℕ). get_or d p 0) blocks);
+  mapped = λ p inside. ap (λ (i : ℕ). get_or words (map_at k i p) 0) slot ∙ shows.mapped p inside
+      ∙ sym (ap (λ (d : List ℕ). get_or d p 0) blocks);
   rows = λ p i inside row.
       ap (λ (d : List ℕ). get_or words (tile_at k (get_or d p 0) i) 0) blocks
       ∙ (shows.rows p i inside row ∙ sym (ap (λ (b : Cells). row_word b p i) cells));
 }
 
 -- no command changes the blocks of a version
-pub directory_stays : (k : Base) (s : Story) (m : Blocks) (c : Command) (reply : Reply) → IsShaped k s m → (v : ℕ) → v ≤ newest s
+pub directory_stays : (k : Base) (s : Story) (m : Blocks) (c : Command) (reply : Reply)
+    → IsShaped k s m → (v : ℕ) → v ≤ newest s
     → directory_of (moved s c reply m) v ≡ directory_of m v
 unfolding moved directory_of
 directory_stays k s m (Paint r black) reply shape v h = refl
@@ -55,7 +72,8 @@ directory_stays k s m Collect reply shape v h = refl
 directory_stays k s m Checkpoint reply shape v h = refl
 
 -- no command changes the bitmap of a version
-bitmap_stays : (k : Base) (s : Story) (m : Blocks) (c : Command) (reply : Reply) → IsShaped k s m → (v : ℕ) → v ≤ newest s
+bitmap_stays : (k : Base) (s : Story) (m : Blocks) (c : Command) (reply : Reply) → IsShaped k s m
+    → (v : ℕ) → v ≤ newest s
     → bitmap_of (told s c reply) v ≡ bitmap_of s v
 unfolding told bitmap_of
 bitmap_stays k s m (Paint r black) reply shape v h = refl
@@ -66,18 +84,21 @@ bitmap_stays k s m Collect reply shape v h = refl
 bitmap_stays k s m Checkpoint reply shape v h = refl
 
 -- no command changes the slot of a version
-slot_stays : (k : Base) (s : Story) (c : Command) (reply : Reply) → AreSlots k s → (v : ℕ) → v < length s.published
+slot_stays : (k : Base) (s : Story) (c : Command) (reply : Reply) → AreSlots k s → (v : ℕ)
+    → v < length s.published
     → slot_of k (told s c reply) v ≡ slot_of k s v
 unfolding told slot_of
 slot_stays k s (Paint r black) reply slots v h = refl
 slot_stays k s (Stamp x y b) reply slots v h = refl
-slot_stays k s Publish reply slots v h = let each = slots.each in get_or_append_left s.slots (first_free s.kept.slots ∷ []) 0 v (omega arith)
+slot_stays k s Publish reply slots v h = let each = slots.each in
+    get_or_append_left s.slots (first_free s.kept.slots ∷ []) 0 v (omega arith)
 slot_stays k s Revert reply slots v h = refl
 slot_stays k s Collect reply slots v h = refl
 slot_stays k s Checkpoint reply slots v h = refl
 
 -- a version that is kept after an answer was kept before, or it is the new one of a publish
-kept_before : (k : Base) (s : Story) (m : Blocks) (c : Command) (reply : Reply) → IsShaped k s m → IsAnswer k.setting s c reply → (v : ℕ) → IsKept (told s c reply) v
+kept_before : (k : Base) (s : Story) (m : Blocks) (c : Command) (reply : Reply) → IsShaped k s m
+    → IsAnswer k.setting s c reply → (v : ℕ) → IsKept (told s c reply) v
     → IsKept s v ⊎ ((c ≡ Publish) × (v ≡ newest s + 1))
 unfolding told IsKept newest
 kept_before k s m (Paint r black) reply shape answer v is_kept = inl is_kept
@@ -90,12 +111,17 @@ kept_before k s m Publish reply shape answer v is_kept =
 kept_before k s m Revert reply shape answer v is_kept = inl is_kept
 kept_before k s m Collect reply shape answer v is_kept =
     let (f, freed, kept_now, is, collected) = answer.reply_is in
-    inl (kept_of s kept_now record { part = collected.part; newest_in = collected.newest_in } v (subst (λ (r : Reply). IsKept (told s Collect r) v) is is_kept))
+    inl (kept_of s kept_now record { part = collected.part; newest_in = collected.newest_in } v
+    (subst (λ (r : Reply). IsKept (told s Collect r) v) is is_kept))
 kept_before k s m Checkpoint reply shape answer v is_kept = inl is_kept
 
 -- the block of a position that has changed is one of the draft's, at the place of that position
-own_place : (q : ℕ) (own : List (Option ℕ)) (blocks : List ℕ) (p : ℕ) → length own ≡ length blocks → p < length own
-    → (slice_get own p ≡ Some None) ⊎ ((j : ℕ) × (j < length (own_list own)) × (get_or (own_list own) j 0 ≡ get_or (mapped own blocks) p 0) × (get_or (own_positions q own) j 0 ≡ q + p))
+own_place : (q : ℕ) (own : List (Option ℕ)) (blocks : List ℕ) (p : ℕ) → length own ≡ length blocks
+    → p < length own
+    → (slice_get own p ≡ Some None)
+    ⊎ ((j : ℕ) × (j < length (own_list own))
+    × (get_or (own_list own) j 0 ≡ get_or (mapped own blocks) p 0)
+    × (get_or (own_positions q own) j 0 ≡ q + p))
 own_place q [] blocks p same h = absurd (omega arith)
 own_place q (o ∷ own) [] p same h = absurd (omega arith)
 own_place q (None ∷ own) (b ∷ blocks) zero same h = inl refl
@@ -108,11 +134,13 @@ own_place q (None ∷ own) (b ∷ blocks) (suc p) same h =
 own_place q (Some o ∷ own) (b ∷ blocks) (suc p) same h =
     elim (own_place (q + 1) own blocks p (omega arith) (omega arith)) [
       | inl none ↦ inl none
-      | inr there ↦ let place = there.3 in let within = there.1 in inr (suc there.0, omega arith, there.2, omega arith)
+      | inr there ↦ let place = there.3 in let within = there.1 in
+          inr (suc there.0, omega arith, there.2, omega arith)
     ]
 
 -- where a position has no block of the draft's, the new directory has newest's
-pub mapped_none : (own : List (Option ℕ)) (blocks : List ℕ) (p : ℕ) → length own ≡ length blocks → slice_get own p ≡ Some None → get_or (mapped own blocks) p 0 ≡ get_or blocks p 0
+pub mapped_none : (own : List (Option ℕ)) (blocks : List ℕ) (p : ℕ) → length own ≡ length blocks
+    → slice_get own p ≡ Some None → get_or (mapped own blocks) p 0 ≡ get_or blocks p 0
 mapped_none [] blocks p same is = absurd (cc)
 mapped_none (o ∷ own) [] p same is = absurd (omega arith)
 mapped_none (None ∷ own) (b ∷ blocks) zero same is = refl
@@ -120,8 +148,12 @@ mapped_none (Some o ∷ own) (b ∷ blocks) zero same is = absurd (cc)
 mapped_none (o ∷ own) (b ∷ blocks) (suc p) same is = mapped_none own blocks p (omega arith) is
 
 -- once a publish has stored its words, those of the directory are the new version's
-stored_map : (k : Base) (s : Story) (m : Blocks) (words : List ℕ) → ((n : ℕ) → n < tile_steps m + tiles k → get_or words (write_of k s m n).at 0 ≡ (write_of k s m n).word)
-    → (p : ℕ) → p < tiles k → get_or words (map_at k (next_slot k s) p) 0 ≡ get_or (mapped m.own (directory_of m (newest s))) p 0
+stored_map : (k : Base) (s : Story) (m : Blocks) (words : List ℕ)
+    → ((n : ℕ) → n < tile_steps m + tiles k
+    → get_or words (write_of k s m n).at 0 ≡ (write_of k s m n).word)
+    → (p : ℕ) → p < tiles k
+    → get_or words (map_at k (next_slot k s) p) 0
+    ≡ get_or (mapped m.own (directory_of m (newest s))) p 0
 unfolding map_write
 stored_map k s m words stored p h =
     let n = tile_steps m + p in
@@ -134,8 +166,12 @@ stored_map k s m words stored p h =
     not_below t p = grind (arith, nat_tests)
 
 -- once a publish has stored its words, those of the draft's blocks are the draft's rows
-stored_tile : (k : Base) (s : Story) (m : Blocks) (words : List ℕ) → ((n : ℕ) → n < tile_steps m + tiles k → get_or words (write_of k s m n).at 0 ≡ (write_of k s m n).word)
-    → (j i : ℕ) → j < length (own_list m.own) → i < 64 → get_or words (tile_at k (get_or (own_list m.own) j 0) i) 0 ≡ row_word s.draft (get_or (own_positions 0 m.own) j 0) i
+stored_tile : (k : Base) (s : Story) (m : Blocks) (words : List ℕ)
+    → ((n : ℕ) → n < tile_steps m + tiles k
+    → get_or words (write_of k s m n).at 0 ≡ (write_of k s m n).word)
+    → (j i : ℕ) → j < length (own_list m.own) → i < 64
+    → get_or words (tile_at k (get_or (own_list m.own) j 0) i) 0
+    ≡ row_word s.draft (get_or (own_positions 0 m.own) j 0) i
 unfolding tile_write
 stored_tile k s m words stored j i hj hi =
     let n = 64 * j + i in
@@ -143,7 +179,10 @@ stored_tile k s m words stored j i hj hi =
     let test : nat_lt n (tile_steps m) ≡ true = is_below n (tile_steps m) below in
     let block : n / 64 ≡ j = omega arith in
     let row : n % 64 ≡ i = omega arith in
-    let at : write_of k s m n ≡ record { at = tile_at k (get_or (own_list m.own) j 0) i; word = row_word s.draft (get_or (own_positions 0 m.own) j 0) i } =
+    let at : write_of k s m n ≡ record {
+      at = tile_at k (get_or (own_list m.own) j 0) i;
+      word = row_word s.draft (get_or (own_positions 0 m.own) j 0) i;
+    } =
     rw test (rw (block, row)) in
     sym (ap (λ w. get_or words w.at 0) at) ∙ (stored n (omega arith) ∙ ap (λ w. w.word) at)
   where
@@ -152,45 +191,62 @@ stored_tile k s m words stored j i hj hi =
 
 -- after all words of a publish are stored, the new version is shown
 Shows-new : (k : Base) (s : Story) (m : Blocks) (words : List ℕ) → IsTidy k s m
-    → ((n : ℕ) → n < tile_steps m + tiles k → get_or words (write_of k s m n).at 0 ≡ (write_of k s m n).word)
-    → Shows k s m words (newest s) → (v : ℕ) → v ≡ newest s + 1 → Shows k (published_story s) (published_blocks s m) words v
+    → ((n : ℕ) → n < tile_steps m + tiles k
+    → get_or words (write_of k s m n).at 0 ≡ (write_of k s m n).word)
+    → Shows k s m words (newest s) → (v : ℕ) → v ≡ newest s + 1
+    → Shows k (published_story s) (published_blocks s m) words v
 unfolding slot_of next_slot
 Shows-new k s m words tidy stored shows v is =
     let shape = tidy.shape in
     let long = shape.own in
-    let same : length m.own ≡ length (directory_of m (newest s)) = shape.own ∙ sym (shape.directory (newest s) (omega arith)) in
+    let same : length m.own ≡ length (directory_of m (newest s)) = shape.own
+    ∙ sym (shape.directory (newest s) (omega arith)) in
     let blocks = directory_of-new k s m shape v is in
     let cells = bitmap_of-new k s m shape v is in
     let at = newest_is k s m shape in
     let each = tidy.slots.each in
-    let slot : get_or (s.slots ++ first_free s.kept.slots ∷ []) v 0 ≡ first_free s.kept.slots = get_or_push s.slots (first_free s.kept.slots) 0 v (omega arith) in
+    let slot : get_or (s.slots ++ first_free s.kept.slots ∷ []) v 0 ≡ first_free s.kept.slots =
+    get_or_push s.slots (first_free s.kept.slots) 0 v (omega arith) in
     record {
       mapped = λ p inside.
           ap (λ (i : ℕ). get_or words (map_at k i p) 0) slot
-          ∙ (stored_map k s m words stored p inside ∙ sym (ap (λ (d : List ℕ). get_or d p 0) blocks));
+          ∙ (stored_map k s m words stored p inside
+          ∙ sym (ap (λ (d : List ℕ). get_or d p 0) blocks));
       rows = λ p i inside row.
           ap (λ (d : List ℕ). get_or words (tile_at k (get_or d p 0) i) 0) blocks
-          ∙ (row_of k s m words tidy stored shows same p i inside row (own_place 0 m.own (directory_of m (newest s)) p same (omega arith))
+          ∙ (row_of k s m words tidy stored shows same p i inside row
+          (own_place 0 m.own (directory_of m (newest s)) p same (omega arith))
           ∙ sym (ap (λ (b : Cells). row_word b p i) cells));
     }
   where
     row_of : (k : Base) (s : Story) (m : Blocks) (words : List ℕ) → IsTidy k s m
-        → ((n : ℕ) → n < tile_steps m + tiles k → get_or words (write_of k s m n).at 0 ≡ (write_of k s m n).word)
-        → Shows k s m words (newest s) → length m.own ≡ length (directory_of m (newest s)) → (p i : ℕ) → p < tiles k → i < 64
-        → (slice_get m.own p ≡ Some None) ⊎ ((j : ℕ) × (j < length (own_list m.own)) × (get_or (own_list m.own) j 0 ≡ get_or (mapped m.own (directory_of m (newest s))) p 0) × (get_or (own_positions 0 m.own) j 0 ≡ 0 + p))
-        → get_or words (tile_at k (get_or (mapped m.own (directory_of m (newest s))) p 0) i) 0 ≡ row_word s.draft p i
+        → ((n : ℕ) → n < tile_steps m + tiles k
+        → get_or words (write_of k s m n).at 0 ≡ (write_of k s m n).word)
+        → Shows k s m words (newest s) → length m.own ≡ length (directory_of m (newest s))
+        → (p i : ℕ) → p < tiles k → i < 64
+        → (slice_get m.own p ≡ Some None)
+        ⊎ ((j : ℕ) × (j < length (own_list m.own))
+        × (get_or (own_list m.own) j 0 ≡ get_or (mapped m.own (directory_of m (newest s))) p 0)
+        × (get_or (own_positions 0 m.own) j 0 ≡ 0 + p))
+        → get_or words (tile_at k (get_or (mapped m.own (directory_of m (newest s))) p 0) i) 0
+        ≡ row_word s.draft p i
     row_of k s m words tidy stored shows same p i inside row (inl none) =
-        ap (λ (b : ℕ). get_or words (tile_at k b i) 0) (mapped_none m.own (directory_of m (newest s)) p same none)
+        ap (λ (b : ℕ). get_or words (tile_at k b i) 0)
+        (mapped_none m.own (directory_of m (newest s)) p same none)
         ∙ (shows.rows p i inside row ∙ sym (tidy.unchanged p i none row))
     row_of k s m words tidy stored shows same p i inside row (inr there) =
         let place : 0 + p ≡ p = omega arith in
         ap (λ (b : ℕ). get_or words (tile_at k b i) 0) (sym there.2)
-        ∙ (stored_tile k s m words stored there.0 i there.1 row ∙ ap (λ (q : ℕ). row_word s.draft q i) (there.3 ∙ place))
+        ∙ (stored_tile k s m words stored there.0 i there.1 row
+        ∙ ap (λ (q : ℕ). row_word s.draft q i) (there.3 ∙ place))
 
 -- after an answer each kept version is shown
-Shows-told : (k : Base) (s : Story) (m : Blocks) (words : List ℕ) (h : Hand) (reply : Reply) → IsTidy k s m → IsAnswer k.setting s h.command reply
-    → ((v : ℕ) → IsKept s v → Shows k s m words v) → InHand k s m words h → h.done ≡ steps_before k m h.command
-    → (v : ℕ) → IsKept (told s h.command reply) v → Shows k (told s h.command reply) (moved s h.command reply m) words v
+Shows-told : (k : Base) (s : Story) (m : Blocks) (words : List ℕ) (h : Hand) (reply : Reply)
+    → IsTidy k s m → IsAnswer k.setting s h.command reply
+    → ((v : ℕ) → IsKept s v → Shows k s m words v) → InHand k s m words h
+    → h.done ≡ steps_before k m h.command
+    → (v : ℕ) → IsKept (told s h.command reply) v
+    → Shows k (told s h.command reply) (moved s h.command reply m) words v
 unfolding steps_before told moved
 Shows-told k s m words h reply tidy answer shows inhand all v is_kept =
     let at = newest_is k s m tidy.shape in
@@ -198,17 +254,27 @@ Shows-told k s m words h reply tidy answer shows inhand all v is_kept =
       | inl old ↦
           let below = tidy.slots.published v old in
           Shows-same k s (told s h.command reply) m (moved s h.command reply m) words v
-          (directory_stays k s m h.command reply tidy.shape v below) (bitmap_stays k s m h.command reply tidy.shape v below) (slot_stays k s h.command reply tidy.slots v (omega arith)) (shows v old)
+          (directory_stays k s m h.command reply tidy.shape v below)
+          (bitmap_stays k s m h.command reply tidy.shape v below)
+          (slot_stays k s h.command reply tidy.slots v (omega arith)) (shows v old)
       | inr new ↦
           subst (λ (c : Command). Shows k (told s c reply) (moved s c reply m) words v) (sym new.0)
-          (Shows-new k s m words tidy (λ n before. inhand.written new.0 n (let done : h.done ≡ steps_before k m Publish = all ∙ ap (steps_before k m) new.0 in omega arith)) (shows (newest s) tidy.slots.newest_in) v new.1)
+          (Shows-new k s m words tidy
+          (λ n before. inhand.written new.0 n
+          (let done : h.done ≡ steps_before k m Publish = all ∙ ap (steps_before k m) new.0 in
+          omega arith)) (shows (newest s) tidy.slots.newest_in) v new.1)
     ]
 
 -- the last step of a command keeps what holds of the keeper
-pub KeeperSound-commit : (k : Base) (log : List Entry) (words : List ℕ) (h : Hand) → IsTidy k (story k log) (blocks k log)
-    → KeeperSound k (story k log) (blocks k log) words record { log = log; hand = Some h } → h.done ≡ steps_before k (blocks k log) h.command
-    → KeeperSound k (told (story k log) h.command (reply_of (story k log) h.command h.scanned)) (moved (story k log) h.command (reply_of (story k log) h.command h.scanned) (blocks k log))
-    (set words now_at (now_of (told (story k log) h.command (reply_of (story k log) h.command h.scanned)))) record { log = log ++ entry_of (story k log) h ∷ []; hand = None }
+pub KeeperSound-commit : (k : Base) (log : List Entry) (words : List ℕ) (h : Hand)
+    → IsTidy k (story k log) (blocks k log)
+    → KeeperSound k (story k log) (blocks k log) words record { log = log; hand = Some h }
+    → h.done ≡ steps_before k (blocks k log) h.command
+    → KeeperSound k (told (story k log) h.command (reply_of (story k log) h.command h.scanned))
+    (moved (story k log) h.command (reply_of (story k log) h.command h.scanned) (blocks k log))
+    (set words now_at
+    (now_of (told (story k log) h.command (reply_of (story k log) h.command h.scanned))))
+    record { log = log ++ entry_of (story k log) h ∷ []; hand = None }
 unfolding story
 KeeperSound-commit k log words h tidy sound all =
     let s = story k log in
@@ -223,12 +289,15 @@ KeeperSound-commit k log words h tidy sound all =
       sized = length-set words now_at word ∙ sound.sized;
       legal = IsLegal-push k.setting (opened k.opening) log (entry_of s h) sound.legal answer;
       now = get_or-set_same words now_at word 0 (omega arith);
-      shows = λ v is_kept. Shows-now k (told s h.command reply) (moved s h.command reply m) words v word (Shows-told k s m words h reply tidy answer sound.shows inhand all v is_kept);
+      shows = λ v is_kept. Shows-now k (told s h.command reply)
+          (moved s h.command reply m) words v word
+          (Shows-told k s m words h reply tidy answer sound.shows inhand all v is_kept);
       hand = tt;
     }
 
 -- a kept version is kept still, where a collect keeps it
-kept_stays : (s : Story) (c : Command) (words : List ℕ) (v : ℕ) → IsKept s v → (c ≡ Collect → IsIn (kept_scanned s words) v) → IsKept (told s c (reply_of s c words)) v
+kept_stays : (s : Story) (c : Command) (words : List ℕ) (v : ℕ) → IsKept s v
+    → (c ≡ Collect → IsIn (kept_scanned s words) v) → IsKept (told s c (reply_of s c words)) v
 unfolding told reply_of IsKept
 kept_stays s (Paint r black) words v is_kept above = is_kept
 kept_stays s (Stamp x y b) words v is_kept above = is_kept
@@ -238,18 +307,24 @@ kept_stays s Collect words v is_kept above = above refl
 kept_stays s Checkpoint words v is_kept above = is_kept
 
 -- a collect that has done all of its scan has passed each reader
-scanned_all : (k : Base) (m : Blocks) (h : Hand) (r : ℕ) → r < k.setting.sessions → h.command ≡ Collect → h.done ≡ steps_before k m h.command
+scanned_all : (k : Base) (m : Blocks) (h : Hand) (r : ℕ) → r < k.setting.sessions
+    → h.command ≡ Collect → h.done ≡ steps_before k m h.command
     → length h.scanned ≡ h.done → r < length h.scanned
 unfolding steps_before
 scanned_all k m h r inside collect all count =
     let steps : h.done ≡ k.setting.sessions = all ∙ ap (steps_before k m) collect in
     omega arith
 
--- the last step of a command keeps what holds of each reader: what it holds is kept, since the scan has passed it
-pub ReaderSound-commit : (k : Base) (log : List Entry) (words : List ℕ) (h : Hand) (r : ℕ) (x : Reader) → r < k.setting.sessions
-    → InHand k (story k log) (blocks k log) words h → h.done ≡ steps_before k (blocks k log) h.command
+-- the last step of a command keeps what holds of each reader: what it holds is kept, since the scan
+-- has passed it
+pub ReaderSound-commit : (k : Base) (log : List Entry) (words : List ℕ) (h : Hand) (r : ℕ)
+    (x : Reader) → r < k.setting.sessions
+    → InHand k (story k log) (blocks k log) words h
+    → h.done ≡ steps_before k (blocks k log) h.command
     → ReaderSound k (story k log) words record { log = log; hand = Some h } r x
-    → ReaderSound k (told (story k log) h.command (reply_of (story k log) h.command h.scanned)) (set words now_at (now_of (told (story k log) h.command (reply_of (story k log) h.command h.scanned))))
+    → ReaderSound k (told (story k log) h.command (reply_of (story k log) h.command h.scanned))
+    (set words now_at
+    (now_of (told (story k log) h.command (reply_of (story k log) h.command h.scanned))))
     record { log = log ++ entry_of (story k log) h ∷ []; hand = None } r x
 ReaderSound-commit k log words h r x inside inhand all sound =
     let s = story k log in
@@ -265,7 +340,9 @@ ReaderSound-commit k log words h r x inside inhand all sound =
       holds = λ v is.
           let held = sound.holds v is in
           record {
-            kept = kept_stays s h.command h.scanned v held.kept (λ collect. sound.passed collect (scanned_all k (blocks k log) h r inside collect all (inhand.scans collect)) v is);
+            kept = kept_stays s h.command h.scanned v held.kept
+                (λ collect. sound.passed collect
+                (scanned_all k (blocks k log) h r inside collect all (inhand.scans collect)) v is);
             asked = held.asked;
           };
       passed = tt;

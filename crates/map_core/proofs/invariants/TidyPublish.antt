@@ -1,104 +1,174 @@
 -- After one more publish each part of what holds after a legal log holds again.
-use Rattle.std.proofs.Common.{◌≡◌, ℕ, suc, ◌+◌, ◌<◌, ◌≤◌, ◌⊎◌, Bool, true, false, List, [], ◌∷◌, ◌++◌, length, map, replicate, get_or, refl, ap, subst, sym, ◌∙◌, arith}
+use Rattle.std.proofs.Common.{◌≡◌, ℕ, suc, ◌+◌, ◌<◌, ◌≤◌, ◌⊎◌, Bool, true, false, List, [], ◌∷◌}
+use Rattle.std.proofs.Common.{◌++◌, length, map, replicate, get_or, refl, ap, subst, sym, ◌∙◌}
+use Rattle.std.proofs.Common.{arith}
 use Rattle.std.specs.Prelude.{Option, None, is_some}
 use Rattle.std.specs.List.{AllByRecursion}
 use Rattle.std.proofs.lemmas.Bool.{cases_lt}
-use Rattle.std.proofs.lemmas.List.{length-append, length-map, length-replicate, length-set, get_or_append_left, get_or_push, get_or-set_same}
+use Rattle.std.proofs.lemmas.List.{length-append, length-map, length-replicate, length-set}
+use Rattle.std.proofs.lemmas.List.{get_or_append_left, get_or_push, get_or-set_same}
 use mathlib.Core.Logic.{inl, inr}
 use Rattle.bits.specs.Cells.{Cells}
 use Rattle.bits.specs.Tiles.{row_word}
 use Rattle.map_core.specs.Kept.{first_free, with_version}
 use Rattle.map_core.specs.Story.{Story, newest, bitmap_of, no_bitmap, kept, IsKept, came}
 use Rattle.map_core.specs.declared.blocks.RetiredBlock.{RetiredBlock}
-use Rattle.map_core.specs.Blocks.{Blocks, directory_of, own_list, mapped, replaced, blocks_of, is_used}
+use Rattle.map_core.specs.Blocks.{Blocks, directory_of, own_list, mapped, replaced, blocks_of}
+use Rattle.map_core.specs.Blocks.{is_used}
 use Rattle.map_core.specs.Words.{Base, tiles}
 use Rattle.map_core.specs.Safe.{times}
-use Rattle.map_core.specs.Tidy.{IsOfMap, IsRetired, IsAmongRetired, HasNewest, AreSlots, IsShaped, IsTidy}
-use Rattle.map_core.proofs.accounts.CameLemmas.{came-push, came-le, came-same, changed_before-push, changed_before_new}
+use Rattle.map_core.specs.Tidy.{IsOfMap, IsRetired, IsAmongRetired, HasNewest, AreSlots, IsShaped}
+use Rattle.map_core.specs.Tidy.{IsTidy}
+use Rattle.map_core.proofs.accounts.CameLemmas.{came-push, came-le, came-same, changed_before-push}
+use Rattle.map_core.proofs.accounts.CameLemmas.{changed_before_new}
 use Rattle.map_core.proofs.logs.KeptLemmas.{first_free-le, members-add, IsIn-add, added_at}
-use Rattle.map_core.proofs.accounts.RetiredLemmas.{All-append, All-each, All-replaced, Among-append_left, Among-append_right, Among-replaced, used_at, used_by}
-use Rattle.map_core.proofs.accounts.TimesLemmas.{times-append, blocks_of-append, own_list-none, is_some-none, times-mapped, length-mapped, length-replaced, mapped-None}
+use Rattle.map_core.proofs.accounts.RetiredLemmas.{All-append, All-each, All-replaced}
+use Rattle.map_core.proofs.accounts.RetiredLemmas.{Among-append_left, Among-append_right}
+use Rattle.map_core.proofs.accounts.RetiredLemmas.{Among-replaced, used_at, used_by}
+use Rattle.map_core.proofs.accounts.TimesLemmas.{times-append, blocks_of-append, own_list-none}
+use Rattle.map_core.proofs.accounts.TimesLemmas.{is_some-none, times-mapped, length-mapped}
+use Rattle.map_core.proofs.accounts.TimesLemmas.{length-replaced, mapped-None}
 
 -- another publish leaves the story so
 abbrev pub published_story : Story → Story
-published_story s = record s { places = s.places + 1; published = s.published ++ s.draft ∷ []; changes = s.changes ++ s.changed ∷ []; changed = replicate (length s.changed) false; kept = with_version s.kept (newest s + 1); slots = s.slots ++ first_free s.kept.slots ∷ [] }
+published_story s =
+    record s {
+      places = s.places + 1;
+      published = s.published ++ s.draft ∷ [];
+      changes = s.changes ++ s.changed ∷ [];
+      changed = replicate (length s.changed) false;
+      kept = with_version s.kept (newest s + 1);
+      slots = s.slots ++ first_free s.kept.slots ∷ [];
+    }
 
 -- where the blocks stand after one more publish
 abbrev pub published_blocks : Story → Blocks → Blocks
-published_blocks s m = record m { own = replicate (length m.own) None; directories = m.directories ++ mapped m.own (directory_of m (newest s)) ∷ []; retired = m.retired ++ replaced s 0 m.own (directory_of m (newest s)) }
+published_blocks s m =
+    record m {
+      own = replicate (length m.own) None;
+      directories = m.directories ++ mapped m.own (directory_of m (newest s)) ∷ [];
+      retired = m.retired ++ replaced s 0 m.own (directory_of m (newest s));
+    }
 
 -- a publish makes one more version
-pub newest-publish : (k : Base) (s : Story) (m : Blocks) → IsShaped k s m → newest (published_story s) ≡ newest s + 1
+pub newest-publish : (k : Base) (s : Story) (m : Blocks) → IsShaped k s m
+    → newest (published_story s) ≡ newest s + 1
 unfolding newest
-newest-publish k s m shape = omega (arith, length-append s.published (s.draft ∷ []), shape.published)
+newest-publish k s m shape =
+    omega (arith, length-append s.published (s.draft ∷ []), shape.published)
 
 -- the newest version is the number of publishes
-pub newest_is : (k : Base) (s : Story) (m : Blocks) → IsShaped k s m → (newest s ≡ length s.changes) × (length s.published ≡ newest s + 1) × (length m.directories ≡ newest s + 1)
+pub newest_is : (k : Base) (s : Story) (m : Blocks) → IsShaped k s m → (newest s ≡ length s.changes)
+    × (length s.published ≡ newest s + 1) × (length m.directories ≡ newest s + 1)
 unfolding newest
-newest_is k s m shape = (omega (arith, shape.published), omega (arith, shape.published), omega (arith, shape.published, shape.directories))
+newest_is k s m shape = (
+  omega (arith, shape.published),
+  omega (arith, shape.published),
+  omega (arith, shape.published, shape.directories),
+)
 
 -- each version before keeps its bitmap
-pub bitmap_of-publish : (k : Base) (s : Story) (m : Blocks) → IsShaped k s m → (v : ℕ) → v ≤ newest s → bitmap_of (published_story s) v ≡ bitmap_of s v
+pub bitmap_of-publish : (k : Base) (s : Story) (m : Blocks) → IsShaped k s m → (v : ℕ)
+    → v ≤ newest s → bitmap_of (published_story s) v ≡ bitmap_of s v
 unfolding bitmap_of
-bitmap_of-publish k s m shape v h = get_or_append_left s.published (s.draft ∷ []) no_bitmap v (let at = newest_is k s m shape in omega arith)
+bitmap_of-publish k s m shape v h =
+    get_or_append_left s.published (s.draft ∷ []) no_bitmap v
+    (let at = newest_is k s m shape in omega arith)
 
 -- the new version is the draft
-pub bitmap_of-new : (k : Base) (s : Story) (m : Blocks) → IsShaped k s m → (v : ℕ) → v ≡ newest s + 1 → bitmap_of (published_story s) v ≡ s.draft
+pub bitmap_of-new : (k : Base) (s : Story) (m : Blocks) → IsShaped k s m → (v : ℕ)
+    → v ≡ newest s + 1 → bitmap_of (published_story s) v ≡ s.draft
 unfolding bitmap_of
-bitmap_of-new k s m shape v is = get_or_push s.published s.draft no_bitmap v (let at = newest_is k s m shape in omega arith)
+bitmap_of-new k s m shape v is =
+    get_or_push s.published s.draft no_bitmap v (let at = newest_is k s m shape in omega arith)
 
 -- each version before keeps its blocks
-pub directory_of-publish : (k : Base) (s : Story) (m : Blocks) → IsShaped k s m → (v : ℕ) → v ≤ newest s → directory_of (published_blocks s m) v ≡ directory_of m v
+pub directory_of-publish : (k : Base) (s : Story) (m : Blocks) → IsShaped k s m → (v : ℕ)
+    → v ≤ newest s → directory_of (published_blocks s m) v ≡ directory_of m v
 unfolding directory_of
-directory_of-publish k s m shape v h = get_or_append_left m.directories _ [] v (let at = newest_is k s m shape in omega arith)
+directory_of-publish k s m shape v h =
+    get_or_append_left m.directories _ [] v (let at = newest_is k s m shape in omega arith)
 
 -- a directory that is put at the end is that of the new version
-new_entry : (m : Blocks) (blocks : List ℕ) (own : List (Option ℕ)) (retired : List RetiredBlock) (v : ℕ) → length m.directories ≡ v
-    → directory_of record m { own = own; directories = m.directories ++ blocks ∷ []; retired = retired } v ≡ blocks
+new_entry : (m : Blocks) (blocks : List ℕ) (own : List (Option ℕ)) (retired : List RetiredBlock)
+    (v : ℕ) → length m.directories ≡ v
+    → directory_of record m {
+      own = own;
+      directories = m.directories ++ blocks ∷ [];
+      retired = retired;
+    } v ≡ blocks
 unfolding directory_of
 new_entry m blocks own retired v at = get_or_push m.directories blocks [] v at
 
 -- the new version has the draft's own blocks, and newest's where the draft has none
-pub directory_of-new : (k : Base) (s : Story) (m : Blocks) → IsShaped k s m → (v : ℕ) → v ≡ newest s + 1
+pub directory_of-new : (k : Base) (s : Story) (m : Blocks) → IsShaped k s m → (v : ℕ)
+    → v ≡ newest s + 1
     → directory_of (published_blocks s m) v ≡ mapped m.own (directory_of m (newest s))
 directory_of-new k s m shape v is =
-    new_entry m (mapped m.own (directory_of m (newest s))) (replicate (length m.own) None) (m.retired ++ replaced s 0 m.own (directory_of m (newest s))) v (let at = newest_is k s m shape in omega arith)
+    new_entry m (mapped m.own (directory_of m (newest s))) (replicate (length m.own) None)
+    (m.retired ++ replaced s 0 m.own (directory_of m (newest s))) v
+    (let at = newest_is k s m shape in omega arith)
 
 -- a position has changed where the draft has its own block there
-changed_at : (k : Base) (s : Story) (m : Blocks) → IsShaped k s m → (p : ℕ) → get_or s.changed p false ≡ get_or (map is_some m.own) p false
+changed_at : (k : Base) (s : Story) (m : Blocks) → IsShaped k s m → (p : ℕ)
+    → get_or s.changed p false ≡ get_or (map is_some m.own) p false
 changed_at k s m shape p = ap (λ (bs : List Bool). get_or bs p false) shape.changed
 
 -- newest's blocks and the draft's are one for each position
-same_length : (k : Base) (s : Story) (m : Blocks) → IsShaped k s m → length m.own ≡ length (directory_of m (newest s))
+same_length : (k : Base) (s : Story) (m : Blocks) → IsShaped k s m
+    → length m.own ≡ length (directory_of m (newest s))
 same_length k s m shape = shape.own ∙ sym (shape.directory (newest s) (omega arith))
 
 -- the lists after a publish are as long as they should be
-shape-publish : (k : Base) (s : Story) (m : Blocks) → IsShaped k s m → IsShaped k (published_story s) (published_blocks s m)
+shape-publish : (k : Base) (s : Story) (m : Blocks) → IsShaped k s m
+    → IsShaped k (published_story s) (published_blocks s m)
 shape-publish k s m shape =
     let now = newest-publish k s m shape in
     let at = newest_is k s m shape in
     let same = same_length k s m shape in
-    let long : length s.changed ≡ length m.own = ap length shape.changed ∙ length-map m.own is_some in
+    let long : length s.changed ≡ length m.own = ap length shape.changed
+    ∙ length-map m.own is_some in
     record {
       own = length-replicate (length m.own) None ∙ shape.own;
       changed = ap (λ (n : ℕ). replicate n false) long ∙ sym (is_some-none (length m.own));
-      published = omega (arith, length-append s.published (s.draft ∷ []), length-append s.changes (s.changed ∷ []), shape.published);
-      directories = omega (arith, length-append s.published (s.draft ∷ []), length-append m.directories (mapped m.own (directory_of m (newest s)) ∷ []), shape.directories);
+      published = omega (
+        arith,
+        length-append s.published (s.draft ∷ []),
+        length-append s.changes (s.changed ∷ []),
+        shape.published,
+      );
+      directories = omega (
+        arith,
+        length-append s.published (s.draft ∷ []),
+        length-append m.directories (mapped m.own (directory_of m (newest s)) ∷ []),
+        shape.directories,
+      );
       directory = λ v h.
           elim (cases_lt (newest s) v) [
-            | inl new ↦ ap length (directory_of-new k s m shape v (omega arith)) ∙ (length-mapped m.own (directory_of m (newest s)) same ∙ shape.directory (newest s) (omega arith))
+            | inl new ↦ ap length (directory_of-new k s m shape v (omega arith))
+                ∙ (length-mapped m.own (directory_of m (newest s)) same
+                ∙ shape.directory (newest s) (omega arith))
             | inr old ↦ ap length (directory_of-publish k s m shape v old) ∙ shape.directory v old
           ];
       changes = λ v h.
           elim (cases_lt v (newest s)) [
-            | inl old ↦ ap length (get_or_append_left s.changes (s.changed ∷ []) [] v (omega arith)) ∙ shape.changes v old
-            | inr new ↦ ap length (get_or_push s.changes s.changed [] v (omega arith)) ∙ (long ∙ shape.own)
+            | inl old ↦ ap length (get_or_append_left s.changes (s.changed ∷ []) [] v (omega arith))
+                ∙ shape.changes v old
+            | inr new ↦ ap length (get_or_push s.changes s.changed [] v (omega arith))
+                ∙ (long ∙ shape.own)
           ];
-      blocks = omega (arith, shape.blocks, length-append m.retired (replaced s 0 m.own (directory_of m (newest s))), length-replaced s 0 m.own (directory_of m (newest s)) same, ap length (own_list-none (length m.own)));
+      blocks = omega (
+        arith,
+        shape.blocks,
+        length-append m.retired (replaced s 0 m.own (directory_of m (newest s))),
+        length-replaced s 0 m.own (directory_of m (newest s)) same,
+        ap length (own_list-none (length m.own)),
+      );
     }
 
 -- a version that is kept after a publish was kept before, or it is the new one
-pub kept_published : (s : Story) (v : ℕ) → IsKept (published_story s) v → IsKept s v ⊎ (v ≡ newest s + 1)
+pub kept_published : (s : Story) (v : ℕ) → IsKept (published_story s) v → IsKept s v
+    ⊎ (v ≡ newest s + 1)
 unfolding IsKept
 kept_published s v h =
     elim (added_at s.kept.slots (newest s + 1) h.slot v h.there) [
@@ -112,22 +182,29 @@ unfolding IsKept
 kept_still s v h = IsIn-add s.kept (newest s + 1) v h
 
 -- a block that was used is used
-used_still : (s : Story) (r : RetiredBlock) → is_used (kept s) r ≡ true → is_used (kept (published_story s)) r ≡ true
+used_still : (s : Story) (r : RetiredBlock) → is_used (kept s) r ≡ true
+    → is_used (kept (published_story s)) r ≡ true
 unfolding kept
 used_still s r used =
     let user = used_by s.kept.slots r used in
-    let still = IsIn-add s.kept (newest s + 1) user.version record { slot = user.slot; there = user.there } in
-    used_at (with_version s.kept (newest s + 1)).slots r still.slot user.version still.there user.since user.until
+    let still = IsIn-add s.kept (newest s + 1) user.version
+    record { slot = user.slot; there = user.there } in
+    used_at (with_version s.kept (newest s + 1)).slots r still.slot user.version still.there
+    user.since user.until
 
 -- a block of newest is used
-used_newest : (s : Story) (r : RetiredBlock) → IsKept s (newest s) → r.first ≤ newest s → newest s ≤ r.last → is_used (kept (published_story s)) r ≡ true
+used_newest : (s : Story) (r : RetiredBlock) → IsKept s (newest s) → r.first ≤ newest s
+    → newest s ≤ r.last → is_used (kept (published_story s)) r ≡ true
 unfolding kept IsKept
 used_newest s r newest_in since until =
     let still = IsIn-add s.kept (newest s + 1) (newest s) newest_in in
-    used_at (with_version s.kept (newest s + 1)).slots r still.slot (newest s) still.there since until
+    used_at (with_version s.kept (newest s + 1)).slots r still.slot
+    (newest s) still.there since until
 
 -- a publish finds a slot of the setting
-pub slot_found : (k : Base) (s : Story) → AreSlots k s → k.setting.versions ≤ 64 → length (kept s) < k.setting.versions → (first_free s.kept.slots < k.setting.versions) × (first_free s.kept.slots < length s.kept.slots)
+pub slot_found : (k : Base) (s : Story) → AreSlots k s → k.setting.versions ≤ 64
+    → length (kept s) < k.setting.versions → (first_free s.kept.slots < k.setting.versions)
+    × (first_free s.kept.slots < length s.kept.slots)
 unfolding kept
 slot_found k s slots few room =
     let low = first_free-le s.kept.slots in
@@ -135,9 +212,14 @@ slot_found k s slots few room =
     (omega arith, omega arith)
 
 -- the new version is kept
-new_kept : (s : Story) → first_free s.kept.slots < length s.kept.slots → IsKept (published_story s) (newest s + 1)
+new_kept : (s : Story) → first_free s.kept.slots < length s.kept.slots
+    → IsKept (published_story s) (newest s + 1)
 unfolding IsKept
-new_kept s h = record { slot = first_free s.kept.slots; there = get_or-set_same s.kept.slots (first_free s.kept.slots) (suc (newest s + 1)) 0 h }
+new_kept s h =
+    record {
+      slot = first_free s.kept.slots;
+      there = get_or-set_same s.kept.slots (first_free s.kept.slots) (suc (newest s + 1)) 0 h;
+    }
 
 -- a version that a slot has is kept
 is_kept : (s : Story) (i v : ℕ) → get_or s.kept.slots i 0 ≡ suc v → IsKept s v
@@ -145,7 +227,9 @@ unfolding IsKept
 is_kept s i v there = record { slot = i; there = there }
 
 -- after a publish the kept versions stand in slots, each in its own
-slots-publish : (k : Base) (s : Story) (m : Blocks) → IsShaped k s m → AreSlots k s → k.setting.versions ≤ 64 → length (kept s) < k.setting.versions → AreSlots k (published_story s)
+slots-publish : (k : Base) (s : Story) (m : Blocks) → IsShaped k s m → AreSlots k s
+    → k.setting.versions ≤ 64 → length (kept s) < k.setting.versions
+    → AreSlots k (published_story s)
 slots-publish k s m shape slots few room =
     let now = newest-publish k s m shape in
     let at = newest_is k s m shape in
@@ -154,7 +238,11 @@ slots-publish k s m shape slots few room =
     let each = slots.each in
     record {
       long = length-set s.kept.slots ff (suc (newest s + 1)) ∙ slots.long;
-      each = omega (arith, length-append s.slots (ff ∷ []), length-append s.published (s.draft ∷ []));
+      each = omega (
+        arith,
+        length-append s.slots (ff ∷ []),
+        length-append s.published (s.draft ∷ []),
+      );
       newest_in = subst (λ (v : ℕ). IsKept (published_story s) v) (sym now) (new_kept s found.1);
       published = λ v h.
           elim (kept_published s v h) [
@@ -168,13 +256,15 @@ slots-publish k s m shape slots few room =
           ];
       own = λ i v there.
           elim (added_at s.kept.slots (newest s + 1) i v there) [
-            | inl old ↦ let before = slots.published v (is_kept s i v old) in get_or_append_left s.slots (ff ∷ []) 0 v (omega arith) ∙ slots.own i v old
+            | inl old ↦ let before = slots.published v (is_kept s i v old) in
+                get_or_append_left s.slots (ff ∷ []) 0 v (omega arith) ∙ slots.own i v old
             | inr new ↦ let same = new.1 in get_or_push s.slots ff 0 v (omega arith) ∙ sym new.0
           ];
     }
 
 -- a retired block stays retired after a publish
-IsRetired-publish : (k : Base) (s : Story) (m : Blocks) → IsShaped k s m → (r : RetiredBlock) → IsRetired k s m r → IsRetired k (published_story s) (published_blocks s m) r
+IsRetired-publish : (k : Base) (s : Story) (m : Blocks) → IsShaped k s m → (r : RetiredBlock)
+    → IsRetired k s m r → IsRetired k (published_story s) (published_blocks s m) r
 IsRetired-publish k s m shape r h =
     let now = newest-publish k s m shape in
     let at = newest_is k s m shape in
@@ -183,36 +273,57 @@ IsRetired-publish k s m shape r h =
       inside = h.inside;
       used = used_still s r h.used;
       before = omega arith;
-      gone = changed_before-push s (published_story s) s.changed refl r.last r.position (omega arith) ∙ h.gone;
-      first_is = h.first_is ∙ sym (came-push s (published_story s) s.changed refl r.position r.last (omega arith));
-      block_is = h.block_is ∙ sym (ap (λ (d : List ℕ). get_or d r.position 0) (directory_of-publish k s m shape r.last (omega arith)));
+      gone = changed_before-push s (published_story s) s.changed refl r.last r.position
+          (omega arith) ∙ h.gone;
+      first_is = h.first_is
+          ∙ sym (came-push s (published_story s) s.changed refl r.position r.last (omega arith));
+      block_is = h.block_is
+          ∙ sym (ap (λ (d : List ℕ). get_or d r.position 0)
+          (directory_of-publish k s m shape r.last (omega arith)));
     }
 
 -- the blocks that a publish replaces are retired
 IsRetired-new : (k : Base) (s : Story) (m : Blocks) → IsTidy k s m
-    → AllByRecursion (IsRetired k (published_story s) (published_blocks s m)) (replaced s 0 m.own (directory_of m (newest s)))
+    → AllByRecursion (IsRetired k (published_story s) (published_blocks s m))
+    (replaced s 0 m.own (directory_of m (newest s)))
 IsRetired-new k s m tidy =
     let shape = tidy.shape in
     let now = newest-publish k s m shape in
     let at = newest_is k s m shape in
     let same = same_length k s m shape in
-    All-replaced (IsRetired k (published_story s) (published_blocks s m)) s 0 m.own (directory_of m (newest s)) same (λ j h is. record {
+    All-replaced (IsRetired k (published_story s) (published_blocks s m)) s 0 m.own
+    (directory_of m (newest s)) same (λ j h is. record {
       inside = let own = shape.own in omega arith;
-      used = used_newest s record { block = get_or (directory_of m (newest s)) j 0; position = 0 + j; first = came s (0 + j) (newest s); last = newest s } tidy.slots.newest_in (came-le s (0 + j) (newest s)) (omega arith);
+      used = used_newest s record {
+        block = get_or (directory_of m (newest s)) j 0;
+        position = 0 + j;
+        first = came s (0 + j) (newest s);
+        last = newest s;
+      } tidy.slots.newest_in
+          (came-le s (0 + j) (newest s)) (omega arith);
       before = omega arith;
-      gone = changed_before_new s (published_story s) s.changed refl (newest s) (0 + j) (omega arith)
-          ∙ (changed_at k s m shape (0 + j) ∙ (ap (λ (p : ℕ). get_or (map is_some m.own) p false) (let same_place : 0 + j ≡ j = omega arith in same_place) ∙ is));
-      first_is = sym (came-push s (published_story s) s.changed refl (0 + j) (newest s) (omega arith));
-      block_is = ap (get_or' (directory_of m (newest s))) (let same_place : j ≡ 0 + j = omega arith in same_place)
-          ∙ sym (ap (λ (d : List ℕ). get_or d (0 + j) 0) (directory_of-publish k s m shape (newest s) (omega arith)));
+      gone = changed_before_new s (published_story s) s.changed refl (newest s) (0 + j)
+          (omega arith)
+          ∙ (changed_at k s m shape (0 + j)
+          ∙ (ap (λ (p : ℕ). get_or (map is_some m.own) p false)
+          (let same_place : 0 + j ≡ j = omega arith in same_place) ∙ is));
+      first_is = sym (came-push s (published_story s) s.changed refl (0 + j) (newest s)
+          (omega arith));
+      block_is = ap (get_or' (directory_of m (newest s)))
+          (let same_place : j ≡ 0 + j = omega arith in same_place)
+          ∙ sym (ap (λ (d : List ℕ). get_or d (0 + j) 0)
+          (directory_of-publish k s m shape (newest s) (omega arith)));
     })
   where
     get_or' : List ℕ → ℕ → ℕ
     get_or' xs p = get_or xs p 0
 
 -- a kept version has newest's block at a position, or a retired one
-mapped-publish : (k : Base) (s : Story) (m : Blocks) → IsTidy k s m → (v p : ℕ) → IsKept (published_story s) v → p < tiles k
-    → HasNewest (published_story s) (published_blocks s m) v p ⊎ IsAmongRetired (get_or (directory_of (published_blocks s m) v) p 0) v p (m.retired ++ replaced s 0 m.own (directory_of m (newest s)))
+mapped-publish : (k : Base) (s : Story) (m : Blocks) → IsTidy k s m → (v p : ℕ)
+    → IsKept (published_story s) v → p < tiles k
+    → HasNewest (published_story s) (published_blocks s m) v p
+    ⊎ IsAmongRetired (get_or (directory_of (published_blocks s m) v) p 0) v p
+    (m.retired ++ replaced s 0 m.own (directory_of m (newest s)))
 mapped-publish k s m tidy v p is_kept inside =
     let shape = tidy.shape in
     let t = published_story s in
@@ -225,42 +336,66 @@ mapped-publish k s m tidy v p is_kept inside =
     elim (kept_published s v is_kept) [
       | inr new ↦
           let is : v ≡ newest t = omega arith in
-          inl record { block_is = ap (λ (w : ℕ). get_or (directory_of n w) p 0) is; came_is = ap (came t p) is }
+          inl record {
+            block_is = ap (λ (w : ℕ). get_or (directory_of n w) p 0) is;
+            came_is = ap (came t p) is;
+          }
       | inl was ↦
           let old = tidy.slots.published v was in
-          let kept_blocks = ap (λ (d : List ℕ). get_or d p 0) (directory_of-publish k s m shape v old) in
+          let kept_blocks = ap (λ (d : List ℕ). get_or d p 0)
+          (directory_of-publish k s m shape v old) in
           elim (tidy.mapped v p was inside) [
             | inl has ↦
-                elim (get_or (map is_some m.own) p false) as (λ b. get_or (map is_some m.own) p false ≡ b
-                → HasNewest t n v p ⊎ IsAmongRetired (get_or (directory_of n v) p 0) v p (m.retired ++ replaced s 0 m.own (directory_of m (newest s)))) [
+                elim (get_or (map is_some m.own) p false) as
+                (λ b. get_or (map is_some m.own) p false ≡ b
+                → HasNewest t n v p
+                ⊎ IsAmongRetired (get_or (directory_of n v) p 0) v p
+                (m.retired ++ replaced s 0 m.own (directory_of m (newest s)))) [
                   | true ↦ λ is.
                       let came_low = came-le s p v in
                       let came_same = has.came_is in
                       let place : 0 + p ≡ p = omega arith in
                       let came_place = ap (λ (q : ℕ). came s q (newest s)) place in
-                      let among = Among-replaced s 0 m.own (directory_of m (newest s)) p v same (omega arith) is (omega arith) old in
-                      inr (subst (λ (b : ℕ). IsAmongRetired b v p (m.retired ++ replaced s 0 m.own (directory_of m (newest s)))) (sym (kept_blocks ∙ has.block_is))
-                      (Among-append_right _ v p m.retired _ (subst (λ (q : ℕ). IsAmongRetired (get_or (directory_of m (newest s)) p 0) v q (replaced s 0 m.own (directory_of m (newest s)))) place among)))
+                      let among = Among-replaced s 0 m.own (directory_of m (newest s)) p v same
+                      (omega arith) is (omega arith) old in
+                      inr (subst (λ (b : ℕ). IsAmongRetired b v p
+                      (m.retired ++ replaced s 0 m.own (directory_of m (newest s))))
+                      (sym (kept_blocks ∙ has.block_is))
+                      (Among-append_right _ v p m.retired _
+                      (subst (λ (q : ℕ). IsAmongRetired (get_or (directory_of m (newest s)) p 0) v
+                      q (replaced s 0 m.own (directory_of m (newest s)))) place among)))
                   | false ↦ λ is. inl record {
-                    block_is = kept_blocks ∙ (has.block_is ∙ (sym (mapped-None m.own (directory_of m (newest s)) p same (omega arith) is)
-                        ∙ sym (ap (λ (d : List ℕ). get_or d p 0) (directory_of-new k s m shape (newest t) now))));
-                    came_is = came-push s t s.changed refl p v (omega arith) ∙ (has.came_is ∙ (sym (came-push s t s.changed refl p (newest s) (omega arith))
-                        ∙ (sym (came-same t p (newest s) (changed_before_new s t s.changed refl (newest s) p (omega arith) ∙ (changed_at k s m shape p ∙ is)))
+                    block_is = kept_blocks
+                        ∙ (has.block_is
+                        ∙ (sym (mapped-None m.own (directory_of m (newest s)) p same
+                        (omega arith) is)
+                        ∙ sym (ap (λ (d : List ℕ). get_or d p 0)
+                        (directory_of-new k s m shape (newest t) now))));
+                    came_is = came-push s t s.changed refl p v (omega arith)
+                        ∙ (has.came_is
+                        ∙ (sym (came-push s t s.changed refl p (newest s) (omega arith))
+                        ∙ (sym (came-same t p (newest s)
+                        (changed_before_new s t s.changed refl (newest s) p (omega arith)
+                        ∙ (changed_at k s m shape p ∙ is)))
                         ∙ ap (came t p) (sym next))));
                   }
                 ] refl
-            | inr among ↦ inr (subst (λ (b : ℕ). IsAmongRetired b v p (m.retired ++ replaced s 0 m.own (directory_of m (newest s)))) (sym kept_blocks)
+            | inr among ↦
+                inr (subst (λ (b : ℕ). IsAmongRetired b v p
+                (m.retired ++ replaced s 0 m.own (directory_of m (newest s)))) (sym kept_blocks)
                 (Among-append_left _ v p m.retired _ among))
           ]
     ]
 
 -- after a publish no more versions are kept than there are slots
-one_more : (k : Base) (s : Story) → first_free s.kept.slots < length s.kept.slots → length (kept s) < k.setting.versions → length (kept (published_story s)) ≤ k.setting.versions
+one_more : (k : Base) (s : Story) → first_free s.kept.slots < length s.kept.slots
+    → length (kept s) < k.setting.versions → length (kept (published_story s)) ≤ k.setting.versions
 unfolding kept
 one_more k s found room = let more = members-add s.kept.slots (newest s + 1) found in omega arith
 
 -- what holds after a legal log holds after one more publish
-pub IsTidy-publish : (k : Base) (s : Story) (m : Blocks) → IsTidy k s m → k.setting.versions ≤ 64 → length (kept s) < k.setting.versions → IsTidy k (published_story s) (published_blocks s m)
+pub IsTidy-publish : (k : Base) (s : Story) (m : Blocks) → IsTidy k s m → k.setting.versions ≤ 64
+    → length (kept s) < k.setting.versions → IsTidy k (published_story s) (published_blocks s m)
 IsTidy-publish k s m tidy few room =
     let shape = tidy.shape in
     let t = published_story s in
@@ -272,10 +407,13 @@ IsTidy-publish k s m tidy few room =
       draft = tidy.draft;
       published = λ v h.
           elim (cases_lt (newest s) v) [
-            | inl new ↦ subst (λ (b : Cells). IsOfMap k b) (sym (bitmap_of-new k s m shape v (omega arith))) tidy.draft
-            | inr old ↦ subst (λ (b : Cells). IsOfMap k b) (sym (bitmap_of-publish k s m shape v old)) (tidy.published v old)
+            | inl new ↦ subst (λ (b : Cells). IsOfMap k b)
+                (sym (bitmap_of-new k s m shape v (omega arith))) tidy.draft
+            | inr old ↦ subst (λ (b : Cells). IsOfMap k b)
+                (sym (bitmap_of-publish k s m shape v old)) (tidy.published v old)
           ];
-      unchanged = λ p i none h. ap (λ (b : Cells). row_word b p i) (sym (bitmap_of-new k s m shape (newest t) now));
+      unchanged = λ p i none h. ap (λ (b : Cells). row_word b p i)
+          (sym (bitmap_of-new k s m shape (newest t) now));
       slots = slots-publish k s m shape tidy.slots few room;
       kept_fit = one_more k s (slot_found k s tidy.slots few room).1 room;
       once = λ b.
@@ -284,8 +422,20 @@ IsTidy-publish k s m tidy few room =
           let gone = ap (times b) (own_list-none (length m.own)) in
           let new_directory = ap (times b) (directory_of-new k s m shape (newest t) now) in
           let stands = times-mapped b s 0 m.own blocks same in
-          let all = ap (times b) (blocks_of-append m.retired (replaced s 0 m.own blocks)) ∙ times-append b (blocks_of m.retired) (blocks_of (replaced s 0 m.own blocks)) in
-          omega (arith, times-append b (m.free ++ own_list m.own ++ blocks) (blocks_of m.retired), times-append b (m.free ++ own_list m.own) blocks, times-append b m.free (own_list m.own), times-append b (m.free ++ own_list n.own ++ directory_of n (newest t)) (blocks_of n.retired), times-append b (m.free ++ own_list n.own) (directory_of n (newest t)), times-append b m.free (own_list n.own));
-      retired = All-append (IsRetired k t n) m.retired _ (All-each (IsRetired k s m) (IsRetired k t n) m.retired (IsRetired-publish k s m shape) tidy.retired) (IsRetired-new k s m tidy);
+          let all = ap (times b) (blocks_of-append m.retired (replaced s 0 m.own blocks))
+          ∙ times-append b (blocks_of m.retired) (blocks_of (replaced s 0 m.own blocks)) in
+          omega (
+            arith,
+            times-append b (m.free ++ own_list m.own ++ blocks) (blocks_of m.retired),
+            times-append b (m.free ++ own_list m.own) blocks,
+            times-append b m.free (own_list m.own),
+            times-append b (m.free ++ own_list n.own ++ directory_of n (newest t))
+                (blocks_of n.retired),
+            times-append b (m.free ++ own_list n.own) (directory_of n (newest t)),
+            times-append b m.free (own_list n.own),
+          );
+      retired = All-append (IsRetired k t n) m.retired _
+          (All-each (IsRetired k s m) (IsRetired k t n) m.retired
+          (IsRetired-publish k s m shape) tidy.retired) (IsRetired-new k s m tidy);
       mapped = mapped-publish k s m tidy;
     }

@@ -1,5 +1,7 @@
--- What a collect keeps: newest, what is announced exactly, and what was kept from each other announcement on; and how many that is.
-use Rattle.std.proofs.Common.{◌≡◌, ℕ, zero, suc, ◌+◌, ◌≤◌, ◌==◌, ◌||◌, Bool, true, false, cond, List, [], ◌∷◌, length, get_or, refl, ap, ◌∙◌, arith}
+-- What a collect keeps: newest, what is announced exactly, and what was kept from each other
+-- announcement on; and how many that is.
+use Rattle.std.proofs.Common.{◌≡◌, ℕ, zero, suc, ◌+◌, ◌≤◌, ◌==◌, ◌||◌, Bool, true, false, cond}
+use Rattle.std.proofs.Common.{List, [], ◌∷◌, length, get_or, refl, ap, ◌∙◌, arith}
 use Rattle.std.specs.Prelude.{Option, Some, None, nat_le, Contains}
 use Rattle.std.specs.List.{list_any}
 use Rattle.std.proofs.lemmas.Bool.{cases_eq}
@@ -9,28 +11,39 @@ use mathlib.Core.Logic.{inl, inr}
 use Rattle.map_core.specs.declared.kept.Kept.{Kept}
 use Rattle.map_core.specs.declared.kept.Seen.{Seen}
 use Rattle.map_core.specs.declared.kept.Seen.TheVariants.{From, Exact}
-use Rattle.map_core.specs.Kept.{members, IsIn, asks, is_stay, slots_after, kept_after, IsApart, AreExact, announcements}
+use Rattle.map_core.specs.Kept.{members, IsIn, asks, is_stay, slots_after, kept_after, IsApart}
+use Rattle.map_core.specs.Kept.{AreExact, announcements}
 use Rattle.map_core.proofs.logs.KeptLemmas.{IsIn-after, stay-newest, stay-asked}
 use Rattle.map_core.proofs.accounts.TimesLemmas.{one_if, none_if}
 
 -- newest is kept
-pub newest_after : (kept : Kept) (newest : ℕ) (seen : List (Option Seen)) → IsIn kept newest → IsIn (kept_after kept newest seen) newest
+pub newest_after : (kept : Kept) (newest : ℕ) (seen : List (Option Seen)) → IsIn kept newest
+    → IsIn (kept_after kept newest seen) newest
 newest_after kept newest seen h = IsIn-after kept newest seen newest h (stay-newest newest seen)
 
 -- what one of the announcements keeps stays
-asked_by : (seen : List (Option Seen)) (o : Option Seen) (v : ℕ) → Contains seen o → asks o v ≡ true → list_any (λ p. asks p v) seen ≡ true
-asked_by seen o v there is = list_any_at (λ p. asks p v) seen there.0 o there.1 (ap (λ (p : Option Seen). asks p v) there.2 ∙ is)
+asked_by : (seen : List (Option Seen)) (o : Option Seen) (v : ℕ) → Contains seen o → asks o v ≡ true
+    → list_any (λ p. asks p v) seen ≡ true
+asked_by seen o v there is =
+    list_any_at (λ p. asks p v) seen there.0 o there.1
+    (ap (λ (p : Option Seen). asks p v) there.2 ∙ is)
 
 -- a version that is announced exactly is kept
-pub exact_after : (kept : Kept) (newest : ℕ) (seen : List (Option Seen)) (v : ℕ) → Contains seen (Some (Exact v)) → IsIn kept v → IsIn (kept_after kept newest seen) v
-exact_after kept newest seen v there h = IsIn-after kept newest seen v h (stay-asked newest seen v (asked_by seen (Some (Exact v)) v there (itself v)))
+pub exact_after : (kept : Kept) (newest : ℕ) (seen : List (Option Seen)) (v : ℕ)
+    → Contains seen (Some (Exact v)) → IsIn kept v → IsIn (kept_after kept newest seen) v
+exact_after kept newest seen v there h =
+    IsIn-after kept newest seen v h
+    (stay-asked newest seen v (asked_by seen (Some (Exact v)) v there (itself v)))
   where
     itself : (v : ℕ) → asks (Some (Exact v)) v ≡ true
     itself v = grind (arith, nat_tests)
 
 -- a collect keeps each kept version from an announced one on, where the announcement isn't exact
-pub from_after : (kept : Kept) (newest : ℕ) (seen : List (Option Seen)) (a v : ℕ) → Contains seen (Some (From a)) → a ≤ v → IsIn kept v → IsIn (kept_after kept newest seen) v
-from_after kept newest seen a v there low h = IsIn-after kept newest seen v h (stay-asked newest seen v (asked_by seen (Some (From a)) v there (up_to a v low)))
+pub from_after : (kept : Kept) (newest : ℕ) (seen : List (Option Seen)) (a v : ℕ)
+    → Contains seen (Some (From a)) → a ≤ v → IsIn kept v → IsIn (kept_after kept newest seen) v
+from_after kept newest seen a v there low h =
+    IsIn-after kept newest seen v h
+    (stay-asked newest seen v (asked_by seen (Some (From a)) v there (up_to a v low)))
   where
     up_to : (a v : ℕ) → a ≤ v → nat_le a v ≡ true
     up_to a v low = grind (arith, nat_tests)
@@ -42,43 +55,56 @@ count_where test (zero ∷ slots) = count_where test slots
 count_where test (suc v ∷ slots) = cond (test v) 1 0 + count_where test slots
 
 -- as many versions are kept as stay
-members-after : (newest : ℕ) (seen : List (Option Seen)) (slots : List ℕ) → length (members (slots_after newest seen slots)) ≡ count_where (is_stay newest seen) slots
+members-after : (newest : ℕ) (seen : List (Option Seen)) (slots : List ℕ)
+    → length (members (slots_after newest seen slots)) ≡ count_where (is_stay newest seen) slots
 members-after newest seen [] = refl
 members-after newest seen (zero ∷ slots) = members-after newest seen slots
-members-after newest seen (suc v ∷ slots) = by_test (is_stay newest seen v) v (slots_after newest seen slots) (count_where (is_stay newest seen) slots) (members-after newest seen slots)
+members-after newest seen (suc v ∷ slots) =
+    by_test (is_stay newest seen v) v (slots_after newest seen slots)
+    (count_where (is_stay newest seen) slots) (members-after newest seen slots)
   where
-    by_test : (stays : Bool) (v : ℕ) (rest : List ℕ) (n : ℕ) → length (members rest) ≡ n → length (members (cond stays (suc v) 0 ∷ rest)) ≡ cond stays 1 0 + n
+    by_test : (stays : Bool) (v : ℕ) (rest : List ℕ) (n : ℕ) → length (members rest) ≡ n
+        → length (members (cond stays (suc v) 0 ∷ rest)) ≡ cond stays 1 0 + n
     by_test true v rest n is = omega arith
     by_test false v rest n is = omega arith
 
 -- no more versions pass one of two tests than pass each of them, added up
-count-or : (a b : ℕ → Bool) (slots : List ℕ) → count_where (λ v. a v || b v) slots ≤ count_where a slots + count_where b slots
+count-or : (a b : ℕ → Bool) (slots : List ℕ)
+    → count_where (λ v. a v || b v) slots ≤ count_where a slots + count_where b slots
 count-or a b [] = omega arith
 count-or a b (zero ∷ slots) = count-or a b slots
-count-or a b (suc v ∷ slots) = let rest = count-or a b slots in let here = by_tests (a v) (b v) in omega arith
+count-or a b (suc v ∷ slots) = let rest = count-or a b slots in let here = by_tests (a v) (b v) in
+    omega arith
   where
     by_tests : (a b : Bool) → cond (a || b) 1 0 ≤ cond a 1 0 + cond b 1 0
     by_tests true b = omega arith
     by_tests false b = omega arith
 
 -- a version that no slot has is counted not once
-count-none : (x : ℕ) (slots : List ℕ) → ((i : ℕ) → get_or slots i 0 ≡ suc x → ⊥) → count_where (λ v. x == v) slots ≡ 0
+count-none : (x : ℕ) (slots : List ℕ) → ((i : ℕ) → get_or slots i 0 ≡ suc x → ⊥)
+    → count_where (λ v. x == v) slots ≡ 0
 count-none x [] none = refl
 count-none x (zero ∷ slots) none = count-none x slots (λ i. none (suc i))
-count-none x (suc v ∷ slots) none = let rest = count-none x slots (λ i. none (suc i)) in let here = none_if x v (λ same. none 0 (omega arith)) in omega arith
+count-none x (suc v ∷ slots) none = let rest = count-none x slots (λ i. none (suc i)) in
+    let here = none_if x v (λ same. none 0 (omega arith)) in omega arith
 
 -- a version that stands in one slot at most is counted once at most
-count-one : (x : ℕ) (slots : List ℕ) → ((i j v : ℕ) → get_or slots i 0 ≡ suc v → get_or slots j 0 ≡ suc v → i ≡ j) → count_where (λ v. x == v) slots ≤ 1
+count-one : (x : ℕ) (slots : List ℕ)
+    → ((i j v : ℕ) → get_or slots i 0 ≡ suc v → get_or slots j 0 ≡ suc v → i ≡ j)
+    → count_where (λ v. x == v) slots ≤ 1
 count-one x [] apart = omega arith
-count-one x (zero ∷ slots) apart = count-one x slots (λ i j v a b. let same = apart (suc i) (suc j) v a b in omega arith)
+count-one x (zero ∷ slots) apart =
+    count-one x slots (λ i j v a b. let same = apart (suc i) (suc j) v a b in omega arith)
 count-one x (suc v ∷ slots) apart =
     elim (cases_eq x v) [
       | inl same ↦
-          let none = count-none x slots (λ i there. let at = apart 0 (suc i) x (omega arith) there in absurd (omega arith)) in
+          let none = count-none x slots (λ i there. let at =
+          apart 0 (suc i) x (omega arith) there in absurd (omega arith)) in
           let here = one_if x v same in
           omega arith
       | inr other ↦
-          let rest = count-one x slots (λ i j w a b. let same = apart (suc i) (suc j) w a b in omega arith) in
+          let rest = count-one x slots (λ i j w a b. let same = apart (suc i) (suc j) w a b in
+          omega arith) in
           let here = none_if x v other in
           omega arith
     ]
@@ -90,7 +116,8 @@ count-nothing (zero ∷ slots) = count-nothing slots
 count-nothing (suc v ∷ slots) = let rest = count-nothing slots in omega arith
 
 -- exact announcements keep one version each at most
-count-asked : (seen : List (Option Seen)) (slots : List ℕ) → AreExact seen → ((i j v : ℕ) → get_or slots i 0 ≡ suc v → get_or slots j 0 ≡ suc v → i ≡ j)
+count-asked : (seen : List (Option Seen)) (slots : List ℕ) → AreExact seen
+    → ((i j v : ℕ) → get_or slots i 0 ≡ suc v → get_or slots j 0 ≡ suc v → i ≡ j)
     → count_where (λ v. list_any (λ o. asks o v) seen) slots ≤ announcements seen
 count-asked [] slots exact apart = let none = count-nothing slots in omega arith
 count-asked (None ∷ seen) slots exact apart = count-asked seen slots exact apart
@@ -102,7 +129,8 @@ count-asked (Some (Exact w) ∷ seen) slots exact apart =
     omega arith
 
 -- where all announcements are exact, one more version is kept at most
-pub few_after : (kept : Kept) (newest : ℕ) (seen : List (Option Seen)) → IsApart kept → AreExact seen → length (members (kept_after kept newest seen).slots) ≤ 1 + announcements seen
+pub few_after : (kept : Kept) (newest : ℕ) (seen : List (Option Seen)) → IsApart kept
+    → AreExact seen → length (members (kept_after kept newest seen).slots) ≤ 1 + announcements seen
 few_after kept newest seen apart exact =
     let all = members-after newest seen kept.slots in
     let both = count-or (λ v. newest == v) (λ v. list_any (λ o. asks o v) seen) kept.slots in

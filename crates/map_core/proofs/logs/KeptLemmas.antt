@@ -1,5 +1,7 @@
 -- The versions that are kept, each in its slot.
-use Rattle.std.proofs.Common.{◌≡◌, ◌≢◌, ℕ, zero, suc, ◌+◌, ◌-◌, ◌*◌, ◌/◌, ◌%◌, ◌<◌, ◌≤◌, ◌⊎◌, ◌==◌, ◌||◌, Bool, true, false, cond, if◌then◌else◌, List, [], ◌∷◌, ◌++◌, length, map, get_or, set, refl, ap, sym, ◌∙◌, arith}
+use Rattle.std.proofs.Common.{◌≡◌, ◌≢◌, ℕ, zero, suc, ◌+◌, ◌-◌, ◌*◌, ◌/◌, ◌%◌, ◌<◌, ◌≤◌, ◌⊎◌, ◌==◌}
+use Rattle.std.proofs.Common.{◌||◌, Bool, true, false, cond, if◌then◌else◌, List, [], ◌∷◌, ◌++◌}
+use Rattle.std.proofs.Common.{length, map, get_or, set, refl, ap, sym, ◌∙◌, arith}
 use Rattle.std.specs.Prelude.{Option, Some, None}
 use Rattle.std.specs.List.{list_any}
 use Rattle.std.proofs.lemmas.Bool.{cases_eq, eq-eqb, ne_eqb, or_left}
@@ -9,7 +11,8 @@ use mathlib.Core.Logic.{inl, inr}
 use Rattle.map_core.specs.declared.kept.Kept.{Kept}
 use Rattle.map_core.specs.declared.kept.Seen.{Seen}
 use Rattle.map_core.specs.declared.kept.Seen.TheVariants.{From, Exact}
-use Rattle.map_core.specs.Kept.{members, first_free, IsIn, with_version, IsPartOfKept, asks, is_stay, slots_after, kept_after}
+use Rattle.map_core.specs.Kept.{members, first_free, IsIn, with_version, IsPartOfKept, asks}
+use Rattle.map_core.specs.Kept.{is_stay, slots_after, kept_after}
 use Rattle.map_core.specs.Words.{pin_word, seen_in}
 use Rattle.map_core.specs.Safe.{times}
 use Rattle.map_core.proofs.accounts.TimesLemmas.{one_if, none_if}
@@ -20,12 +23,15 @@ later_passes true b is = refl
 later_passes false b is = is
 
 -- a version of a slot that passes a test is one of those that are kept
-pub any_member : (test : ℕ → Bool) (slots : List ℕ) (i v : ℕ) → get_or slots i 0 ≡ suc v → test v ≡ true → list_any test (members slots) ≡ true
+pub any_member : (test : ℕ → Bool) (slots : List ℕ) (i v : ℕ) → get_or slots i 0 ≡ suc v
+    → test v ≡ true → list_any test (members slots) ≡ true
 any_member test [] i v there is = absurd (omega arith)
 any_member test (zero ∷ slots) zero v there is = absurd (omega arith)
-any_member test (suc w ∷ slots) zero v there is = let same : w ≡ v = omega arith in or_left (test w) (list_any test (members slots)) (ap test same ∙ is)
+any_member test (suc w ∷ slots) zero v there is = let same : w ≡ v = omega arith in
+    or_left (test w) (list_any test (members slots)) (ap test same ∙ is)
 any_member test (zero ∷ slots) (suc i) v there is = any_member test slots i v there is
-any_member test (suc w ∷ slots) (suc i) v there is = later_passes (test w) (list_any test (members slots)) (any_member test slots i v there is)
+any_member test (suc w ∷ slots) (suc i) v there is =
+    later_passes (test w) (list_any test (members slots)) (any_member test slots i v there is)
 
 -- a slot has a version that passes a test
 pub record IsFoundIn (test : ℕ → Bool) (slots : List ℕ) : Type 0 where
@@ -35,13 +41,27 @@ pub record IsFoundIn (test : ℕ → Bool) (slots : List ℕ) : Type 0 where
   pub passes : test version ≡ true
 
 -- one of those that are kept has a slot
-pub found_member : (test : ℕ → Bool) (slots : List ℕ) → list_any test (members slots) ≡ true → IsFoundIn test slots
+pub found_member : (test : ℕ → Bool) (slots : List ℕ) → list_any test (members slots) ≡ true
+    → IsFoundIn test slots
 found_member test [] is = absurd (cc)
-found_member test (zero ∷ slots) is = let rest = found_member test slots is in record { slot = suc rest.slot; version = rest.version; there = rest.there; passes = rest.passes }
+found_member test (zero ∷ slots) is = let rest = found_member test slots is in
+    record {
+      slot = suc rest.slot;
+      version = rest.version;
+      there = rest.there;
+      passes = rest.passes;
+    }
 found_member test (suc w ∷ slots) is =
-    elim (test w) as (λ b. test w ≡ b → (b || list_any test (members slots)) ≡ true → IsFoundIn test (suc w ∷ slots)) [
+    elim (test w) as (λ b. test w ≡ b → (b || list_any test (members slots)) ≡ true
+    → IsFoundIn test (suc w ∷ slots)) [
       | true ↦ λ passes any. record { slot = 0; version = w; there = refl; passes = passes }
-      | false ↦ λ fails any. let rest = found_member test slots any in record { slot = suc rest.slot; version = rest.version; there = rest.there; passes = rest.passes }
+      | false ↦ λ fails any. let rest = found_member test slots any in
+          record {
+            slot = suc rest.slot;
+            version = rest.version;
+            there = rest.there;
+            passes = rest.passes;
+          }
     ] refl is
 
 -- ---- the least free slot
@@ -59,31 +79,37 @@ first_free-le (zero ∷ slots) = omega arith
 first_free-le (suc v ∷ slots) = let rest = first_free-le slots in omega arith
 
 -- a version that is put into the least free slot is one more
-pub members-add : (slots : List ℕ) (v : ℕ) → first_free slots < length slots → length (members (set slots (first_free slots) (suc v))) ≡ suc (length (members slots))
+pub members-add : (slots : List ℕ) (v : ℕ) → first_free slots < length slots
+    → length (members (set slots (first_free slots) (suc v))) ≡ suc (length (members slots))
 members-add [] v h = absurd (omega arith)
 members-add (zero ∷ slots) v h = refl
 members-add (suc w ∷ slots) v h = ap suc (members-add slots v (omega arith))
 
 -- a slot that has a version isn't the least free one
 pub slot_other : (slots : List ℕ) (i v : ℕ) → get_or slots i 0 ≡ suc v → i ≢ first_free slots
-slot_other slots i v there same = let free = first_free-is slots in let here = ap (λ (j : ℕ). get_or slots j 0) same in absurd (omega arith)
+slot_other slots i v there same = let free = first_free-is slots in
+    let here = ap (λ (j : ℕ). get_or slots j 0) same in absurd (omega arith)
 
 -- a version that is kept stays kept when another one is added
 pub IsIn-add : (kept : Kept) (w v : ℕ) → IsIn kept v → IsIn (with_version kept w) v
 IsIn-add kept w v h = record {
   slot = h.slot;
-  there = get_or-set_other kept.slots (first_free kept.slots) h.slot (suc w) 0 (slot_other kept.slots h.slot v h.there) ∙ h.there;
+  there = get_or-set_other kept.slots (first_free kept.slots) h.slot (suc w) 0
+      (slot_other kept.slots h.slot v h.there) ∙ h.there;
 }
 
 -- once a version is added, what a slot has is what it had, or it is the new version
-pub added_at : (slots : List ℕ) (w i v : ℕ) → get_or (set slots (first_free slots) (suc w)) i 0 ≡ suc v → (get_or slots i 0 ≡ suc v) ⊎ ((i ≡ first_free slots) × (v ≡ w))
+pub added_at : (slots : List ℕ) (w i v : ℕ)
+    → get_or (set slots (first_free slots) (suc w)) i 0 ≡ suc v → (get_or slots i 0 ≡ suc v)
+    ⊎ ((i ≡ first_free slots) × (v ≡ w))
 added_at slots w i v there =
     elim (cases_eq i (first_free slots)) [
       | inl same ↦ inr (same, here slots w i v same there)
       | inr apart ↦ inl (sym (get_or-set_other slots (first_free slots) i (suc w) 0 apart) ∙ there)
     ]
   where
-    here : (slots : List ℕ) (w i v : ℕ) → i ≡ first_free slots → get_or (set slots (first_free slots) (suc w)) i 0 ≡ suc v → v ≡ w
+    here : (slots : List ℕ) (w i v : ℕ) → i ≡ first_free slots
+        → get_or (set slots (first_free slots) (suc w)) i 0 ≡ suc v → v ≡ w
     here [] w i v same there = absurd (omega arith)
     here (zero ∷ slots) w zero v same there = omega arith
     here (zero ∷ slots) w (suc i) v same there = absurd (omega arith)
@@ -93,7 +119,8 @@ added_at slots w i v there =
 -- ---- some of the versions
 
 -- where some of the versions are left, a slot that has a version had it before
-pub part-at : (new old : List ℕ) → IsPartOfKept new old → (i v : ℕ) → get_or new i 0 ≡ suc v → get_or old i 0 ≡ suc v
+pub part-at : (new old : List ℕ) → IsPartOfKept new old → (i v : ℕ) → get_or new i 0 ≡ suc v
+    → get_or old i 0 ≡ suc v
 part-at [] [] part i v there = absurd (omega arith)
 part-at [] (o ∷ os) part i v there = absurd part
 part-at (n ∷ ns) [] part i v there = absurd part
@@ -112,90 +139,117 @@ part-long (n ∷ ns) [] part = absurd part
 part-long (n ∷ ns) (o ∷ os) part = ap suc (part-long ns os part.1)
 
 -- where some of the versions are left, there are no more versions than before
-pub part-few : (new old : List ℕ) → IsPartOfKept new old → length (members new) ≤ length (members old)
+pub part-few : (new old : List ℕ) → IsPartOfKept new old
+    → length (members new) ≤ length (members old)
 part-few [] [] part = omega arith
 part-few [] (o ∷ os) part = absurd part
 part-few (n ∷ ns) [] part = absurd part
 part-few (zero ∷ ns) (zero ∷ os) part = part-few ns os part.1
 part-few (zero ∷ ns) (suc o ∷ os) part = let rest = part-few ns os part.1 in omega arith
-part-few (suc n ∷ ns) (zero ∷ os) part = elim part.0 [ inl none ↦ absurd (omega arith) | inr same ↦ absurd (omega arith) ]
+part-few (suc n ∷ ns) (zero ∷ os) part =
+    elim part.0 [ inl none ↦ absurd (omega arith) | inr same ↦ absurd (omega arith) ]
 part-few (suc n ∷ ns) (suc o ∷ os) part = let rest = part-few ns os part.1 in omega arith
 
 -- ---- what a collect keeps
 
 -- what a collect keeps was kept before
-pub part-after : (newest : ℕ) (seen : List (Option Seen)) (slots : List ℕ) → IsPartOfKept (slots_after newest seen slots) slots
+pub part-after : (newest : ℕ) (seen : List (Option Seen)) (slots : List ℕ)
+    → IsPartOfKept (slots_after newest seen slots) slots
 part-after newest seen [] = tt
 part-after newest seen (zero ∷ slots) = (inl refl, part-after newest seen slots)
-part-after newest seen (suc v ∷ slots) = (by_test (is_stay newest seen v) v, part-after newest seen slots)
+part-after newest seen (suc v ∷ slots) =
+    (by_test (is_stay newest seen v) v, part-after newest seen slots)
   where
     by_test : (stays : Bool) (v : ℕ) → (cond stays (suc v) 0 ≡ 0) ⊎ (cond stays (suc v) 0 ≡ suc v)
     by_test true v = inr refl
     by_test false v = inl refl
 
 -- a version that stays is in its slot after a collect
-pub after-at : (newest : ℕ) (seen : List (Option Seen)) (slots : List ℕ) (i v : ℕ) → get_or slots i 0 ≡ suc v → is_stay newest seen v ≡ true → get_or (slots_after newest seen slots) i 0 ≡ suc v
+pub after-at : (newest : ℕ) (seen : List (Option Seen)) (slots : List ℕ) (i v : ℕ)
+    → get_or slots i 0 ≡ suc v → is_stay newest seen v ≡ true
+    → get_or (slots_after newest seen slots) i 0 ≡ suc v
 after-at newest seen [] i v there stays = absurd (omega arith)
 after-at newest seen (zero ∷ slots) zero v there stays = absurd (omega arith)
 after-at newest seen (suc w ∷ slots) zero v there stays =
     let same : w ≡ v = omega arith in
     ap (λ (b : Bool). cond b (suc w) 0) (ap (is_stay newest seen) same ∙ stays) ∙ there
-after-at newest seen (zero ∷ slots) (suc i) v there stays = after-at newest seen slots i v there stays
-after-at newest seen (suc w ∷ slots) (suc i) v there stays = after-at newest seen slots i v there stays
+after-at newest seen (zero ∷ slots) (suc i) v there stays =
+    after-at newest seen slots i v there stays
+after-at newest seen (suc w ∷ slots) (suc i) v there stays =
+    after-at newest seen slots i v there stays
 
 -- a slot that has a version after a collect had it before, and that version stays
-pub after-only : (newest : ℕ) (seen : List (Option Seen)) (slots : List ℕ) (i v : ℕ) → get_or (slots_after newest seen slots) i 0 ≡ suc v → (get_or slots i 0 ≡ suc v) × (is_stay newest seen v ≡ true)
+pub after-only : (newest : ℕ) (seen : List (Option Seen)) (slots : List ℕ) (i v : ℕ)
+    → get_or (slots_after newest seen slots) i 0 ≡ suc v → (get_or slots i 0 ≡ suc v)
+    × (is_stay newest seen v ≡ true)
 after-only newest seen [] i v there = absurd (omega arith)
 after-only newest seen (zero ∷ slots) zero v there = absurd (omega arith)
 after-only newest seen (suc w ∷ slots) zero v there = by_test (is_stay newest seen w) refl there
   where
-    by_test : (b : Bool) → is_stay newest seen w ≡ b → cond b (suc w) 0 ≡ suc v → (suc w ≡ suc v) × (is_stay newest seen v ≡ true)
-    by_test true is there = let same : w ≡ v = omega arith in (there, ap (is_stay newest seen) (sym same) ∙ is)
+    by_test : (b : Bool) → is_stay newest seen w ≡ b → cond b (suc w) 0 ≡ suc v → (suc w ≡ suc v)
+        × (is_stay newest seen v ≡ true)
+    by_test true is there = let same : w ≡ v = omega arith in
+        (there, ap (is_stay newest seen) (sym same) ∙ is)
     by_test false is there = absurd (omega arith)
 after-only newest seen (zero ∷ slots) (suc i) v there = after-only newest seen slots i v there
 after-only newest seen (suc w ∷ slots) (suc i) v there = after-only newest seen slots i v there
 
 -- a kept version that stays is kept after a collect
-pub IsIn-after : (kept : Kept) (newest : ℕ) (seen : List (Option Seen)) (v : ℕ) → IsIn kept v → is_stay newest seen v ≡ true → IsIn (kept_after kept newest seen) v
-IsIn-after kept newest seen v h stays = record { slot = h.slot; there = after-at newest seen kept.slots h.slot v h.there stays }
+pub IsIn-after : (kept : Kept) (newest : ℕ) (seen : List (Option Seen)) (v : ℕ) → IsIn kept v
+    → is_stay newest seen v ≡ true → IsIn (kept_after kept newest seen) v
+IsIn-after kept newest seen v h stays =
+    record { slot = h.slot; there = after-at newest seen kept.slots h.slot v h.there stays }
 
 -- newest stays
 pub stay-newest : (newest : ℕ) (seen : List (Option Seen)) → is_stay newest seen newest ≡ true
 stay-newest newest seen = or_left (newest == newest) _ (eq-eqb newest newest refl)
 
 -- each version that an announcement asks for stays
-pub stay-asked : (newest : ℕ) (seen : List (Option Seen)) (v : ℕ) → list_any (λ o. asks o v) seen ≡ true → is_stay newest seen v ≡ true
+pub stay-asked : (newest : ℕ) (seen : List (Option Seen)) (v : ℕ)
+    → list_any (λ o. asks o v) seen ≡ true → is_stay newest seen v ≡ true
 stay-asked newest seen v asked = later_passes (newest == v) _ asked
 
 -- what stays with some words stays with one more
-pub stay-more : (newest : ℕ) (words : List ℕ) (word v : ℕ) → is_stay newest (map seen_in words) v ≡ true → is_stay newest (map seen_in (words ++ word ∷ [])) v ≡ true
+pub stay-more : (newest : ℕ) (words : List ℕ) (word v : ℕ)
+    → is_stay newest (map seen_in words) v ≡ true
+    → is_stay newest (map seen_in (words ++ word ∷ [])) v ≡ true
 stay-more newest words word v is =
-    elim (newest == v) as (λ b. (b || list_any (λ o. asks o v) (map seen_in words)) ≡ true → (b || list_any (λ o. asks o v) (map seen_in (words ++ word ∷ []))) ≡ true) [
+    elim (newest == v) as (λ b. (b || list_any (λ o. asks o v) (map seen_in words)) ≡ true
+    → (b || list_any (λ o. asks o v) (map seen_in (words ++ word ∷ []))) ≡ true) [
       | true ↦ λ stays. refl
       | false ↦ λ stays. still_asked words word v stays
     ] is
   where
-    still_asked : (words : List ℕ) (word v : ℕ) → list_any (λ o. asks o v) (map seen_in words) ≡ true → list_any (λ o. asks o v) (map seen_in (words ++ word ∷ [])) ≡ true
+    still_asked : (words : List ℕ) (word v : ℕ)
+        → list_any (λ o. asks o v) (map seen_in words) ≡ true
+        → list_any (λ o. asks o v) (map seen_in (words ++ word ∷ [])) ≡ true
     still_asked [] word v is = absurd (cc)
     still_asked (w ∷ words) word v is =
-        elim (asks (seen_in w) v) as (λ b. (b || list_any (λ o. asks o v) (map seen_in words)) ≡ true → (b || list_any (λ o. asks o v) (map seen_in (words ++ word ∷ []))) ≡ true) [
+        elim (asks (seen_in w) v) as (λ b. (b || list_any (λ o. asks o v) (map seen_in words))
+        ≡ true → (b || list_any (λ o. asks o v) (map seen_in (words ++ word ∷ []))) ≡ true) [
           | true ↦ λ stays. refl
           | false ↦ λ stays. still_asked words word v stays
         ] is
 
 -- what the last word asks for stays
-pub stay-last : (newest : ℕ) (words : List ℕ) (word v : ℕ) → asks (seen_in word) v ≡ true → is_stay newest (map seen_in (words ++ word ∷ [])) v ≡ true
-stay-last newest words word v asked = stay-asked newest (map seen_in (words ++ word ∷ [])) v (last_asked words word v asked)
+pub stay-last : (newest : ℕ) (words : List ℕ) (word v : ℕ) → asks (seen_in word) v ≡ true
+    → is_stay newest (map seen_in (words ++ word ∷ [])) v ≡ true
+stay-last newest words word v asked =
+    stay-asked newest (map seen_in (words ++ word ∷ [])) v (last_asked words word v asked)
   where
-    last_asked : (words : List ℕ) (word v : ℕ) → asks (seen_in word) v ≡ true → list_any (λ o. asks o v) (map seen_in (words ++ word ∷ [])) ≡ true
+    last_asked : (words : List ℕ) (word v : ℕ) → asks (seen_in word) v ≡ true
+        → list_any (λ o. asks o v) (map seen_in (words ++ word ∷ [])) ≡ true
     last_asked [] word v asked = or_left (asks (seen_in word) v) _ asked
-    last_asked (w ∷ words) word v asked = later_passes (asks (seen_in w) v) _ (last_asked words word v asked)
+    last_asked (w ∷ words) word v asked = later_passes (asks (seen_in w) v) _
+        (last_asked words word v asked)
 
 -- a word says what was announced by it
 pub seen_in-pin_word : (o : Option Seen) → seen_in (pin_word o) ≡ o
 unfolding seen_in pin_word
 seen_in-pin_word None = refl
-seen_in-pin_word (Some (From a)) = picked_first (2 * a + 1 == 0) ((2 * a + 1) % 2 == 1) ((2 * a + 1) / 2) ((2 * a + 1) / 2 - 1) a (not_none a) (odd a) (omega arith)
+seen_in-pin_word (Some (From a)) =
+    picked_first (2 * a + 1 == 0) ((2 * a + 1) % 2 == 1) ((2 * a + 1) / 2) ((2 * a + 1) / 2 - 1) a
+    (not_none a) (odd a) (omega arith)
   where
     not_none : (a : ℕ) → (2 * a + 1 == 0) ≡ false
     not_none a = grind (arith, nat_tests)
@@ -203,11 +257,14 @@ seen_in-pin_word (Some (From a)) = picked_first (2 * a + 1 == 0) ((2 * a + 1) % 
     odd : (a : ℕ) → ((2 * a + 1) % 2 == 1) ≡ true
     odd a = let rest : (2 * a + 1) % 2 ≡ 1 = omega arith in eq-eqb _ _ rest
 
-    picked_first : (none first : Bool) (f h a : ℕ) → none ≡ false → first ≡ true → f ≡ a → (if none then None else (if first then Some (From f) else Some (Exact h))) ≡ Some (From a)
+    picked_first : (none first : Bool) (f h a : ℕ) → none ≡ false → first ≡ true → f ≡ a
+        → (if none then None else (if first then Some (From f) else Some (Exact h))) ≡ Some (From a)
     picked_first true first f h a is_none is_first is = absurd (cc)
     picked_first false true f h a is_none is_first is = ap (λ (n : ℕ). Some (From n)) is
     picked_first false false f h a is_none is_first is = absurd (cc)
-seen_in-pin_word (Some (Exact v)) = picked_held (2 * v + 2 == 0) ((2 * v + 2) % 2 == 1) ((2 * v + 2) / 2) ((2 * v + 2) / 2 - 1) v (not_none v) (even v) (omega arith)
+seen_in-pin_word (Some (Exact v)) =
+    picked_held (2 * v + 2 == 0) ((2 * v + 2) % 2 == 1) ((2 * v + 2) / 2) ((2 * v + 2) / 2 - 1) v
+    (not_none v) (even v) (omega arith)
   where
     not_none : (a : ℕ) → (2 * a + 2 == 0) ≡ false
     not_none a = grind (arith, nat_tests)
@@ -218,7 +275,9 @@ seen_in-pin_word (Some (Exact v)) = picked_held (2 * v + 2 == 0) ((2 * v + 2) % 
     even : (a : ℕ) → ((2 * a + 2) % 2 == 1) ≡ false
     even a = let rest : (2 * a + 2) % 2 ≡ 0 = omega arith in other_number _ rest
 
-    picked_held : (none first : Bool) (f h v : ℕ) → none ≡ false → first ≡ false → h ≡ v → (if none then None else (if first then Some (From f) else Some (Exact h))) ≡ Some (Exact v)
+    picked_held : (none first : Bool) (f h v : ℕ) → none ≡ false → first ≡ false → h ≡ v
+        → (if none then None else (if first then Some (From f) else Some (Exact h)))
+        ≡ Some (Exact v)
     picked_held true first f h v is_none is_first is = absurd (cc)
     picked_held false true f h v is_none is_first is = absurd (cc)
     picked_held false false f h v is_none is_first is = ap (λ (n : ℕ). Some (Exact n)) is
@@ -226,12 +285,15 @@ seen_in-pin_word (Some (Exact v)) = picked_held (2 * v + 2 == 0) ((2 * v + 2) % 
 -- ---- members that a function is applied to
 
 -- a version of a slot is among the kept ones that a function is applied to
-pub times-member : (f : ℕ → ℕ) (slots : List ℕ) (i v n : ℕ) → get_or slots i 0 ≡ suc v → f v ≡ n → 1 ≤ times n (map f (members slots))
+pub times-member : (f : ℕ → ℕ) (slots : List ℕ) (i v n : ℕ) → get_or slots i 0 ≡ suc v → f v ≡ n
+    → 1 ≤ times n (map f (members slots))
 times-member f [] i v n there is = absurd (omega arith)
 times-member f (zero ∷ slots) zero v n there is = absurd (omega arith)
-times-member f (suc w ∷ slots) zero v n there is = let same : w ≡ v = omega arith in let here : f w ≡ n = ap f same ∙ is in let one = one_if n (f w) (sym here) in omega arith
+times-member f (suc w ∷ slots) zero v n there is = let same : w ≡ v = omega arith in
+    let here : f w ≡ n = ap f same ∙ is in let one = one_if n (f w) (sym here) in omega arith
 times-member f (zero ∷ slots) (suc i) v n there is = times-member f slots i v n there is
-times-member f (suc w ∷ slots) (suc i) v n there is = let rest = times-member f slots i v n there is in omega arith
+times-member f (suc w ∷ slots) (suc i) v n there is =
+    let rest = times-member f slots i v n there is in omega arith
 
 -- a slot has a version of which the function is this
 pub record IsImage (f : ℕ → ℕ) (slots : List ℕ) (n : ℕ) : Type 0 where
@@ -241,9 +303,11 @@ pub record IsImage (f : ℕ → ℕ) (slots : List ℕ) (n : ℕ) : Type 0 where
   pub is : f version ≡ n
 
 -- what is among the kept versions that a function is applied to comes from a slot
-pub member-times : (f : ℕ → ℕ) (slots : List ℕ) (n : ℕ) → 1 ≤ times n (map f (members slots)) → IsImage f slots n
+pub member-times : (f : ℕ → ℕ) (slots : List ℕ) (n : ℕ) → 1 ≤ times n (map f (members slots))
+    → IsImage f slots n
 member-times f [] n some = absurd (omega arith)
-member-times f (zero ∷ slots) n some = let rest = member-times f slots n some in record { slot = suc rest.slot; version = rest.version; there = rest.there; is = rest.is }
+member-times f (zero ∷ slots) n some = let rest = member-times f slots n some in
+    record { slot = suc rest.slot; version = rest.version; there = rest.there; is = rest.is }
 member-times f (suc w ∷ slots) n some =
     elim (cases_eq (f w) n) [
       | inl same ↦ record { slot = 0; version = w; there = refl; is = same }
@@ -256,18 +320,23 @@ member-times f (suc w ∷ slots) n some =
 -- ---- slot by slot
 
 -- the first slot without a version is the least free one
-pub first_free-found : (slots : List ℕ) (i : ℕ) → ((j : ℕ) → j < i → 0 < get_or slots j 0) → i < length slots → get_or slots i 0 ≡ 0 → i ≡ first_free slots
+pub first_free-found : (slots : List ℕ) (i : ℕ) → ((j : ℕ) → j < i → 0 < get_or slots j 0)
+    → i < length slots → get_or slots i 0 ≡ 0 → i ≡ first_free slots
 first_free-found [] i full h none = absurd (omega arith)
 first_free-found (zero ∷ slots) zero full h none = refl
-first_free-found (zero ∷ slots) (suc i) full h none = absurd (let first = full 0 (omega arith) in omega arith)
+first_free-found (zero ∷ slots) (suc i) full h none =
+    absurd (let first = full 0 (omega arith) in omega arith)
 first_free-found (suc v ∷ slots) zero full h none = absurd (omega arith)
-first_free-found (suc v ∷ slots) (suc i) full h none = ap suc (first_free-found slots i (λ j below. full (suc j) (omega arith)) (omega arith) none)
+first_free-found (suc v ∷ slots) (suc i) full h none =
+    ap suc (first_free-found slots i (λ j below. full (suc j) (omega arith)) (omega arith) none)
 
 -- where all slots have a version there is no free one
-pub first_free-none : (slots : List ℕ) → ((j : ℕ) → j < length slots → 0 < get_or slots j 0) → length slots ≡ first_free slots
+pub first_free-none : (slots : List ℕ) → ((j : ℕ) → j < length slots → 0 < get_or slots j 0)
+    → length slots ≡ first_free slots
 first_free-none [] full = refl
 first_free-none (zero ∷ slots) full = absurd (let first = full 0 (omega arith) in omega arith)
-first_free-none (suc v ∷ slots) full = ap suc (first_free-none slots (λ j below. full (suc j) (omega arith)))
+first_free-none (suc v ∷ slots) full =
+    ap suc (first_free-none slots (λ j below. full (suc j) (omega arith)))
 
 -- the first numbers of a list are changed
 abbrev pub changed : (ℕ → ℕ) → ℕ → List ℕ → List ℕ
@@ -276,13 +345,15 @@ changed f (suc i) [] = []
 changed f (suc i) (x ∷ xs) = f x ∷ changed f i xs
 
 -- the number after the changed ones is as it was
-pub get_or-changed : (f : ℕ → ℕ) (i : ℕ) (xs : List ℕ) (d : ℕ) → get_or (changed f i xs) i d ≡ get_or xs i d
+pub get_or-changed : (f : ℕ → ℕ) (i : ℕ) (xs : List ℕ) (d : ℕ)
+    → get_or (changed f i xs) i d ≡ get_or xs i d
 get_or-changed f zero xs d = refl
 get_or-changed f (suc i) [] d = refl
 get_or-changed f (suc i) (x ∷ xs) d = get_or-changed f i xs d
 
 -- changing the number after the changed ones changes one more of the first numbers
-pub set-changed : (f : ℕ → ℕ) (i : ℕ) (xs : List ℕ) → i < length xs → set (changed f i xs) i (f (get_or xs i 0)) ≡ changed f (suc i) xs
+pub set-changed : (f : ℕ → ℕ) (i : ℕ) (xs : List ℕ) → i < length xs
+    → set (changed f i xs) i (f (get_or xs i 0)) ≡ changed f (suc i) xs
 set-changed f i [] h = absurd (omega arith)
 set-changed f zero (x ∷ xs) h = refl
 set-changed f (suc i) (x ∷ xs) h = ap (λ (ys : List ℕ). f x ∷ ys) (set-changed f i xs (omega arith))
@@ -302,9 +373,12 @@ seen_none word is = let test : (word == 0) ≡ true = eq-eqb word 0 is in rw tes
 -- an odd word tells that a version and those after it are announced
 pub seen_first : (word : ℕ) → (word ≡ 0 → ⊥) → word % 2 ≡ 1 → seen_in word ≡ Some (From (word / 2))
 unfolding seen_in
-seen_first word some is = let test : (word == 0) ≡ false = ne_eqb word 0 some in let odd : (word % 2 == 1) ≡ true = eq-eqb (word % 2) 1 is in rw (test, odd) refl
+seen_first word some is = let test : (word == 0) ≡ false = ne_eqb word 0 some in
+    let odd : (word % 2 == 1) ≡ true = eq-eqb (word % 2) 1 is in rw (test, odd) refl
 
 -- an even word that isn't 0 tells that one version alone is announced
-pub seen_exact : (word : ℕ) → (word ≡ 0 → ⊥) → (word % 2 ≡ 1 → ⊥) → seen_in word ≡ Some (Exact (word / 2 - 1))
+pub seen_exact : (word : ℕ) → (word ≡ 0 → ⊥) → (word % 2 ≡ 1 → ⊥)
+    → seen_in word ≡ Some (Exact (word / 2 - 1))
 unfolding seen_in
-seen_exact word some is = let test : (word == 0) ≡ false = ne_eqb word 0 some in let even : (word % 2 == 1) ≡ false = ne_eqb (word % 2) 1 is in rw (test, even) refl
+seen_exact word some is = let test : (word == 0) ≡ false = ne_eqb word 0 some in
+    let even : (word % 2 == 1) ≡ false = ne_eqb (word % 2) 1 is in rw (test, even) refl

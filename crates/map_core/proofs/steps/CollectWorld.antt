@@ -24,23 +24,34 @@ use Rattle.map_core.proofs.steps.StepLemmas.{tidy_of}
 use Rattle.map_core.proofs.accounts.TimesLemmas.{length-filter}
 
 -- what the ledger keeps after a scan is what the story keeps after it
-pub kept_collect : (k : Base) (s : Story) (l : Ledger) (scanned : List ℕ) (kept_now : Kept) → IsLedger k s l → kept_now ≡ record { slots = slots_after l.newest (map seen_in scanned) l.kept.slots } → kept_now ≡ kept_scanned s scanned
+pub kept_collect : (k : Base) (s : Story) (l : Ledger) (scanned : List ℕ) (kept_now : Kept)
+    → IsLedger k s l
+    → kept_now ≡ record { slots = slots_after l.newest (map seen_in scanned) l.kept.slots }
+    → kept_now ≡ kept_scanned s scanned
 unfolding kept_scanned
 kept_collect k s l scanned kept_now is by =
-    by ∙ (ap (λ (n : ℕ). kept_after l.kept n (map seen_in scanned)) is.newest_is ∙ ap (λ (old : Kept). kept_after old (newest s) (map seen_in scanned)) is.kept_is)
+    by ∙ (ap (λ (n : ℕ). kept_after l.kept n (map seen_in scanned)) is.newest_is
+    ∙ ap (λ (old : Kept). kept_after old (newest s) (map seen_in scanned)) is.kept_is)
 
 -- the reply of a collect by the ledger is its reply by the story
-pub reply_collect : (k : Base) (s : Story) (l : Ledger) (scanned : List ℕ) (freed : ℕ) (kept_now : Kept) (reply : Reply) → IsLedger k s l → reply ≡ Collected (l.places + 1) (least_kept l.newest kept_now) freed kept_now → kept_now ≡ kept_scanned s scanned
+pub reply_collect : (k : Base) (s : Story) (l : Ledger) (scanned : List ℕ) (freed : ℕ)
+    (kept_now : Kept) (reply : Reply) → IsLedger k s l
+    → reply ≡ Collected (l.places + 1) (least_kept l.newest kept_now) freed kept_now
+    → kept_now ≡ kept_scanned s scanned
     → freed ≡ inuse s - inuse (with_kept s kept_now) → reply ≡ reply_of s Collect scanned
 unfolding reply_of
 reply_collect k s l scanned freed kept_now reply is said kept_is count =
-    said ∙ (ap (λ (n : ℕ). Collected (n + 1) (least_kept l.newest kept_now) freed kept_now) is.places_is
+    said
+    ∙ (ap (λ (n : ℕ). Collected (n + 1) (least_kept l.newest kept_now) freed kept_now)
+    is.places_is
     ∙ (ap (λ (n : ℕ). Collected (s.places + 1) (least_kept n kept_now) freed kept_now) is.newest_is
     ∙ (ap (λ (n : ℕ). Collected (s.places + 1) (least_kept (newest s) kept_now) n kept_now) count
-    ∙ ap (λ (q : Kept). Collected (s.places + 1) (least_kept (newest s) q) (inuse s - inuse (with_kept s q)) q) kept_is)))
+    ∙ ap (λ (q : Kept). Collected (s.places + 1) (least_kept (newest s) q)
+    (inuse s - inuse (with_kept s q)) q) kept_is)))
 
 -- the retired blocks find room in the free list, and are few
-pub room_retired : (w : State) (hand : Option Command) (steps : ℕ) (standings : List Standing) (u : Summary) (room : Room) → IsConsistent w hand steps standings u room
+pub room_retired : (w : State) (hand : Option Command) (steps : ℕ) (standings : List Standing)
+    (u : Summary) (room : Room) → IsConsistent w hand steps standings u room
     → (length u.free + length u.retired ≤ room.free) × (length u.retired ≤ 16384)
 room_retired w hand steps standings u room consistent =
     let sum = (tidy_of w consistent.whole).shape.blocks in
@@ -51,13 +62,17 @@ room_retired w hand steps standings u room consistent =
     (omega arith, omega arith)
 
 -- what a scan keeps is a choice
-pub choice_collect : (w : State) (hand : Option Command) (steps : ℕ) (standings : List Standing) (u : Summary) (room : Room) → IsConsistent w hand steps standings u room → (scanned : List ℕ) (kept_now : Kept)
+pub choice_collect : (w : State) (hand : Option Command) (steps : ℕ) (standings : List Standing)
+    (u : Summary) (room : Room) → IsConsistent w hand steps standings u room
+    → (scanned : List ℕ) (kept_now : Kept)
     → kept_now ≡ kept_scanned (story_of w) scanned → IsChoice (story_of w) kept_now
 choice_collect w hand steps standings u room consistent scanned kept_now is =
-    subst (λ (q : Kept). IsChoice (story_of w) q) (sym is) (scanned_choice w.base (story_of w) (blocks_of_state w) (tidy_of w consistent.whole) scanned)
+    subst (λ (q : Kept). IsChoice (story_of w) q) (sym is)
+    (scanned_choice w.base (story_of w) (blocks_of_state w) (tidy_of w consistent.whole) scanned)
 
 -- no more blocks stay than there were
-pub stay_few : (kept_now : Kept) (before after : List RetiredBlock) → after ≡ filter (is_used (members kept_now.slots)) before → length after ≤ length before
+pub stay_few : (kept_now : Kept) (before after : List RetiredBlock)
+    → after ≡ filter (is_used (members kept_now.slots)) before → length after ≤ length before
 stay_few kept_now before after is =
     let parts = length-filter (is_used (members kept_now.slots)) before in
     let same = ap length is in

@@ -1,14 +1,17 @@
 -- Whatever an event does keeps what holds of a world, and stores in no live block.
-use Rattle.std.proofs.Common.{◌≡◌, ℕ, ◌<◌, ◌≤◌, ◌&&◌, Bool, true, false, if◌then◌else◌, refl, subst, arith}
+use Rattle.std.proofs.Common.{◌≡◌, ℕ, ◌<◌, ◌≤◌, ◌&&◌, Bool, true, false, if◌then◌else◌, refl, subst}
+use Rattle.std.proofs.Common.{arith}
 use Rattle.std.specs.Prelude.{Option, Some, None, slice_get, nat_lt, is_some}
 use Rattle.std.proofs.lemmas.Bool.{cases_lt}
 use Rattle.std.proofs.lemmas.Bool.Decides.{nat_tests}
 use mathlib.Core.Logic.{inl, inr}
 use Rattle.metric.specs.declared.refusal.Refusal.{Refusal}
 use Rattle.map_core.specs.declared.command.Command.{Command}
-use Rattle.map_core.specs.declared.command.Command.TheVariants.{Paint, Stamp, Publish, Revert, Collect, Checkpoint}
+use Rattle.map_core.specs.declared.command.Command.TheVariants.{Paint, Stamp, Publish, Revert}
+use Rattle.map_core.specs.declared.command.Command.TheVariants.{Collect, Checkpoint}
 use Rattle.map_core.specs.declared.event.Event.{Event}
-use Rattle.map_core.specs.declared.event.Event.TheVariants.{Announce, Load, LookMap, LookTile, Leave, Confirm, Order, Keep}
+use Rattle.map_core.specs.declared.event.Event.TheVariants.{Announce, Load, LookMap, LookTile}
+use Rattle.map_core.specs.declared.event.Event.TheVariants.{Leave, Confirm, Order, Keep}
 use Rattle.map_core.specs.declared.event.StepReply.{StepReply}
 use Rattle.map_core.specs.declared.kept.Seen.{Seen}
 use Rattle.map_core.specs.declared.kept.Seen.TheVariants.{From, Exact}
@@ -16,17 +19,24 @@ use Rattle.map_core.specs.Legal.{refused}
 use Rattle.map_core.specs.Blocks.{is_mapped}
 use Rattle.map_core.specs.Words.{tiles}
 use Rattle.map_core.specs.Views.{Hand, Reader, State, story_of, blocks_of_state}
-use Rattle.map_core.specs.Steps.{Outcome, announce, load, look_map, look_tile, leave, to_confirm, confirm_held, confirm, hold_of, order, ordered, keep, steps_before, step_before, commit, does}
+use Rattle.map_core.specs.Steps.{Outcome, announce, load, look_map, look_tile, leave, to_confirm}
+use Rattle.map_core.specs.Steps.{confirm_held, confirm, hold_of, order, ordered, keep, steps_before}
+use Rattle.map_core.specs.Steps.{step_before, commit, does}
 use Rattle.map_core.specs.Sound.{InHand, IsWhole}
-use Rattle.map_core.proofs.steps.StepLemmas.{Keeps, nothing_stored, pin_stored, number_inside, in_hand, keeps-announce, keeps-confirm, keeps-leave, keeps-load, keeps-order, keeps-write, keeps-scan, keeps-commit}
+use Rattle.map_core.proofs.steps.StepLemmas.{Keeps, nothing_stored, pin_stored, number_inside}
+use Rattle.map_core.proofs.steps.StepLemmas.{in_hand, keeps-announce, keeps-confirm, keeps-leave}
+use Rattle.map_core.proofs.steps.StepLemmas.{keeps-load, keeps-order, keeps-write, keeps-scan}
+use Rattle.map_core.proofs.steps.StepLemmas.{keeps-commit}
 
 -- what is done unless a test passes is done because the test fails
-pub unless_true : (test : Bool) (a o : Outcome) → (if test then None else Some a) ≡ Some o → (test ≡ false) × (a ≡ o)
+pub unless_true : (test : Bool) (a o : Outcome) → (if test then None else Some a) ≡ Some o
+    → (test ≡ false) × (a ≡ o)
 unless_true true a o is = absurd (cc)
 unless_true false a o is = (refl, cc)
 
 -- what is done where a test passes is done because it passes
-pub where_true : (test : Bool) (a o : Outcome) → (if test then Some a else None) ≡ Some o → (test ≡ true) × (a ≡ o)
+pub where_true : (test : Bool) (a o : Outcome) → (if test then Some a else None) ≡ Some o
+    → (test ≡ true) × (a ≡ o)
 where_true true a o is = (refl, cc)
 where_true false a o is = absurd (cc)
 
@@ -36,16 +46,21 @@ none_there None is = refl
 none_there (Some a) is = absurd (cc)
 
 -- an announcement, where it is enabled, keeps what holds of a world
-does-announce : (w : State) (r : ℕ) (found : Option Reader) (o : Outcome) → IsWhole w → slice_get w.readers r ≡ found → announce w r found ≡ Some o → Keeps w o
+does-announce : (w : State) (r : ℕ) (found : Option Reader) (o : Outcome) → IsWhole w
+    → slice_get w.readers r ≡ found → announce w r found ≡ Some o → Keeps w o
 unfolding announce
 does-announce w r None o whole there is = absurd (cc)
 does-announce w r (Some x) o whole there is =
     let parts = unless_true (is_some x.announced) _ o is in
     subst (λ (a : Outcome). Keeps w a) parts.1
-    record { whole = keeps-announce w r x whole there (none_there x.announced parts.0); spares = pin_stored w r (number_inside w r x whole there) }
+    record {
+      whole = keeps-announce w r x whole there (none_there x.announced parts.0);
+      spares = pin_stored w r (number_inside w r x whole there);
+    }
 
 -- a load, where it is enabled, keeps what holds of a world
-does-load : (w : State) (r : ℕ) (found : Option Reader) (o : Outcome) → IsWhole w → slice_get w.readers r ≡ found → load w r found ≡ Some o → Keeps w o
+does-load : (w : State) (r : ℕ) (found : Option Reader) (o : Outcome) → IsWhole w
+    → slice_get w.readers r ≡ found → load w r found ≡ Some o → Keeps w o
 unfolding load
 does-load w r None o whole there is = absurd (cc)
 does-load w r (Some x) o whole there is =
@@ -56,39 +71,54 @@ does-load w r (Some x) o whole there is =
     same_outcome a o is = cc
 
 -- a leave, where it is enabled, keeps what holds of a world
-does-leave : (w : State) (r : ℕ) (found : Option Reader) (o : Outcome) → IsWhole w → slice_get w.readers r ≡ found → leave w r found ≡ Some o → Keeps w o
+does-leave : (w : State) (r : ℕ) (found : Option Reader) (o : Outcome) → IsWhole w
+    → slice_get w.readers r ≡ found → leave w r found ≡ Some o → Keeps w o
 unfolding leave
 does-leave w r None o whole there is = absurd (cc)
 does-leave w r (Some x) o whole there is =
     let parts = where_true (is_some x.announced) _ o is in
     subst (λ (a : Outcome). Keeps w a) parts.1
-    record { whole = keeps-leave w r x whole there; spares = pin_stored w r (number_inside w r x whole there) }
+    record {
+      whole = keeps-leave w r x whole there;
+      spares = pin_stored w r (number_inside w r x whole there);
+    }
 
 -- an exact announcement, where it is enabled, keeps what holds of a world
-does-confirm : (w : State) (r : ℕ) (found : Option Reader) (o : Outcome) → IsWhole w → slice_get w.readers r ≡ found → confirm w r found ≡ Some o → Keeps w o
+does-confirm : (w : State) (r : ℕ) (found : Option Reader) (o : Outcome) → IsWhole w
+    → slice_get w.readers r ≡ found → confirm w r found ≡ Some o → Keeps w o
 unfolding confirm
 does-confirm w r None o whole there is = absurd (cc)
-does-confirm w r (Some x) o whole there is = by_hold w r x (to_confirm x.announced x.holds) o whole there refl is
+does-confirm w r (Some x) o whole there is =
+    by_hold w r x (to_confirm x.announced x.holds) o whole there refl is
   where
     same_outcome : (a o : Outcome) → ◌≡◌ {A = Option Outcome} (Some a) (Some o) → a ≡ o
     same_outcome a o is = cc
 
-    held : (announced : Option Seen) (holds : Option ℕ) (v : ℕ) → to_confirm announced holds ≡ Some v → holds ≡ Some v
+    held : (announced : Option Seen) (holds : Option ℕ) (v : ℕ)
+        → to_confirm announced holds ≡ Some v → holds ≡ Some v
     held None holds v is = absurd (cc)
     held (Some (From a)) holds v is = is
     held (Some (Exact w)) holds v is = absurd (cc)
 
-    by_hold : (w : State) (r : ℕ) (x : Reader) (to : Option ℕ) (o : Outcome) → IsWhole w → slice_get w.readers r ≡ Some x → to_confirm x.announced x.holds ≡ to → confirm_held w r x to ≡ Some o → Keeps w o
+    by_hold : (w : State) (r : ℕ) (x : Reader) (to : Option ℕ) (o : Outcome) → IsWhole w
+        → slice_get w.readers r ≡ Some x → to_confirm x.announced x.holds ≡ to
+        → confirm_held w r x to ≡ Some o → Keeps w o
     by_hold w r x None o whole there found is = absurd (cc)
     by_hold w r x (Some v) o whole there found is =
-        subst (λ (a : Outcome). Keeps w a) (same_outcome _ o is) record { whole = keeps-confirm w r x v whole there (held x.announced x.holds v found); spares = pin_stored w r (number_inside w r x whole there) }
+        subst (λ (a : Outcome). Keeps w a) (same_outcome _ o is)
+        record {
+          whole = keeps-confirm w r x v whole there (held x.announced x.holds v found);
+          spares = pin_stored w r (number_inside w r x whole there);
+        }
 
 -- an answer that changes nothing keeps what holds of a world
-keeps-same : (w : State) (answer : StepReply) → IsWhole w → Keeps w record { state = w; answer = answer; stored = None }
+keeps-same : (w : State) (answer : StepReply) → IsWhole w
+    → Keeps w record { state = w; answer = answer; stored = None }
 keeps-same w answer whole = record { whole = whole; spares = nothing_stored w }
 
 -- a look at a position, where it is enabled, keeps what holds of a world
-does-look_map : (w : State) (p : ℕ) (held : Option ℕ) (o : Outcome) → IsWhole w → look_map w p held ≡ Some o → Keeps w o
+does-look_map : (w : State) (p : ℕ) (held : Option ℕ) (o : Outcome) → IsWhole w
+    → look_map w p held ≡ Some o → Keeps w o
 unfolding look_map
 does-look_map w p None o whole is = absurd (cc)
 does-look_map w p (Some v) o whole is =
@@ -96,7 +126,8 @@ does-look_map w p (Some v) o whole is =
     subst (λ (a : Outcome). Keeps w a) parts.1 (keeps-same w _ whole)
 
 -- a look at a row of a block, where it is enabled, keeps what holds of a world
-does-look_tile : (w : State) (b i : ℕ) (held : Option ℕ) (o : Outcome) → IsWhole w → look_tile w b i held ≡ Some o → Keeps w o
+does-look_tile : (w : State) (b i : ℕ) (held : Option ℕ) (o : Outcome) → IsWhole w
+    → look_tile w b i held ≡ Some o → Keeps w o
 unfolding look_tile
 does-look_tile w b i None o whole is = absurd (cc)
 does-look_tile w b i (Some v) o whole is =
@@ -104,22 +135,27 @@ does-look_tile w b i (Some v) o whole is =
     subst (λ (a : Outcome). Keeps w a) parts.1 (keeps-same w _ whole)
 
 -- an order that is answered, refused or not, keeps what holds of a world
-keeps-ordered : (w : State) (c : Command) (refusal : Option Refusal) → IsWhole w → refused w.base.setting (story_of w) c ≡ refusal → Keeps w (ordered w c refusal)
-keeps-ordered w c None whole is = record { whole = keeps-order w c whole is; spares = nothing_stored w }
+keeps-ordered : (w : State) (c : Command) (refusal : Option Refusal) → IsWhole w
+    → refused w.base.setting (story_of w) c ≡ refusal → Keeps w (ordered w c refusal)
+keeps-ordered w c None whole is =
+    record { whole = keeps-order w c whole is; spares = nothing_stored w }
 keeps-ordered w c (Some refusal) whole is = keeps-same w _ whole
 
 -- an order, where it is enabled, keeps what holds of a world
-does-order : (w : State) (c : Command) (hand : Option Hand) (o : Outcome) → IsWhole w → order w c hand ≡ Some o → Keeps w o
+does-order : (w : State) (c : Command) (hand : Option Hand) (o : Outcome) → IsWhole w
+    → order w c hand ≡ Some o → Keeps w o
 unfolding order
 does-order w c (Some h) o whole is = absurd (cc)
 does-order w c None o whole is =
-    subst (λ (a : Outcome). Keeps w a) (same_outcome _ o is) (keeps-ordered w c (refused w.base.setting (story_of w) c) whole refl)
+    subst (λ (a : Outcome). Keeps w a) (same_outcome _ o is)
+    (keeps-ordered w c (refused w.base.setting (story_of w) c) whole refl)
   where
     same_outcome : (a o : Outcome) → ◌≡◌ {A = Option Outcome} (Some a) (Some o) → a ≡ o
     same_outcome a o is = cc
 
 -- a step of the current command that isn't its last keeps what holds of a world
-keeps-step : (w : State) (h : Hand) (c : Command) → IsWhole (in_hand w (Some h)) → h.command ≡ c → h.done < steps_before w.base (blocks_of_state w) c
+keeps-step : (w : State) (h : Hand) (c : Command) → IsWhole (in_hand w (Some h)) → h.command ≡ c
+    → h.done < steps_before w.base (blocks_of_state w) c
     → Keeps (in_hand w (Some h)) (step_before w h c)
 unfolding steps_before
 keeps-step w h (Paint r black) whole is more = absurd (omega arith)
@@ -131,14 +167,21 @@ keeps-step w h Checkpoint whole is more = absurd (omega arith)
 
 -- the next step of the current command keeps what holds of a world
 keeps-next : (w : State) (h : Hand) (o : Outcome) → IsWhole (in_hand w (Some h))
-    → (if nat_lt h.done (steps_before w.base (blocks_of_state w) h.command) then Some (step_before w h h.command) else Some (commit w h)) ≡ Some o → Keeps (in_hand w (Some h)) o
+    → (if nat_lt h.done (steps_before w.base (blocks_of_state w) h.command)
+    then Some (step_before w h h.command) else Some (commit w h)) ≡ Some o
+    → Keeps (in_hand w (Some h)) o
 keeps-next w h o whole is =
     elim (cases_lt h.done (steps_before w.base (blocks_of_state w) h.command)) [
-      | inl more ↦ subst (λ (a : Outcome). Keeps (in_hand w (Some h)) a) (taken (nat_lt h.done (steps_before w.base (blocks_of_state w) h.command)) _ _ o (below _ _ more) is) (keeps-step w h h.command whole refl more)
+      | inl more ↦ subst (λ (a : Outcome). Keeps (in_hand w (Some h)) a)
+          (taken (nat_lt h.done (steps_before w.base (blocks_of_state w) h.command)) _ _ o
+          (below _ _ more) is) (keeps-step w h h.command whole refl more)
       | inr last ↦
-          let inhand : InHand w.base (story_of w) (blocks_of_state w) w.words h = whole.keeper.hand in
+          let inhand : InHand w.base (story_of w) (blocks_of_state w) w.words h =
+          whole.keeper.hand in
           let within = inhand.within in
-          subst (λ (a : Outcome). Keeps (in_hand w (Some h)) a) (left (nat_lt h.done (steps_before w.base (blocks_of_state w) h.command)) _ _ o (not_below _ _ last) is) (keeps-commit w h whole (omega arith))
+          subst (λ (a : Outcome). Keeps (in_hand w (Some h)) a)
+          (left (nat_lt h.done (steps_before w.base (blocks_of_state w) h.command)) _ _ o
+          (not_below _ _ last) is) (keeps-commit w h whole (omega arith))
     ]
   where
     below : (a b : ℕ) → a < b → nat_lt a b ≡ true
@@ -147,16 +190,19 @@ keeps-next w h o whole is =
     not_below : (a b : ℕ) → b ≤ a → nat_lt a b ≡ false
     not_below a b h = grind (arith, nat_tests)
 
-    taken : (test : Bool) (a b o : Outcome) → test ≡ true → (if test then Some a else Some b) ≡ Some o → a ≡ o
+    taken : (test : Bool) (a b o : Outcome) → test ≡ true
+        → (if test then Some a else Some b) ≡ Some o → a ≡ o
     taken true a b o is h = cc
     taken false a b o is h = absurd (cc)
 
-    left : (test : Bool) (a b o : Outcome) → test ≡ false → (if test then Some a else Some b) ≡ Some o → b ≡ o
+    left : (test : Bool) (a b o : Outcome) → test ≡ false
+        → (if test then Some a else Some b) ≡ Some o → b ≡ o
     left true a b o is h = absurd (cc)
     left false a b o is h = cc
 
 -- a step of the keeper, where it is enabled, keeps what holds of a world
-does-keep : (w : State) (hand : Option Hand) (o : Outcome) → IsWhole (in_hand w hand) → keep w hand ≡ Some o → Keeps (in_hand w hand) o
+does-keep : (w : State) (hand : Option Hand) (o : Outcome) → IsWhole (in_hand w hand)
+    → keep w hand ≡ Some o → Keeps (in_hand w hand) o
 unfolding keep
 does-keep w None o whole is = absurd (cc)
 does-keep w (Some h) o whole is = keeps-next w h o whole is
@@ -166,8 +212,10 @@ pub does-keeps : (w : State) (e : Event) (o : Outcome) → IsWhole w → does w 
 unfolding does
 does-keeps w (Announce r) o whole is = does-announce w r (slice_get w.readers r) o whole refl is
 does-keeps w (Load r) o whole is = does-load w r (slice_get w.readers r) o whole refl is
-does-keeps w (LookMap r p) o whole is = does-look_map w p (hold_of (slice_get w.readers r)) o whole is
-does-keeps w (LookTile r b i) o whole is = does-look_tile w b i (hold_of (slice_get w.readers r)) o whole is
+does-keeps w (LookMap r p) o whole is =
+    does-look_map w p (hold_of (slice_get w.readers r)) o whole is
+does-keeps w (LookTile r b i) o whole is =
+    does-look_tile w b i (hold_of (slice_get w.readers r)) o whole is
 does-keeps w (Leave r) o whole is = does-leave w r (slice_get w.readers r) o whole refl is
 does-keeps w (Confirm r) o whole is = does-confirm w r (slice_get w.readers r) o whole refl is
 does-keeps w (Order c) o whole is = does-order w c w.keeper.hand o whole is

@@ -1,5 +1,6 @@
 -- A world that is opened, by its parts.
-use Rattle.std.proofs.Common.{◌≡◌, ℕ, zero, suc, ◌+◌, ◌*◌, ◌-◌, ◌<◌, ◌≤◌, List, [], ◌∷◌, length, map, get_or, replicate, refl, ap, subst, sym, ◌∙◌, lit<, arith}
+use Rattle.std.proofs.Common.{◌≡◌, ℕ, zero, suc, ◌+◌, ◌*◌, ◌-◌, ◌<◌, ◌≤◌, List, [], ◌∷◌, length}
+use Rattle.std.proofs.Common.{map, get_or, replicate, refl, ap, subst, sym, ◌∙◌, lit<, arith}
 use Rattle.std.specs.Prelude.{Option, Some, None, false, slice_get}
 use Rattle.std.specs.List.{range_with_len}
 use Rattle.std.proofs.lemmas.Bool.Decides.{nat_tests}
@@ -49,36 +50,51 @@ bad_field-none tiles g fits = record {
 }
 
 -- a world can be opened with a setting that fits the bitmap
-pub fits_ready : (g : Setting) (b : Cells) → IsBitmap b → bad_field (tile_count b) g ≡ None → IsReady record { setting = g; opening = b }
+pub fits_ready : (g : Setting) (b : Cells) → IsBitmap b → bad_field (tile_count b) g ≡ None
+    → IsReady record { setting = g; opening = b }
 fits_ready g b bitmap fits =
     let within = bad_field-none (tile_count b) g fits in
-    record { bitmap = bitmap; blocks = within.blocks; few_blocks = within.few_blocks; versions = within.versions; few_versions = within.few_versions; few_sessions = within.few_sessions; log = within.log }
+    record {
+      bitmap = bitmap;
+      blocks = within.blocks;
+      few_blocks = within.few_blocks;
+      versions = within.versions;
+      few_versions = within.few_versions;
+      few_sessions = within.few_sessions;
+      log = within.log;
+    }
 
 -- the words show version 0
-Shows-opening : (k : Base) (words : List ℕ) → AreOpeningWords k words → Shows k (story k []) (blocks k []) words 0
+Shows-opening : (k : Base) (words : List ℕ) → AreOpeningWords k words
+    → Shows k (story k []) (blocks k []) words 0
 unfolding story blocks opened opened_blocks bitmap_of directory_of slot_of
 Shows-opening k words opening = record {
   mapped = λ p h.
       opening.directory p h ∙ sym (block_at k p h);
-  rows = λ p i hp hi. ap (λ (b : ℕ). get_or words (tile_at k b i) 0) (block_at k p hp) ∙ opening.rows p i hp hi;
+  rows = λ p i hp hi. ap (λ (b : ℕ). get_or words (tile_at k b i) 0) (block_at k p hp)
+      ∙ opening.rows p i hp hi;
 }
   where
     block_at : (k : Base) (p : ℕ) → p < tiles k → get_or (range_with_len 0 (tiles k)) p 0 ≡ p
     block_at k p h = let at = get_or-range_with_len 0 (tiles k) p 0 h in omega arith
 
 -- before a world's first event its words and its keeper are sound together
-KeeperSound-opening : (k : Base) (words : List ℕ) → AreOpeningWords k words → KeeperSound k (story k []) (blocks k []) words record { log = []; hand = None }
+KeeperSound-opening : (k : Base) (words : List ℕ) → AreOpeningWords k words
+    → KeeperSound k (story k []) (blocks k []) words record { log = []; hand = None }
 unfolding story opened newest now_of IsKept
 KeeperSound-opening k words opening = record {
   sized = opening.sized;
   legal = tt;
   now = opening.quiet 0 (omega arith);
-  shows = λ v kept. let first : 0 ≡ v = sym (opened_at kept.slot v kept.there).1 in subst (λ (w : ℕ). Shows k (story k []) (blocks k []) words w) first (Shows-opening k words opening);
+  shows = λ v kept. let first : 0 ≡ v = sym (opened_at kept.slot v kept.there).1 in
+      subst (λ (w : ℕ). Shows k (story k []) (blocks k []) words w) first
+      (Shows-opening k words opening);
   hand = tt;
 }
 
 -- before a world's first event its words and each reader are sound together
-ReaderSound-opening : (k : Base) (words : List ℕ) → AreOpeningWords k words → (r : ℕ) → r < k.setting.sessions
+ReaderSound-opening : (k : Base) (words : List ℕ) → AreOpeningWords k words → (r : ℕ)
+    → r < k.setting.sessions
     → ReaderSound k (story k []) words record { log = []; hand = None } r fresh_reader
 unfolding pin_at pin_word
 ReaderSound-opening k words opening r h = record {
@@ -91,31 +107,42 @@ ReaderSound-opening k words opening r h = record {
 }
 
 -- a list that has one value at all places has that value at each place, and no more places
-slice_get-replicate : {A : Type 0} (n i : ℕ) (x y : A) → slice_get (replicate n x) i ≡ Some y → (y ≡ x) × (i < n)
+slice_get-replicate : {A : Type 0} (n i : ℕ) (x y : A) → slice_get (replicate n x) i ≡ Some y
+    → (y ≡ x) × (i < n)
 slice_get-replicate zero i x y is = absurd (cc)
 slice_get-replicate (suc n) zero x y is = (same_value x y is, omega arith)
   where
     same_value : {A : Type 0} (x y : A) → ◌≡◌ {A = Option A} (Some x) (Some y) → y ≡ x
     same_value x y is = cc
-slice_get-replicate (suc n) (suc i) x y is = let later = slice_get-replicate n i x y is in (later.0, omega (arith, later.1))
+slice_get-replicate (suc n) (suc i) x y is = let later = slice_get-replicate n i x y is in
+    (later.0, omega (arith, later.1))
 
 -- a world that was opened has had no event
 abbrev pub opened_state : Base → List ℕ → State
-opened_state k words = record { base = k; words = words; keeper = record { log = []; hand = None }; readers = replicate k.setting.sessions fresh_reader }
+opened_state k words =
+    record {
+      base = k;
+      words = words;
+      keeper = record { log = []; hand = None };
+      readers = replicate k.setting.sessions fresh_reader;
+    }
 
 -- a world that is made of opening words is whole
-pub IsWhole-opening : (k : Base) (words : List ℕ) → IsReady k → AreOpeningWords k words → IsWhole (opened_state k words)
+pub IsWhole-opening : (k : Base) (words : List ℕ) → IsReady k → AreOpeningWords k words
+    → IsWhole (opened_state k words)
 IsWhole-opening k words ready opening = record {
   ready = ready;
   keeper = KeeperSound-opening k words opening;
   readers = length-replicate k.setting.sessions fresh_reader;
   reader = λ r x there.
       let fresh = slice_get-replicate k.setting.sessions r fresh_reader x there in
-      subst (λ (y : Reader). ReaderSound k (story k []) words record { log = []; hand = None } r y) (sym fresh.0) (ReaderSound-opening k words opening r fresh.1);
+      subst (λ (y : Reader). ReaderSound k (story k []) words record { log = []; hand = None } r y)
+      (sym fresh.0) (ReaderSound-opening k words opening r fresh.1);
 }
 
 -- a world that is made of opening words is opened
-IsOpened-opening : (k : Base) (words : List ℕ) → IsReady k → AreOpeningWords k words → IsOpened k (opened_state k words)
+IsOpened-opening : (k : Base) (words : List ℕ) → IsReady k → AreOpeningWords k words
+    → IsOpened k (opened_state k words)
 IsOpened-opening k words ready opening = record {
   base_is = refl;
   keeper_is = refl;
@@ -129,14 +156,24 @@ abbrev pub fresh_standing : Standing
 fresh_standing = record { seen = 0; version = 0; announced = None; holds = None }
 
 -- a world is made of this before its first event
-pub record IsNew (g : Setting) (b opening : Cells) (words : List ℕ) (log : List Entry) (standings : List Standing) (u : Summary) (room : Room) : Type 0 where
+pub record IsNew (g : Setting) (b opening : Cells) (words : List ℕ) (log : List Entry)
+    (standings : List Standing) (u : Summary) (room : Room) : Type 0 where
   pub fits : bad_field (tile_count b) g ≡ None
   pub bitmap : IsBitmap b
   pub opening_is : opening ≡ b
   pub words_are : AreOpeningWords record { setting = g; opening = b } words
   pub log_is : log ≡ []
   pub standings_are : standings ≡ replicate g.sessions fresh_standing
-  pub ledger_is : u.ledger ≡ record { setting = g; width = b.width; height = b.height; places = 0; base = 0; newest = 0; slot = 0; kept = first_kept }
+  pub ledger_is : u.ledger ≡ record {
+    setting = g;
+    width = b.width;
+    height = b.height;
+    places = 0;
+    base = 0;
+    newest = 0;
+    slot = 0;
+    kept = first_kept;
+  }
   pub draft_is : u.draft ≡ b
   pub scratch_is : room.scratch ≡ cells_where b.width b.height (λ x y. false)
   pub published_is : u.published ≡ b
@@ -154,17 +191,29 @@ map-fresh zero = refl
 map-fresh (suc n) = ap (λ (xs : List Reader). fresh_reader ∷ xs) (map-fresh n)
 
 -- before a world's first event its state is the opened one
-state-new : (g : Setting) (b opening : Cells) (words : List ℕ) (log : List Entry) (scanned : List ℕ) (standings : List Standing) (u : Summary) (room : Room) → IsNew g b opening words log standings u room
-    → opened_state record { setting = g; opening = b } words ≡ state_of u.ledger.setting opening words log None 0 scanned standings
+state-new : (g : Setting) (b opening : Cells) (words : List ℕ) (log : List Entry) (scanned : List ℕ)
+    (standings : List Standing) (u : Summary) (room : Room)
+    → IsNew g b opening words log standings u room
+    → opened_state record { setting = g; opening = b } words
+    ≡ state_of u.ledger.setting opening words log None 0 scanned standings
 state-new g b opening words log scanned standings u room new =
-    let readers : replicate g.sessions fresh_reader ≡ map (reader_of []) standings = sym (ap (map (reader_of [])) new.standings_are ∙ map-fresh g.sessions) in
-    ap (λ (xs : List Reader). record { base = record { setting = g; opening = b }; words = words; keeper = record { log = []; hand = None }; readers = xs }) readers
+    let readers : replicate g.sessions fresh_reader ≡ map (reader_of []) standings =
+    sym (ap (map (reader_of [])) new.standings_are ∙ map-fresh g.sessions) in
+    ap (λ (xs : List Reader). record {
+      base = record { setting = g; opening = b };
+      words = words;
+      keeper = record { log = []; hand = None };
+      readers = xs;
+    }) readers
     ∙ (ap (λ (c : Cells). state_of g c words [] None 0 scanned standings) (sym new.opening_is)
     ∙ (ap (λ (l : List Entry). state_of g opening words l None 0 scanned standings) (sym new.log_is)
-    ∙ ap (λ (l : Ledger). state_of l.setting opening words log None 0 scanned standings) (sym new.ledger_is)))
+    ∙ ap (λ (l : Ledger). state_of l.setting opening words log None 0 scanned standings)
+    (sym new.ledger_is)))
 
 -- what is kept besides the words of a world is what the empty log says
-consistent_opened : (g : Setting) (b opening : Cells) (words : List ℕ) (log : List Entry) (standings : List Standing) (u : Summary) (room : Room) → IsNew g b opening words log standings u room
+consistent_opened : (g : Setting) (b opening : Cells) (words : List ℕ) (log : List Entry)
+    (standings : List Standing) (u : Summary) (room : Room)
+    → IsNew g b opening words log standings u room
     → IsConsistent (opened_state record { setting = g; opening = b } words) None 0 standings u room
 unfolding story blocks opened opened_blocks newest bitmap_of
 consistent_opened g b opening words log standings u room new =
@@ -173,14 +222,27 @@ consistent_opened g b opening words log standings u room new =
       whole = IsWhole-opening k words (fits_ready g b new.bitmap new.fits) new.words_are;
       steps = tt;
       standing = λ r p there.
-          let fresh = slice_get-replicate g.sessions r fresh_standing p (ap (λ (ps : List Standing). slice_get ps r) (sym new.standings_are) ∙ there) in
-          subst (λ (q : Standing). IsStanding k [] q) (sym fresh.0) record { within = omega arith; version_is = refl; small = lit< tt };
+          let fresh = slice_get-replicate g.sessions r fresh_standing p
+          (ap (λ (ps : List Standing). slice_get ps r) (sym new.standings_are) ∙ there) in
+          subst (λ (q : Standing). IsStanding k [] q) (sym fresh.0)
+          record { within = omega arith; version_is = refl; small = lit< tt };
       summary = record {
-        ledger_is = subst (λ (l : Ledger). IsLedger k (story k []) l) (sym new.ledger_is) record { setting_is = refl; width_is = refl; height_is = refl; places_is = refl; base_is = refl; newest_is = refl; slot_is = refl; kept_is = refl };
+        ledger_is = subst (λ (l : Ledger). IsLedger k (story k []) l)
+            (sym new.ledger_is) record {
+              setting_is = refl;
+              width_is = refl;
+              height_is = refl;
+              places_is = refl;
+              base_is = refl;
+              newest_is = refl;
+              slot_is = refl;
+              kept_is = refl;
+            };
         draft_is = new.draft_is;
         published_is = new.published_is;
         came_long = ap length new.came_is ∙ length-replicate (tile_count b) 0;
-        came_is = λ p h. ap (λ (ns : List ℕ). get_or ns p 0) new.came_is ∙ get_or-replicate (tile_count b) p 0 0 h;
+        came_is = λ p h. ap (λ (ns : List ℕ). get_or ns p 0) new.came_is
+            ∙ get_or-replicate (tile_count b) p 0 0 h;
         own_is = new.own_is;
         free_is = new.free_is;
         retired_is = new.retired_is;
@@ -190,19 +252,35 @@ consistent_opened g b opening words log standings u room new =
         scanned = new.scanned_room;
         free = new.free_room;
         retired = new.retired_room;
-        scratch = subst (λ (c : Cells). IsOfMap k c) (sym new.scratch_is) record { width_is = refl; height_is = refl; bitmap = IsBitmap-cells_where b.width b.height (λ x y. false) new.bitmap.width_is new.bitmap.height_is };
+        scratch = subst (λ (c : Cells). IsOfMap k c)
+            (sym new.scratch_is) record {
+              width_is = refl;
+              height_is = refl;
+              bitmap = IsBitmap-cells_where b.width b.height
+                  (λ x y. false) new.bitmap.width_is new.bitmap.height_is;
+            };
       };
     }
 
 -- a world is consistent before its first event
-pub consistent_new : (g : Setting) (b opening : Cells) (words : List ℕ) (log : List Entry) (scanned : List ℕ) (standings : List Standing) (u : Summary) (room : Room) → IsNew g b opening words log standings u room
-    → IsConsistent (state_of u.ledger.setting opening words log None 0 scanned standings) None 0 standings u room
+pub consistent_new : (g : Setting) (b opening : Cells) (words : List ℕ) (log : List Entry)
+    (scanned : List ℕ) (standings : List Standing) (u : Summary) (room : Room)
+    → IsNew g b opening words log standings u room
+    → IsConsistent (state_of u.ledger.setting opening words log None 0 scanned standings) None 0
+    standings u room
 consistent_new g b opening words log scanned standings u room new =
-    subst (λ (w : State). IsConsistent w None 0 standings u room) (state-new g b opening words log scanned standings u room new) (consistent_opened g b opening words log standings u room new)
+    subst (λ (w : State). IsConsistent w None 0 standings u room)
+    (state-new g b opening words log scanned standings u room new)
+    (consistent_opened g b opening words log standings u room new)
 
 -- a world is opened before its first event
-pub opened_new : (g : Setting) (b opening : Cells) (words : List ℕ) (log : List Entry) (scanned : List ℕ) (standings : List Standing) (u : Summary) (room : Room) → IsNew g b opening words log standings u room
-    → IsOpened record { setting = g; opening = b } (state_of u.ledger.setting opening words log None 0 scanned standings)
+pub opened_new : (g : Setting) (b opening : Cells) (words : List ℕ) (log : List Entry)
+    (scanned : List ℕ) (standings : List Standing) (u : Summary) (room : Room)
+    → IsNew g b opening words log standings u room
+    → IsOpened record { setting = g; opening = b }
+    (state_of u.ledger.setting opening words log None 0 scanned standings)
 opened_new g b opening words log scanned standings u room new =
-    subst (λ (w : State). IsOpened record { setting = g; opening = b } w) (state-new g b opening words log scanned standings u room new)
-    (IsOpened-opening record { setting = g; opening = b } words (fits_ready g b new.bitmap new.fits) new.words_are)
+    subst (λ (w : State). IsOpened record { setting = g; opening = b } w)
+    (state-new g b opening words log scanned standings u room new)
+    (IsOpened-opening record { setting = g; opening = b } words
+    (fits_ready g b new.bitmap new.fits) new.words_are)

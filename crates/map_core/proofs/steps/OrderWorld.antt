@@ -1,11 +1,13 @@
 -- An order, on a world by its parts.
-use Rattle.std.proofs.Common.{◌≡◌, ℕ, ◌+◌, ◌-◌, ◌*◌, ◌<◌, ◌≤◌, true, false, List, [], length, refl, ap, subst, sym, ◌∙◌, arith}
+use Rattle.std.proofs.Common.{◌≡◌, ℕ, ◌+◌, ◌-◌, ◌*◌, ◌<◌, ◌≤◌, true, false, List, [], length, refl}
+use Rattle.std.proofs.Common.{ap, subst, sym, ◌∙◌, arith}
 use Rattle.std.specs.Prelude.{Option, Some, None, Ok, is_some}
 use mathlib.Core.Logic.{inr}
 use Rattle.metric.specs.declared.refusal.Refusal.{Refusal}
 use Rattle.metric.specs.declared.refusal.Refusal.TheVariants.{Memory}
 use Rattle.map_core.specs.declared.command.Command.{Command}
-use Rattle.map_core.specs.declared.command.Command.TheVariants.{Paint, Stamp, Publish, Revert, Collect, Checkpoint}
+use Rattle.map_core.specs.declared.command.Command.TheVariants.{Paint, Stamp, Publish, Revert}
+use Rattle.map_core.specs.declared.command.Command.TheVariants.{Collect, Checkpoint}
 use Rattle.map_core.specs.declared.event.Event.TheVariants.{Order}
 use Rattle.map_core.specs.declared.event.StepReply.TheVariants as says
 use Rattle.map_core.specs.declared.reader.Standing.{Standing}
@@ -24,26 +26,43 @@ use Rattle.map_core.proofs.invariants.SeenLemmas.{seen_stays}
 use Rattle.map_core.proofs.steps.StepLemmas.{nothing_stored, keeps-order, in_hand, tidy_of}
 
 -- an order isn't enabled while there is a current command
-order_again : (w : State) (c : Command) (h : Hand) → w.keeper.hand ≡ Some h → does w (Order c) ≡ None
+order_again : (w : State) (c : Command) (h : Hand) → w.keeper.hand ≡ Some h
+    → does w (Order c) ≡ None
 unfolding does order
 order_again w c h is = ap (order w c) is
 
 -- an order that is refused answers why, and changes nothing
-pub order_refused : (w : State) (c : Command) (refusal : Refusal) → w.keeper.hand ≡ None → Some refusal ≡ refused w.base.setting (story_of w) c
+pub order_refused : (w : State) (c : Command) (refusal : Refusal) → w.keeper.hand ≡ None
+    → Some refusal ≡ refused w.base.setting (story_of w) c
     → does w (Order c) ≡ Some record { state = w; answer = says.Refused refusal; stored = None }
 unfolding does order
-order_refused w c refusal free is = ap (order w c) free ∙ ap (λ (o : Option Refusal). Some (ordered w c o)) (sym is)
+order_refused w c refusal free is =
+    ap (order w c) free ∙ ap (λ (o : Option Refusal). Some (ordered w c o)) (sym is)
 
 -- an order that is accepted makes the command current, and answers how many steps it has
-order_accepted : (w : State) (c : Command) (steps : ℕ) → w.keeper.hand ≡ None → None ≡ refused w.base.setting (story_of w) c → steps ≡ steps_before w.base (blocks_of_state w) c
-    → does w (Order c) ≡ Some record { state = in_hand w (Some record { command = c; done = 0; scanned = [] }); answer = says.Ordered (steps + 1); stored = None }
+order_accepted : (w : State) (c : Command) (steps : ℕ) → w.keeper.hand ≡ None
+    → None ≡ refused w.base.setting (story_of w) c
+    → steps ≡ steps_before w.base (blocks_of_state w) c
+    → does w (Order c) ≡ Some record {
+      state =
+          in_hand w (Some record { command = c; done = 0; scanned = [] });
+      answer = says.Ordered (steps + 1);
+      stored = None;
+    }
 unfolding does order
 order_accepted w c steps free is count =
     ap (order w c) free ∙ (ap (λ (o : Option Refusal). Some (ordered w c o)) (sym is)
-    ∙ ap (λ (n : ℕ). Some record { state = in_hand w (Some record { command = c; done = 0; scanned = [] }); answer = says.Ordered (n + 1); stored = None }) (sym count))
+    ∙ ap (λ (n : ℕ). Some record {
+      state = in_hand w
+          (Some record { command = c; done = 0; scanned = [] });
+      answer = says.Ordered (n + 1);
+      stored = None;
+    }) (sym count))
 
 -- an order that finds no memory is refused, and changes nothing
-pub order_starved : (w : State) (c : Command) → IsWhole w → w.keeper.hand ≡ None → None ≡ refused w.base.setting (story_of w) c → SafeStep w (Order c) (Ok (says.Refused Memory)) w
+pub order_starved : (w : State) (c : Command) → IsWhole w → w.keeper.hand ≡ None
+    → None ≡ refused w.base.setting (story_of w) c
+    → SafeStep w (Order c) (Ok (says.Refused Memory)) w
 order_starved w c whole free is = record {
   stored = None;
   step = inr record { order = (free, sym is); answer_is = refl; stored_is = refl; same = refl };
@@ -54,14 +73,19 @@ order_starved w c whole free is = record {
 }
 
 -- what is kept tells how many steps a publish has before its last
-pub publish_steps : (w : State) (hand : Option Command) (steps : ℕ) (standings : List Standing) (u : Summary) (room : Room) → IsConsistent w hand steps standings u room → (n t : ℕ) → n ≡ length (own_list u.own) → t ≡ tiles w.base
+pub publish_steps : (w : State) (hand : Option Command) (steps : ℕ) (standings : List Standing)
+    (u : Summary) (room : Room) → IsConsistent w hand steps standings u room → (n t : ℕ)
+    → n ≡ length (own_list u.own) → t ≡ tiles w.base
     → 64 * n + t ≡ steps_before w.base (blocks_of_state w) Publish
 unfolding steps_before
 publish_steps w hand steps standings u room consistent n t n_is t_is =
-    ap (λ (m : ℕ). 64 * m + t) (n_is ∙ ap (λ own. length (own_list own)) consistent.summary.own_is) ∙ ap (λ (m : ℕ). 64 * length (own_list (blocks_of_state w).own) + m) t_is
+    ap (λ (m : ℕ). 64 * m + t) (n_is ∙ ap (λ own. length (own_list own)) consistent.summary.own_is)
+    ∙ ap (λ (m : ℕ). 64 * length (own_list (blocks_of_state w).own) + m) t_is
 
 -- the draft has few blocks of its own
-pub own_few : (w : State) (hand : Option Command) (steps : ℕ) (standings : List Standing) (u : Summary) (room : Room) → IsConsistent w hand steps standings u room → length (own_list u.own) ≤ 16384
+pub own_few : (w : State) (hand : Option Command) (steps : ℕ) (standings : List Standing)
+    (u : Summary) (room : Room) → IsConsistent w hand steps standings u room
+    → length (own_list u.own) ≤ 16384
 own_few w hand steps standings u room consistent =
     let sum = (tidy_of w consistent.whole).shape.blocks in
     let few = consistent.whole.ready.few_blocks in
@@ -69,7 +93,8 @@ own_few w hand steps standings u room consistent =
     omega arith
 
 -- a command has few steps
-pub steps_few : (w : State) → IsWhole w → (c : Command) → steps_before w.base (blocks_of_state w) c ≤ 64 * 16384 + 16384
+pub steps_few : (w : State) → IsWhole w → (c : Command)
+    → steps_before w.base (blocks_of_state w) c ≤ 64 * 16384 + 16384
 unfolding steps_before
 steps_few w whole (Paint r black) = omega arith
 steps_few w whole (Stamp x y b) = omega arith
@@ -83,58 +108,95 @@ steps_few w whole Collect = let few = whole.ready.few_sessions in omega arith
 steps_few w whole Checkpoint = omega arith
 
 -- a world with a current command takes no order
-pub order_busy : (w v : State) (c : Command) (hand : Option Command) (done : ℕ) (scanned : List ℕ) → v ≡ w → v.keeper.hand ≡ hand_of hand done scanned → is_some hand ≡ true → does w (Order c) ≡ None
+pub order_busy : (w v : State) (c : Command) (hand : Option Command) (done : ℕ) (scanned : List ℕ)
+    → v ≡ w → v.keeper.hand ≡ hand_of hand done scanned → is_some hand ≡ true
+    → does w (Order c) ≡ None
 order_busy w v c None done scanned same is some = absurd (cc)
-order_busy w v c (Some t) done scanned same is some = order_again w c _ (sym (ap (λ (x : State). x.keeper.hand) same) ∙ is)
+order_busy w v c (Some t) done scanned same is some =
+    order_again w c _ (sym (ap (λ (x : State). x.keeper.hand) same) ∙ is)
 
 -- where what is kept has no current command, the world has none
-pub hand_free : (w v : State) (hand : Option Command) (done : ℕ) (scanned : List ℕ) → v ≡ w → v.keeper.hand ≡ hand_of hand done scanned → is_some hand ≡ false → w.keeper.hand ≡ None
+pub hand_free : (w v : State) (hand : Option Command) (done : ℕ) (scanned : List ℕ) → v ≡ w
+    → v.keeper.hand ≡ hand_of hand done scanned → is_some hand ≡ false → w.keeper.hand ≡ None
 hand_free w v None done scanned same is none = sym (ap (λ (x : State). x.keeper.hand) same) ∙ is
 hand_free w v (Some t) done scanned same is none = absurd (cc)
 
 -- what is kept is right after an order that is accepted
-pub consistent_order : (w : State) (hand : Option Command) (steps : ℕ) (standings : List Standing) (u : Summary) (room : Room) → IsConsistent w hand steps standings u room → (c copy : Command) (steps_now log_room scanned_room : ℕ)
-    → w.keeper.hand ≡ None → None ≡ refused w.base.setting (story_of w) c → copy ≡ c → steps_now ≡ steps_before w.base (blocks_of_state w) c
+pub consistent_order : (w : State) (hand : Option Command) (steps : ℕ) (standings : List Standing)
+    (u : Summary) (room : Room) → IsConsistent w hand steps standings u room
+    → (c copy : Command) (steps_now log_room scanned_room : ℕ)
+    → w.keeper.hand ≡ None → None ≡ refused w.base.setting (story_of w) c → copy ≡ c
+    → steps_now ≡ steps_before w.base (blocks_of_state w) c
     → length w.keeper.log < log_room → room.scanned ≡ scanned_room
-    → IsConsistent (in_hand w (Some record { command = copy; done = 0; scanned = [] })) (Some copy) steps_now standings u
-    record { log = log_room; scanned = scanned_room; free = room.free; retired = room.retired; scratch = room.scratch }
-consistent_order w hand steps standings u room consistent c copy steps_now log_room scanned_room free accepted same count room_is scanned_is =
+    → IsConsistent (in_hand w (Some record { command = copy; done = 0; scanned = [] }))
+    (Some copy) steps_now standings u
+    record {
+      log = log_room;
+      scanned = scanned_room;
+      free = room.free;
+      retired = room.retired;
+      scratch = room.scratch;
+    }
+consistent_order w hand steps standings u room consistent c copy steps_now log_room scanned_room
+    free accepted same count room_is scanned_is =
     let roomy = consistent.roomy in
     let scanned_before = roomy.scanned in
     record {
-      whole = keeps-order w copy consistent.whole (ap (refused w.base.setting (story_of w)) same ∙ sym accepted);
+      whole = keeps-order w copy consistent.whole
+          (ap (refused w.base.setting (story_of w)) same ∙ sym accepted);
       steps = count ∙ sym (ap (steps_before w.base (blocks_of_state w)) same);
       standing = consistent.standing;
       summary = consistent.summary;
-      roomy = record { log = room_is; scanned = omega arith; free = roomy.free; retired = roomy.retired; scratch = roomy.scratch };
+      roomy = record {
+        log = room_is;
+        scanned = omega arith;
+        free = roomy.free;
+        retired = roomy.retired;
+        scratch = roomy.scratch;
+      };
     }
 
 -- an order that is accepted makes a copy of the command current, safely
-order_done : (w : State) (c copy : Command) (steps : ℕ) → IsWhole w → w.keeper.hand ≡ None → None ≡ refused w.base.setting (story_of w) c → copy ≡ c → steps ≡ steps_before w.base (blocks_of_state w) c
-    → SafeStep w (Order c) (Ok (says.Ordered (steps + 1))) (in_hand w (Some record { command = copy; done = 0; scanned = [] }))
+order_done : (w : State) (c copy : Command) (steps : ℕ) → IsWhole w → w.keeper.hand ≡ None
+    → None ≡ refused w.base.setting (story_of w) c → copy ≡ c
+    → steps ≡ steps_before w.base (blocks_of_state w) c
+    → SafeStep w (Order c) (Ok (says.Ordered (steps + 1)))
+    (in_hand w (Some record { command = copy; done = 0; scanned = [] }))
 order_done w c copy steps whole free accepted same count =
-    subst (λ (d : Command). SafeStep w (Order c) (Ok (says.Ordered (steps + 1))) (in_hand w (Some record { command = d; done = 0; scanned = [] }))) (sym same)
+    subst (λ (d : Command). SafeStep w (Order c) (Ok (says.Ordered (steps + 1)))
+    (in_hand w (Some record { command = d; done = 0; scanned = [] }))) (sym same)
     (safe_done w (Order c) _ whole (order_accepted w c steps free accepted count))
 
 -- an order that finds no memory leaves the world, under another name too
-pub starved_still : (w v : State) (c : Command) → v ≡ w → IsWhole w → w.keeper.hand ≡ None → None ≡ refused w.base.setting (story_of w) c → SafeStep w (Order c) (Ok (says.Refused Memory)) v
-starved_still w v c same whole free is = subst (λ (x : State). SafeStep w (Order c) (Ok (says.Refused Memory)) x) (sym same) (order_starved w c whole free is)
+pub starved_still : (w v : State) (c : Command) → v ≡ w → IsWhole w → w.keeper.hand ≡ None
+    → None ≡ refused w.base.setting (story_of w) c
+    → SafeStep w (Order c) (Ok (says.Refused Memory)) v
+starved_still w v c same whole free is =
+    subst (λ (x : State). SafeStep w (Order c) (Ok (says.Refused Memory)) x) (sym same)
+    (order_starved w c whole free is)
 
 -- what holds of a world holds of it under another name
 pub under_name : (P : State → Type 0) (w v : State) → v ≡ w → P w → P v
 under_name P w v same h = subst P (sym same) h
 
 -- an order that is accepted makes a copy of the command current, in a world under another name
-pub order_named : (w v : State) (c copy : Command) (steps : ℕ) → v ≡ w → IsWhole w → w.keeper.hand ≡ None → None ≡ refused w.base.setting (story_of w) c → copy ≡ c
+pub order_named : (w v : State) (c copy : Command) (steps : ℕ) → v ≡ w → IsWhole w
+    → w.keeper.hand ≡ None → None ≡ refused w.base.setting (story_of w) c → copy ≡ c
     → steps ≡ steps_before v.base (blocks_of_state v) c
-    → SafeStep w (Order c) (Ok (says.Ordered (steps + 1))) (in_hand v (Some record { command = copy; done = 0; scanned = [] }))
+    → SafeStep w (Order c) (Ok (says.Ordered (steps + 1)))
+    (in_hand v (Some record { command = copy; done = 0; scanned = [] }))
 order_named w v c copy steps same whole free accepted copied count =
-    subst (λ (x : State). SafeStep w (Order c) (Ok (says.Ordered (steps + 1))) (in_hand x (Some record { command = copy; done = 0; scanned = [] }))) (sym same)
-    (order_done w c copy steps whole free accepted copied (count ∙ ap (λ (x : State). steps_before x.base (blocks_of_state x) c) same))
+    subst (λ (x : State). SafeStep w (Order c) (Ok (says.Ordered (steps + 1)))
+    (in_hand x (Some record { command = copy; done = 0; scanned = [] }))) (sym same)
+    (order_done w c copy steps whole free accepted copied
+    (count ∙ ap (λ (x : State). steps_before x.base (blocks_of_state x) c) same))
 
 -- a number past the rows of a publish is one of its directory's
-pub publish_rest : (w : State) (hand : Option Command) (steps : ℕ) (standings : List Standing) (u : Summary) (room : Room) → IsConsistent w hand steps standings u room → (n number : ℕ) → n ≡ length (own_list u.own)
-    → number < steps_before w.base (blocks_of_state w) Publish → 64 * n ≤ number → number - 64 * n < tiles w.base
+pub publish_rest : (w : State) (hand : Option Command) (steps : ℕ) (standings : List Standing)
+    (u : Summary) (room : Room) → IsConsistent w hand steps standings u room → (n number : ℕ)
+    → n ≡ length (own_list u.own)
+    → number < steps_before w.base (blocks_of_state w) Publish → 64 * n ≤ number
+    → number - 64 * n < tiles w.base
 unfolding steps_before
 publish_rest w hand steps standings u room consistent n number n_is h past =
     let same = ap (λ own. length (own_list own)) consistent.summary.own_is in

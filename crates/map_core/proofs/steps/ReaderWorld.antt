@@ -1,5 +1,7 @@
 -- The steps of a reader, on a world by its parts.
-use Rattle.std.proofs.Common.{◌≡◌, ℕ, ◌+◌, ◌*◌, ◌<◌, ◌≤◌, ◌&&◌, ◌==◌, Bool, true, false, if◌then◌else◌, List, length, get_or, set, map, take, refl, ap, subst, sym, ◌∙◌, arith}
+use Rattle.std.proofs.Common.{◌≡◌, ℕ, ◌+◌, ◌*◌, ◌<◌, ◌≤◌, ◌&&◌, ◌==◌, Bool, true, false}
+use Rattle.std.proofs.Common.{if◌then◌else◌, List, length, get_or, set, map, take, refl, ap, subst}
+use Rattle.std.proofs.Common.{sym, ◌∙◌, arith}
 use Rattle.std.specs.Prelude.{Option, Some, None, slice_get, is_some, is_none, nat_lt}
 use Rattle.std.proofs.lemmas.Bool.Decides.{nat_tests}
 use Rattle.std.proofs.lemmas.List.{map-set, take_all, get_or_read, get_or_default}
@@ -10,15 +12,18 @@ use Rattle.map_core.proofs.shared_words.PlaceLemmas.{tile-within}
 use Rattle.bits.specs.Cells.{Cells}
 use Rattle.map_core.specs.declared.command.Command.{Command}
 use Rattle.map_core.specs.declared.command.Entry.{Entry}
-use Rattle.map_core.specs.declared.event.Event.TheVariants.{Announce, Load, LookMap, LookTile, Leave, Confirm}
+use Rattle.map_core.specs.declared.event.Event.TheVariants.{Announce, Load, LookMap, LookTile}
+use Rattle.map_core.specs.declared.event.Event.TheVariants.{Leave, Confirm}
 use Rattle.map_core.specs.declared.event.StepReply.TheVariants as says
 use Rattle.map_core.specs.declared.reader.Standing.{Standing}
 use Rattle.map_core.specs.declared.setting.Setting.{Setting}
 use Rattle.map_core.specs.declared.kept.Seen.TheVariants.{From, Exact}
 use Rattle.map_core.specs.Story.{IsKept}
-use Rattle.map_core.specs.Words.{tiles, pin_at, map_at, tile_at, pin_word, version_told, place_told, slot_of}
+use Rattle.map_core.specs.Words.{tiles, pin_at, map_at, tile_at, pin_word, version_told, place_told}
+use Rattle.map_core.specs.Words.{slot_of}
 use Rattle.map_core.specs.Views.{Reader, State, story_of}
-use Rattle.map_core.specs.Steps.{does, announce, load, leave, to_confirm, confirm_held, confirm, look_map, look_tile, hold_of}
+use Rattle.map_core.specs.Steps.{does, announce, load, leave, to_confirm, confirm_held, confirm}
+use Rattle.map_core.specs.Steps.{look_map, look_tile, hold_of}
 use Rattle.map_core.specs.Views.{blocks_of_state}
 use Rattle.map_core.specs.Sound.{IsWhole}
 use Rattle.map_core.proofs.invariants.SoundBlocks.{block_within}
@@ -27,25 +32,37 @@ use Rattle.map_core.specs.Consistent.{reader_of, state_of, IsStanding}
 use Rattle.map_core.proofs.steps.WorldLemmas.{reader_got}
 
 -- a reader that isn't there can't announce
-pub announce_past : (g : Setting) (b : Cells) (words : List ℕ) (log : List Entry) (hand : Option Command) (done : ℕ) (scanned : List ℕ) (standings : List Standing) (r : ℕ)
-    → slice_get standings r ≡ None → does (state_of g b words log hand done scanned standings) (Announce r) ≡ None
+pub announce_past : (g : Setting) (b : Cells) (words : List ℕ) (log : List Entry)
+    (hand : Option Command) (done : ℕ) (scanned : List ℕ) (standings : List Standing) (r : ℕ)
+    → slice_get standings r ≡ None
+    → does (state_of g b words log hand done scanned standings) (Announce r) ≡ None
 unfolding does announce
 announce_past g b words log hand done scanned standings r none =
-    ap (announce (state_of g b words log hand done scanned standings) r) (reader_got log standings r None none)
+    ap (announce (state_of g b words log hand done scanned standings) r)
+    (reader_got log standings r None none)
 
 -- a reader that has announced can't announce again
-pub announce_again : (g : Setting) (b : Cells) (words : List ℕ) (log : List Entry) (hand : Option Command) (done : ℕ) (scanned : List ℕ) (standings : List Standing) (r : ℕ) (p : Standing)
-    → slice_get standings r ≡ Some p → is_some p.announced ≡ true → does (state_of g b words log hand done scanned standings) (Announce r) ≡ None
+pub announce_again : (g : Setting) (b : Cells) (words : List ℕ) (log : List Entry)
+    (hand : Option Command) (done : ℕ) (scanned : List ℕ) (standings : List Standing) (r : ℕ)
+    (p : Standing)
+    → slice_get standings r ≡ Some p → is_some p.announced ≡ true
+    → does (state_of g b words log hand done scanned standings) (Announce r) ≡ None
 unfolding does announce
 announce_again g b words log hand done scanned standings r p there has =
-    ap (announce (state_of g b words log hand done scanned standings) r) (reader_got log standings r (Some p) there) ∙ rw has
+    ap (announce (state_of g b words log hand done scanned standings) r)
+    (reader_got log standings r (Some p) there) ∙ rw has
 
 -- a reader that announces stores the newest version that it has seen, with those after it
-pub announce_does : (g : Setting) (b : Cells) (words : List ℕ) (log : List Entry) (hand : Option Command) (done : ℕ) (scanned : List ℕ) (standings : List Standing) (r : ℕ) (p : Standing) (at word : ℕ)
-    → slice_get standings r ≡ Some p → is_some p.announced ≡ false → IsStanding record { setting = g; opening = b } log p → at ≡ pin_at r → word ≡ 2 * p.version + 1
+pub announce_does : (g : Setting) (b : Cells) (words : List ℕ) (log : List Entry)
+    (hand : Option Command) (done : ℕ) (scanned : List ℕ) (standings : List Standing) (r : ℕ)
+    (p : Standing) (at word : ℕ)
+    → slice_get standings r ≡ Some p → is_some p.announced ≡ false
+    → IsStanding record { setting = g; opening = b } log p → at ≡ pin_at r
+    → word ≡ 2 * p.version + 1
     → does (state_of g b words log hand done scanned standings) (Announce r)
     ≡ Some record {
-      state = state_of g b (set words at word) log hand done scanned (set standings r record p { announced = Some (From p.version) });
+      state = state_of g b (set words at word) log hand done scanned
+          (set standings r record p { announced = Some (From p.version) });
       answer = says.Announced p.version;
       stored = Some (pin_at r);
     }
@@ -54,33 +71,49 @@ announce_does g b words log hand done scanned standings r p at word there none p
     let w = state_of g b words log hand done scanned standings in
     ap (announce w r) (reader_got log standings r (Some p) there)
     ∙ (rw none
-    (rw (← place.version_is, ← at_is, ← word_is) (ap (λ (xs : List Reader). Some record { state = record w { words = set words at word; readers = xs }; answer = says.Announced p.version; stored = Some at })
+    (rw (← place.version_is, ← at_is, ← word_is)
+    (ap (λ (xs : List Reader). Some record {
+      state =
+          record w { words = set words at word; readers = xs };
+      answer = says.Announced p.version;
+      stored = Some at;
+    })
     (sym (map-set (reader_of log) standings r record p { announced = Some (From p.version) })))))
 
 -- a reader that isn't there can't leave
-pub leave_past : (g : Setting) (b : Cells) (words : List ℕ) (log : List Entry) (hand : Option Command) (done : ℕ) (scanned : List ℕ) (standings : List Standing) (r : ℕ)
-    → slice_get standings r ≡ None → does (state_of g b words log hand done scanned standings) (Leave r) ≡ None
+pub leave_past : (g : Setting) (b : Cells) (words : List ℕ) (log : List Entry)
+    (hand : Option Command) (done : ℕ) (scanned : List ℕ) (standings : List Standing) (r : ℕ)
+    → slice_get standings r ≡ None
+    → does (state_of g b words log hand done scanned standings) (Leave r) ≡ None
 unfolding does leave
 leave_past g b words log hand done scanned standings r none =
-    ap (leave (state_of g b words log hand done scanned standings) r) (reader_got log standings r None none)
+    ap (leave (state_of g b words log hand done scanned standings) r)
+    (reader_got log standings r None none)
 
 -- a reader that hasn't announced can't leave
-pub leave_again : (g : Setting) (b : Cells) (words : List ℕ) (log : List Entry) (hand : Option Command) (done : ℕ) (scanned : List ℕ) (standings : List Standing) (r : ℕ) (p : Standing)
-    → slice_get standings r ≡ Some p → is_none p.announced ≡ true → does (state_of g b words log hand done scanned standings) (Leave r) ≡ None
+pub leave_again : (g : Setting) (b : Cells) (words : List ℕ) (log : List Entry)
+    (hand : Option Command) (done : ℕ) (scanned : List ℕ) (standings : List Standing) (r : ℕ)
+    (p : Standing)
+    → slice_get standings r ≡ Some p → is_none p.announced ≡ true
+    → does (state_of g b words log hand done scanned standings) (Leave r) ≡ None
 unfolding does leave
 leave_again g b words log hand done scanned standings r p there none =
-    ap (leave (state_of g b words log hand done scanned standings) r) (reader_got log standings r (Some p) there) ∙ rw (not_some p.announced none)
+    ap (leave (state_of g b words log hand done scanned standings) r)
+    (reader_got log standings r (Some p) there) ∙ rw (not_some p.announced none)
   where
     not_some : {A : Type 0} (o : Option A) → is_none o ≡ true → is_some o ≡ false
     not_some None is = refl
     not_some (Some a) is = absurd (cc)
 
 -- a reader that leaves stores 0, and holds nothing
-pub leave_does : (g : Setting) (b : Cells) (words : List ℕ) (log : List Entry) (hand : Option Command) (done : ℕ) (scanned : List ℕ) (standings : List Standing) (r : ℕ) (p : Standing) (at : ℕ)
+pub leave_does : (g : Setting) (b : Cells) (words : List ℕ) (log : List Entry)
+    (hand : Option Command) (done : ℕ) (scanned : List ℕ) (standings : List Standing) (r : ℕ)
+    (p : Standing) (at : ℕ)
     → slice_get standings r ≡ Some p → is_none p.announced ≡ false → at ≡ pin_at r
     → does (state_of g b words log hand done scanned standings) (Leave r)
     ≡ Some record {
-      state = state_of g b (set words at 0) log hand done scanned (set standings r record p { announced = None; holds = None });
+      state = state_of g b (set words at 0) log hand done scanned
+          (set standings r record p { announced = None; holds = None });
       answer = says.Left;
       stored = Some (pin_at r);
     }
@@ -89,7 +122,13 @@ leave_does g b words log hand done scanned standings r p at there has at_is =
     let w = state_of g b words log hand done scanned standings in
     ap (leave w r) (reader_got log standings r (Some p) there)
     ∙ (rw (some p.announced has)
-    (rw (← at_is) (ap (λ (xs : List Reader). Some record { state = record w { words = set words at 0; readers = xs }; answer = says.Left; stored = Some at })
+    (rw (← at_is)
+    (ap (λ (xs : List Reader). Some record {
+      state =
+          record w { words = set words at 0; readers = xs };
+      answer = says.Left;
+      stored = Some at;
+    })
     (sym (map-set (reader_of log) standings r record p { announced = None; holds = None })))))
   where
     some : {A : Type 0} (o : Option A) → is_none o ≡ false → is_some o ≡ true
@@ -97,88 +136,136 @@ leave_does g b words log hand done scanned standings r p at there has at_is =
     some (Some a) is = refl
 
 -- a reader that isn't there can't announce exactly
-pub confirm_past : (g : Setting) (b : Cells) (words : List ℕ) (log : List Entry) (hand : Option Command) (done : ℕ) (scanned : List ℕ) (standings : List Standing) (r : ℕ)
-    → slice_get standings r ≡ None → does (state_of g b words log hand done scanned standings) (Confirm r) ≡ None
+pub confirm_past : (g : Setting) (b : Cells) (words : List ℕ) (log : List Entry)
+    (hand : Option Command) (done : ℕ) (scanned : List ℕ) (standings : List Standing) (r : ℕ)
+    → slice_get standings r ≡ None
+    → does (state_of g b words log hand done scanned standings) (Confirm r) ≡ None
 unfolding does confirm
 confirm_past g b words log hand done scanned standings r none =
-    ap (confirm (state_of g b words log hand done scanned standings) r) (reader_got log standings r None none)
+    ap (confirm (state_of g b words log hand done scanned standings) r)
+    (reader_got log standings r None none)
 
 -- a reader that has no exact announcement to make can't make one
-pub confirm_not : (g : Setting) (b : Cells) (words : List ℕ) (log : List Entry) (hand : Option Command) (done : ℕ) (scanned : List ℕ) (standings : List Standing) (r : ℕ) (p : Standing) (found : Option ℕ)
-    → slice_get standings r ≡ Some p → found ≡ to_confirm p.announced p.holds → found ≡ None → does (state_of g b words log hand done scanned standings) (Confirm r) ≡ None
+pub confirm_not : (g : Setting) (b : Cells) (words : List ℕ) (log : List Entry)
+    (hand : Option Command) (done : ℕ) (scanned : List ℕ) (standings : List Standing) (r : ℕ)
+    (p : Standing) (found : Option ℕ)
+    → slice_get standings r ≡ Some p → found ≡ to_confirm p.announced p.holds → found ≡ None
+    → does (state_of g b words log hand done scanned standings) (Confirm r) ≡ None
 unfolding does confirm
 confirm_not g b words log hand done scanned standings r p found there is none =
     let w = state_of g b words log hand done scanned standings in
-    ap (confirm w r) (reader_got log standings r (Some p) there) ∙ ap (confirm_held w r (reader_of log p)) (sym is ∙ none)
+    ap (confirm w r) (reader_got log standings r (Some p) there)
+    ∙ ap (confirm_held w r (reader_of log p)) (sym is ∙ none)
 
 -- a reader that announces exactly stores the version that it holds, alone
-pub confirm_does : (g : Setting) (b : Cells) (words : List ℕ) (log : List Entry) (hand : Option Command) (done : ℕ) (scanned : List ℕ) (standings : List Standing) (r : ℕ) (p : Standing) (found : Option ℕ) (v at word : ℕ)
-    → slice_get standings r ≡ Some p → found ≡ to_confirm p.announced p.holds → found ≡ Some v → at ≡ pin_at r → word ≡ 2 * v + 2
+pub confirm_does : (g : Setting) (b : Cells) (words : List ℕ) (log : List Entry)
+    (hand : Option Command) (done : ℕ) (scanned : List ℕ) (standings : List Standing) (r : ℕ)
+    (p : Standing) (found : Option ℕ) (v at word : ℕ)
+    → slice_get standings r ≡ Some p → found ≡ to_confirm p.announced p.holds → found ≡ Some v
+    → at ≡ pin_at r → word ≡ 2 * v + 2
     → does (state_of g b words log hand done scanned standings) (Confirm r)
     ≡ Some record {
-      state = state_of g b (set words at word) log hand done scanned (set standings r record p { announced = Some (Exact v) });
+      state = state_of g b (set words at word) log hand done scanned
+          (set standings r record p { announced = Some (Exact v) });
       answer = says.Confirmed v;
       stored = Some (pin_at r);
     }
 unfolding does confirm pin_at pin_word
-confirm_does g b words log hand done scanned standings r p found v at word there is some at_is word_is =
+confirm_does g b words log hand done scanned standings r p found v at word there is some at_is
+    word_is =
     let w = state_of g b words log hand done scanned standings in
     ap (confirm w r) (reader_got log standings r (Some p) there)
     ∙ (ap (confirm_held w r (reader_of log p)) (sym is ∙ some)
-    ∙ (rw (← at_is, ← word_is) (ap (λ (xs : List Reader). Some record { state = record w { words = set words at word; readers = xs }; answer = says.Confirmed v; stored = Some at })
+    ∙ (rw (← at_is, ← word_is)
+    (ap (λ (xs : List Reader). Some record {
+      state =
+          record w { words = set words at word; readers = xs };
+      answer = says.Confirmed v;
+      stored = Some at;
+    })
     (sym (map-set (reader_of log) standings r record p { announced = Some (Exact v) })))))
 
 -- a reader that isn't there can't load NOW
-pub load_past : (g : Setting) (b : Cells) (words : List ℕ) (log : List Entry) (hand : Option Command) (done : ℕ) (scanned : List ℕ) (standings : List Standing) (r : ℕ)
-    → slice_get standings r ≡ None → does (state_of g b words log hand done scanned standings) (Load r) ≡ None
+pub load_past : (g : Setting) (b : Cells) (words : List ℕ) (log : List Entry)
+    (hand : Option Command) (done : ℕ) (scanned : List ℕ) (standings : List Standing) (r : ℕ)
+    → slice_get standings r ≡ None
+    → does (state_of g b words log hand done scanned standings) (Load r) ≡ None
 unfolding does load
 load_past g b words log hand done scanned standings r none =
-    ap (load (state_of g b words log hand done scanned standings) r) (reader_got log standings r None none)
+    ap (load (state_of g b words log hand done scanned standings) r)
+    (reader_got log standings r None none)
 
--- a reader that loads NOW has seen the whole log, and holds the version there if it has announced and held none
-pub load_does : (g : Setting) (b : Cells) (words : List ℕ) (log : List Entry) (hand : Option Command) (done : ℕ) (scanned : List ℕ) (standings : List Standing) (r : ℕ) (p : Standing) (place version seen newest : ℕ) (holds : Option ℕ)
-    → slice_get standings r ≡ Some p → place ≡ place_told (get_or words 0 0) → version ≡ version_told (get_or words 0 0) → seen ≡ length log
+-- a reader that loads NOW has seen the whole log, and holds the version there if it has announced
+-- and held none
+pub load_does : (g : Setting) (b : Cells) (words : List ℕ) (log : List Entry)
+    (hand : Option Command) (done : ℕ) (scanned : List ℕ) (standings : List Standing) (r : ℕ)
+    (p : Standing) (place version seen newest : ℕ) (holds : Option ℕ)
+    → slice_get standings r ≡ Some p → place ≡ place_told (get_or words 0 0)
+    → version ≡ version_told (get_or words 0 0) → seen ≡ length log
     → holds ≡ (if is_some p.announced && is_none p.holds then Some version else p.holds)
     → does (state_of g b words log hand done scanned standings) (Load r)
     ≡ Some record {
-      state = state_of g b words log hand done scanned (set standings r record { seen = seen; version = newest; announced = p.announced; holds = holds });
+      state = state_of g b words log hand done scanned
+          (set standings r record {
+            seen = seen;
+            version = newest;
+            announced = p.announced;
+            holds = holds;
+          });
       answer = says.Now place version;
       stored = None;
     }
 unfolding does load
-load_does g b words log hand done scanned standings r p place version seen newest holds there place_is version_is seen_is holds_is =
+load_does g b words log hand done scanned standings r p place version seen newest holds there
+    place_is version_is seen_is holds_is =
     let w = state_of g b words log hand done scanned standings in
     let whole : take seen log ≡ log = take_all seen log (omega arith) in
     ap (load w r) (reader_got log standings r (Some p) there)
     ∙ rw (← place_is, ← version_is, ← holds_is)
-    (ap (λ (xs : List Reader). Some record { state = record w { readers = xs }; answer = says.Now place version; stored = None })
-    (sym (map-set (reader_of log) standings r record { seen = seen; version = newest; announced = p.announced; holds = holds }
-    ∙ ap (λ (l : List Entry). set (map (reader_of log) standings) r record { seen = l; announced = p.announced; holds = holds }) whole)))
+    (ap (λ (xs : List Reader). Some record {
+      state = record w { readers = xs };
+      answer = says.Now place version;
+      stored = None;
+    })
+    (sym (map-set (reader_of log) standings r
+    record { seen = seen; version = newest; announced = p.announced; holds = holds }
+    ∙ ap (λ (l : List Entry). set (map (reader_of log) standings) r
+    record { seen = l; announced = p.announced; holds = holds }) whole)))
 
 -- a reader that holds nothing can't look at a position
-pub look_map_none : (w : State) (r p : ℕ) (held : Option ℕ) → held ≡ hold_of (slice_get w.readers r) → held ≡ None → does w (LookMap r p) ≡ None
+pub look_map_none : (w : State) (r p : ℕ) (held : Option ℕ) → held ≡ hold_of (slice_get w.readers r)
+    → held ≡ None → does w (LookMap r p) ≡ None
 unfolding does look_map
 look_map_none w r p held is none = ap (look_map w p) (sym is ∙ none)
 
 -- a reader can't look at a position that the map hasn't
-pub look_map_past : (w : State) (r p v : ℕ) (held : Option ℕ) → held ≡ hold_of (slice_get w.readers r) → held ≡ Some v → tiles w.base ≤ p → does w (LookMap r p) ≡ None
+pub look_map_past : (w : State) (r p v : ℕ) (held : Option ℕ)
+    → held ≡ hold_of (slice_get w.readers r) → held ≡ Some v → tiles w.base ≤ p
+    → does w (LookMap r p) ≡ None
 unfolding does look_map
 look_map_past w r p v held is some past =
-    ap (look_map w p) (sym is ∙ some) ∙ (let test : nat_lt p (tiles w.base) ≡ false = grind (arith, nat_tests) in rw test)
+    ap (look_map w p) (sym is ∙ some)
+    ∙ (let test : nat_lt p (tiles w.base) ≡ false = grind (arith, nat_tests) in rw test)
 
 -- a reader that holds a version and looks at a position gets the block there
-pub look_map_does : (w : State) (r p v block : ℕ) (held : Option ℕ) → held ≡ hold_of (slice_get w.readers r) → held ≡ Some v → p < tiles w.base
+pub look_map_does : (w : State) (r p v block : ℕ) (held : Option ℕ)
+    → held ≡ hold_of (slice_get w.readers r) → held ≡ Some v → p < tiles w.base
     → block ≡ get_or w.words (map_at w.base (slot_of w.base (story_of w) v) p) 0
     → does w (LookMap r p) ≡ Some record { state = w; answer = says.Block block; stored = None }
 unfolding does look_map
 look_map_does w r p v block held is some inside block_is =
-    ap (look_map w p) (sym is ∙ some) ∙ (let test : nat_lt p (tiles w.base) ≡ true = grind (arith, nat_tests) in rw (test, ← block_is))
+    ap (look_map w p) (sym is ∙ some)
+    ∙ (let test : nat_lt p (tiles w.base) ≡ true = grind (arith, nat_tests) in
+    rw (test, ← block_is))
 
 -- a version that a reader of a whole world holds is kept
-pub held_kept : (w : State) → IsWhole w → (r v : ℕ) (held : Option ℕ) → held ≡ hold_of (slice_get w.readers r) → held ≡ Some v → IsKept (story_of w) v
-held_kept w whole r v held is some = by_reader w whole r v (slice_get w.readers r) refl (sym is ∙ some)
+pub held_kept : (w : State) → IsWhole w → (r v : ℕ) (held : Option ℕ)
+    → held ≡ hold_of (slice_get w.readers r) → held ≡ Some v → IsKept (story_of w) v
+held_kept w whole r v held is some =
+    by_reader w whole r v (slice_get w.readers r) refl (sym is ∙ some)
   where
-    by_reader : (w : State) → IsWhole w → (r v : ℕ) (found : Option Reader) → slice_get w.readers r ≡ found → hold_of found ≡ Some v → IsKept (story_of w) v
+    by_reader : (w : State) → IsWhole w → (r v : ℕ) (found : Option Reader)
+        → slice_get w.readers r ≡ found → hold_of found ≡ Some v → IsKept (story_of w) v
     by_reader w whole r v None there holds = absurd (cc)
     by_reader w whole r v (Some x) there holds = ((whole.reader r x there).holds v holds).kept
 
@@ -202,29 +289,38 @@ pub record IsRead (w v : State) (tiles_here place word : ℕ) (words : List ℕ)
   pub within : place < length w.words
 
 -- the word that is read is that of its place in the world
-pub word_read : (w v : State) (tiles_here place word : ℕ) (words : List ℕ) → IsRead w v tiles_here place word words → word ≡ get_or w.words place 0
+pub word_read : (w v : State) (tiles_here place word : ℕ) (words : List ℕ)
+    → IsRead w v tiles_here place word words → word ≡ get_or w.words place 0
 word_read w v tiles_here place word words h =
     let words_same : w.words ≡ words = sym (ap (λ (x : State). x.words) h.same) ∙ h.words_are in
-    get_or_read w.words place word h.within (h.read ∙ sym (ap (λ (xs : List ℕ). get_or xs place word) words_same)) 0
+    get_or_read w.words place word h.within
+    (h.read ∙ sym (ap (λ (xs : List ℕ). get_or xs place word) words_same)) 0
 
 -- the number of tiles that is read is that of the world
-pub tiles_read : (w v : State) (tiles_here : ℕ) → v ≡ w → tiles_here ≡ tiles v.base → tiles_here ≡ tiles w.base
+pub tiles_read : (w v : State) (tiles_here : ℕ) → v ≡ w → tiles_here ≡ tiles v.base
+    → tiles_here ≡ tiles w.base
 tiles_read w v tiles_here same count = count ∙ ap (λ (x : State). tiles x.base) same
 
 -- a block that a word of a kept version's slot has is mapped
-pub is_mapped_found : (w : State) → IsWhole w → (v p block : ℕ) → IsKept (story_of w) v → p < tiles w.base
-    → get_or w.words (map_at w.base (slot_of w.base (story_of w) v) p) 0 ≡ block → true ≡ is_mapped (blocks_of_state w) v block
+pub is_mapped_found : (w : State) → IsWhole w → (v p block : ℕ) → IsKept (story_of w) v
+    → p < tiles w.base
+    → get_or w.words (map_at w.base (slot_of w.base (story_of w) v) p) 0 ≡ block
+    → true ≡ is_mapped (blocks_of_state w) v block
 unfolding is_mapped
 is_mapped_found w whole v p block is_kept inside is =
     let tidy = IsTidy-legal w.base w.keeper.log whole.ready whole.keeper.legal in
     let shows = whole.keeper.shows v is_kept in
     let long = tidy.shape.directory v (tidy.slots.published v is_kept) in
-    let at : get_or (directory_of (blocks_of_state w) v) p 0 ≡ block = sym (shows.mapped p inside) ∙ is in
-    sym (list_any_at (λ b. b == block) (directory_of (blocks_of_state w) v) p 0 (omega arith) (eq-eqb (get_or (directory_of (blocks_of_state w) v) p 0) block at))
+    let at : get_or (directory_of (blocks_of_state w) v) p 0 ≡ block = sym (shows.mapped p inside)
+    ∙ is in
+    sym (list_any_at (λ b. b == block) (directory_of (blocks_of_state w) v) p 0 (omega arith)
+    (eq-eqb (get_or (directory_of (blocks_of_state w) v) p 0) block at))
 
 -- a block that no word of a kept version's slot has is not mapped
 pub is_mapped_none : (w : State) → IsWhole w → (v block : ℕ) → IsKept (story_of w) v
-    → ((p : ℕ) → p < tiles w.base → get_or w.words (map_at w.base (slot_of w.base (story_of w) v) p) 0 ≡ block → ⊥) → false ≡ is_mapped (blocks_of_state w) v block
+    → ((p : ℕ) → p < tiles w.base
+    → get_or w.words (map_at w.base (slot_of w.base (story_of w) v) p) 0 ≡ block → ⊥)
+    → false ≡ is_mapped (blocks_of_state w) v block
 unfolding is_mapped
 is_mapped_none w whole v block is_kept none =
     let tidy = IsTidy-legal w.base w.keeper.log whole.ready whole.keeper.legal in
@@ -232,10 +328,12 @@ is_mapped_none w whole v block is_kept none =
     let long = tidy.shape.directory v (tidy.slots.published v is_kept) in
     sym (list_any_none (λ b. b == block) (directory_of (blocks_of_state w) v) (λ p d h.
     ne_eqb (get_or (directory_of (blocks_of_state w) v) p d) block
-    (λ same. none p (omega arith) (shows.mapped p (omega arith) ∙ (get_or_default (directory_of (blocks_of_state w) v) p 0 d h ∙ same)))))
+    (λ same. none p (omega arith) (shows.mapped p (omega arith)
+    ∙ (get_or_default (directory_of (blocks_of_state w) v) p 0 d h ∙ same)))))
 
 -- a block that a kept version maps is one of the map's
-pub mapped_small : (w : State) → IsWhole w → (v block : ℕ) → IsKept (story_of w) v → is_mapped (blocks_of_state w) v block ≡ true → block < w.base.setting.blocks
+pub mapped_small : (w : State) → IsWhole w → (v block : ℕ) → IsKept (story_of w) v
+    → is_mapped (blocks_of_state w) v block ≡ true → block < w.base.setting.blocks
 unfolding is_mapped
 mapped_small w whole v block is_kept is =
     let tidy = IsTidy-legal w.base w.keeper.log whole.ready whole.keeper.legal in
@@ -243,7 +341,8 @@ mapped_small w whole v block is_kept is =
     let long = tidy.shape.directory v (tidy.slots.published v is_kept) in
     let place = found.0 in
     let inside = found.2 in
-    let within = block_within w.base (story_of w) (blocks_of_state w) tidy v place is_kept (omega arith) in
+    let within = block_within w.base (story_of w) (blocks_of_state w) tidy v place is_kept
+    (omega arith) in
     let same : found.1 ≡ block = that_number found.1 block found.4 in
     let at = get_or_default (directory_of (blocks_of_state w) v) place 0 found.1 inside ∙ found.3 in
     omega arith
@@ -252,25 +351,31 @@ mapped_small w whole v block is_kept is =
     that_number a b is = grind (arith, nat_tests)
 
 -- a reader that holds nothing can't look at a row
-pub look_tile_none : (w : State) (r b i : ℕ) (held : Option ℕ) → held ≡ hold_of (slice_get w.readers r) → held ≡ None → does w (LookTile r b i) ≡ None
+pub look_tile_none : (w : State) (r b i : ℕ) (held : Option ℕ)
+    → held ≡ hold_of (slice_get w.readers r) → held ≡ None → does w (LookTile r b i) ≡ None
 unfolding does look_tile
 look_tile_none w r b i held is none = ap (look_tile w b i) (sym is ∙ none)
 
 -- a reader can't look at a row that there isn't, or at one of a block that isn't mapped
-pub look_tile_past : (w : State) (r b i v : ℕ) (held : Option ℕ) → held ≡ hold_of (slice_get w.readers r) → held ≡ Some v
+pub look_tile_past : (w : State) (r b i v : ℕ) (held : Option ℕ)
+    → held ≡ hold_of (slice_get w.readers r) → held ≡ Some v
     → (is_mapped (blocks_of_state w) v b && nat_lt i 64) ≡ false → does w (LookTile r b i) ≡ None
 unfolding does look_tile
 look_tile_past w r b i v held is some test = ap (look_tile w b i) (sym is ∙ some) ∙ rw test
 
 -- a reader that holds a version and looks at a row of a mapped block gets the row's word
-pub look_tile_does : (w : State) (r b i v word : ℕ) (held : Option ℕ) → held ≡ hold_of (slice_get w.readers r) → held ≡ Some v
-    → (is_mapped (blocks_of_state w) v b && nat_lt i 64) ≡ true → word ≡ get_or w.words (tile_at w.base b i) 0
+pub look_tile_does : (w : State) (r b i v word : ℕ) (held : Option ℕ)
+    → held ≡ hold_of (slice_get w.readers r) → held ≡ Some v
+    → (is_mapped (blocks_of_state w) v b && nat_lt i 64) ≡ true
+    → word ≡ get_or w.words (tile_at w.base b i) 0
     → does w (LookTile r b i) ≡ Some record { state = w; answer = says.Word word; stored = None }
 unfolding does look_tile
-look_tile_does w r b i v word held is some test word_is = ap (look_tile w b i) (sym is ∙ some) ∙ rw (test, ← word_is)
+look_tile_does w r b i v word held is some test word_is =
+    ap (look_tile w b i) (sym is ∙ some) ∙ rw (test, ← word_is)
 
 -- a word of a block is one of the words
-pub tile_in_words : (w : State) → IsWhole w → (b i place : ℕ) → place ≡ tile_at w.base b i → b < w.base.setting.blocks → i < 64 → place < length w.words
+pub tile_in_words : (w : State) → IsWhole w → (b i place : ℕ) → place ≡ tile_at w.base b i
+    → b < w.base.setting.blocks → i < 64 → place < length w.words
 tile_in_words w whole b i place is hb hi =
     let within = tile-within w.base b i hb hi in
     let sized = whole.keeper.sized in

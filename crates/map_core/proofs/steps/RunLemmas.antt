@@ -1,5 +1,6 @@
 -- A list of events is done one event at a time.
-use Rattle.std.proofs.Common.{◌≡◌, ℕ, ◌+◌, ◌<◌, List, [], ◌∷◌, ◌++◌, length, take, get_or, refl, ap, subst, sym, ◌∙◌, arith}
+use Rattle.std.proofs.Common.{◌≡◌, ℕ, ◌+◌, ◌<◌, List, [], ◌∷◌, ◌++◌, length, take, get_or, refl, ap}
+use Rattle.std.proofs.Common.{subst, sym, ◌∙◌, arith}
 use Rattle.std.specs.Prelude.{Result}
 use Rattle.std.proofs.lemmas.List.{length-append, take_more}
 use Rattle.map_core.specs.declared.event.Event.{Event}
@@ -9,20 +10,30 @@ use Rattle.map_core.specs.Views.{State}
 use Rattle.map_core.specs.Runs.{SafeStep, IsRun}
 
 -- one event after a run makes a run of all the events
-pub run-push : (old mid new : State) (events : List Event) (answers : List (Result StepReply NotEnabled)) (e : Event) (a : Result StepReply NotEnabled) → IsRun old events answers mid → SafeStep mid e a new
+pub run-push : (old mid new : State) (events : List Event)
+    (answers : List (Result StepReply NotEnabled)) (e : Event) (a : Result StepReply NotEnabled)
+    → IsRun old events answers mid → SafeStep mid e a new
     → IsRun old (events ++ e ∷ []) (answers ++ a ∷ []) new
-run-push old mid new [] [] e a is step = (new, subst (λ (w : State). SafeStep w e a new) is step, refl)
+run-push old mid new [] [] e a is step =
+    (new, subst (λ (w : State). SafeStep w e a new) is step, refl)
 run-push old mid new [] (b ∷ answers) e a is step = absurd is
 run-push old mid new (f ∷ events) [] e a is step = absurd is
-run-push old mid new (f ∷ events) (b ∷ answers) e a is step = (is.0, is.1, run-push is.0 mid new events answers e a is.2 step)
+run-push old mid new (f ∷ events) (b ∷ answers) e a is step =
+    (is.0, is.1, run-push is.0 mid new events answers e a is.2 step)
 
 -- a run of the first events of a list and the next event are a run of one more event
-pub run_next : (old mid new : State) (events : List Event) (i : ℕ) (answers : List (Result StepReply NotEnabled)) (e : Event) (a : Result StepReply NotEnabled) → IsRun old (take i events) answers mid → i < length events → e ≡ get_or events i e → SafeStep mid e a new
+pub run_next : (old mid new : State) (events : List Event) (i : ℕ)
+    (answers : List (Result StepReply NotEnabled)) (e : Event) (a : Result StepReply NotEnabled)
+    → IsRun old (take i events) answers mid → i < length events → e ≡ get_or events i e
+    → SafeStep mid e a new
     → IsRun old (take (i + 1) events) (answers ++ a ∷ []) new
 run_next old mid new events i answers e a is h read step =
-    let here : take (i + 1) events ≡ take i events ++ e ∷ [] = take_more events i e h ∙ ap (λ (f : Event). take i events ++ f ∷ []) (sym read) in
-    subst (λ (es : List Event). IsRun old es (answers ++ a ∷ []) new) (sym here) (run-push old mid new (take i events) answers e a is step)
+    let here : take (i + 1) events ≡ take i events ++ e ∷ [] = take_more events i e h
+    ∙ ap (λ (f : Event). take i events ++ f ∷ []) (sym read) in
+    subst (λ (es : List Event). IsRun old es (answers ++ a ∷ []) new) (sym here)
+    (run-push old mid new (take i events) answers e a is step)
 
 -- a list of answers with another at its end is longer by one
-pub answers_more : (answers : List (Result StepReply NotEnabled)) (a : Result StepReply NotEnabled) (i : ℕ) → length answers ≡ i → length (answers ++ a ∷ []) ≡ i + 1
+pub answers_more : (answers : List (Result StepReply NotEnabled)) (a : Result StepReply NotEnabled)
+    (i : ℕ) → length answers ≡ i → length (answers ++ a ∷ []) ≡ i + 1
 answers_more answers a i is = omega (arith, length-append answers (a ∷ []))

@@ -4,7 +4,8 @@ ghost use Rattle.std.specs.Prelude.{◌≡◌, ◌<◌, [], ◌∷◌, ◌++◌,
 ghost use Rattle.map_core.specs.Runs.{SafeStep};
 ghost use Rattle.map_core.specs.declared.event.Event.TheVariants.{Keep};
 ghost use Rattle.map_core.specs.declared.event.StepReply.TheVariants.{Committed};
-ghost use Rattle.map_core.specs.declared.command.Command.TheVariants.{Publish, Revert, Collect, Checkpoint};
+ghost use Rattle.map_core.specs.declared.command.Command.TheVariants.{Publish, Revert, Collect};
+ghost use Rattle.map_core.specs.declared.command.Command.TheVariants.{Checkpoint};
 ghost use Rattle.map_core.specs.Ledger.{HasNowRoom};
 ghost use Rattle.map_core.specs.Words.{now_word};
 ghost use Rattle.map_core.specs.Consistent.{IsLastOf, IsDrawing};

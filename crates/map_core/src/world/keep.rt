@@ -34,8 +34,11 @@ impl World {
     fn map_word(&self, position: u32) -> (usize, u64)
         requires accepted { refused self.now.base.setting (story_of self.now) Publish ≡ None }
         requires inside { position < tiles self.now.base }
-        ensures place { result.0 ≡ (map_write self.now.base (story_of self.now) (blocks_of_state self.now) position).at }
-        ensures word { result.1 ≡ (map_write self.now.base (story_of self.now) (blocks_of_state self.now) position).word }
+        ensures place { result.0
+            ≡ (map_write self.now.base (story_of self.now) (blocks_of_state self.now) position).at }
+        ensures word { result.1
+            ≡ (map_write self.now.base (story_of self.now)
+            (blocks_of_state self.now) position).word }
         ensures within { result.0 < length self.now.words }
     {
         let place = self.next_map_at(position);
@@ -49,8 +52,11 @@ impl World {
     /// The index of a word of the draft's own blocks, and the word.
     fn tile_word(&self, number: usize) -> (usize, u64)
         requires { number < tile_steps (blocks_of_state self.now) }
-        ensures place { result.0 ≡ (tile_write self.now.base (story_of self.now) (blocks_of_state self.now) number).at }
-        ensures word { result.1 ≡ (tile_write self.now.base (story_of self.now) (blocks_of_state self.now) number).word }
+        ensures place { result.0
+            ≡ (tile_write self.now.base (story_of self.now) (blocks_of_state self.now) number).at }
+        ensures word { result.1
+            ≡ (tile_write self.now.base (story_of self.now)
+            (blocks_of_state self.now) number).word }
         ensures within { result.0 < length self.now.words }
     {
         let Some((position, block)) = nth_own(self.own.as_slice(), number / 64) else {
@@ -68,8 +74,10 @@ impl World {
     fn next_word(&self, number: usize) -> (usize, u64)
         requires accepted { refused self.now.base.setting (story_of self.now) Publish ≡ None }
         requires below { number < steps_before self.now.base (blocks_of_state self.now) Publish }
-        ensures place { result.0 ≡ (write_of self.now.base (story_of self.now) (blocks_of_state self.now) number).at }
-        ensures word { result.1 ≡ (write_of self.now.base (story_of self.now) (blocks_of_state self.now) number).word }
+        ensures place { result.0
+            ≡ (write_of self.now.base (story_of self.now) (blocks_of_state self.now) number).at }
+        ensures word { result.1
+            ≡ (write_of self.now.base (story_of self.now) (blocks_of_state self.now) number).word }
         ensures within { result.0 < length self.now.words }
     {
         let rows = 64 * count_own(self.own.as_slice());

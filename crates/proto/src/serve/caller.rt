@@ -46,7 +46,10 @@ impl<Id: StoreName> Model for Caller<Id> {
 
     ghost Value = { CallerValue };
 
-    ghost view = { λ c. elim c.seat as (λ _. CallerValue) [ Free session ↦ free session | Holding pinned ↦ record { seat = leaving pinned.seat; pin = Some pinned.version } ] };
+    ghost view = { λ c. elim c.seat as (λ _. CallerValue) [
+      | Free session ↦ free session
+      | Holding pinned ↦ record { seat = leaving pinned.seat; pin = Some pinned.version }
+    ] };
 }
 
 impl<Id: StoreName> Caller<Id> {
@@ -83,7 +86,8 @@ impl<Id: StoreName> Caller<Id> {
     /// Answers a query of the pinned version.
     pub fn query(&mut self, alloc: Global, query: &Query) -> Answer
         ensures caller { self.new ≡ self.old }
-        ensures answer { WithPin (λ _. IsQueryAnswer Id.store (asked_by query.now) self.old result self.old) self.old result self.old }
+        ensures answer { WithPin (λ _. IsQueryAnswer Id.store
+            (asked_by query.now) self.old result self.old) self.old result self.old }
     {
         match &mut self.seat {
             Seat::Free(_) => Answer::Refused(Refusal::NotPinned),

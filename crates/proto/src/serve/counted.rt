@@ -1,6 +1,7 @@
 //! The bytes that a line counts; they follow it.
 
-ghost use Rattle.std.specs.Prelude.{◌≡◌, ◌<◌, ◌≤◌, [], length, vec_capacity, None, Some, IfOk, IfErr, OnOk};
+ghost use Rattle.std.specs.Prelude.{◌≡◌, ◌<◌, ◌≤◌, [], length, vec_capacity, None, Some, IfOk};
+ghost use Rattle.std.specs.Prelude.{IfErr, OnOk};
 ghost use Rattle.proto.specs.Served.{HasCounted, HasPassed, IsCutOff, IsCutShort};
 ghost use Rattle.proto.specs.Wire.{CanGoOn};
 
@@ -19,8 +20,10 @@ pub type Counted = Result<Vec<u8>, AllocError>;
 /// last of them, returns how.
 pub fn read_counted<S: Stream>(alloc: Global, stream: &mut S, count: u32) -> Result<Counted, End>
     requires { CanGoOn (S.wire stream.old) }
-    ensures counted { IfOk result (λ kept. HasCounted count kept (S.wire stream.old) (S.wire stream.new)) }
-    ensures cut { IfErr result (λ end. IsCutShort count end (S.wire stream.old) (S.wire stream.new)) }
+    ensures counted { IfOk result
+        (λ kept. HasCounted count kept (S.wire stream.old) (S.wire stream.new)) }
+    ensures cut { IfErr result
+        (λ end. IsCutShort count end (S.wire stream.old) (S.wire stream.new)) }
 {
     match Vec::with_capacity(alloc, count as usize) {
         Ok(room) => keep(stream, room, count),
@@ -33,8 +36,10 @@ fn keep<S: Stream>(stream: &mut S, room: Vec<u8>, count: u32) -> Result<Counted,
     requires stream { CanGoOn (S.wire stream.old) }
     requires room { count ≤ vec_capacity room }
     requires empty { room.items ≡ [] }
-    ensures counted { IfOk result (λ kept. HasCounted count kept (S.wire stream.old) (S.wire stream.new)) }
-    ensures cut { IfErr result (λ end. IsCutShort count end (S.wire stream.old) (S.wire stream.new)) }
+    ensures counted { IfOk result
+        (λ kept. HasCounted count kept (S.wire stream.old) (S.wire stream.new)) }
+    ensures cut { IfErr result
+        (λ end. IsCutShort count end (S.wire stream.old) (S.wire stream.new)) }
 {
     let (mut bytes, count) = (room, count as usize);
     'takes: while bytes.len() < count {
@@ -49,8 +54,10 @@ fn keep<S: Stream>(stream: &mut S, room: Vec<u8>, count: u32) -> Result<Counted,
 /// Reads `count` bytes and drops them, since an allocation was refused.
 fn skip<S: Stream>(stream: &mut S, count: u32, refused: AllocError) -> Result<Counted, End>
     requires { CanGoOn (S.wire stream.old) }
-    ensures counted { IfOk result (λ kept. HasCounted count kept (S.wire stream.old) (S.wire stream.new)) }
-    ensures cut { IfErr result (λ end. IsCutShort count end (S.wire stream.old) (S.wire stream.new)) }
+    ensures counted { IfOk result
+        (λ kept. HasCounted count kept (S.wire stream.old) (S.wire stream.new)) }
+    ensures cut { IfErr result
+        (λ end. IsCutShort count end (S.wire stream.old) (S.wire stream.new)) }
 {
     let mut left = count as usize;
     'passes: while left > 0 {
@@ -63,7 +70,8 @@ fn skip<S: Stream>(stream: &mut S, count: u32, refused: AllocError) -> Result<Co
 fn pass_over<S: Stream>(stream: &mut S, most: usize) -> Result<usize, End>
     requires wire { CanGoOn (S.wire stream.old) }
     requires some { 0 < most }
-    ensures passed { IfOk result (λ count. HasPassed count (S.wire stream.old) (S.wire stream.new)) }
+    ensures passed { IfOk result
+        (λ count. HasPassed count (S.wire stream.old) (S.wire stream.new)) }
     ensures within { IfOk result (λ count. count ≤ most) }
     ensures cut { IfErr result (λ end. IsCutOff end (S.wire stream.old) [] (S.wire stream.new)) }
 {

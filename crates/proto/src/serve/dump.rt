@@ -48,7 +48,8 @@ fn put_dump<S: Stream>(
     requires wire { CanGoOn (S.wire stream.old) }
     requires first { piece.old.items ≡ front_text Plain bitmap.now }
     requires room { 65536 ≤ vec_capacity piece.old }
-    ensures { HasPut result (S.wire stream.old) (reply_line answer.now ++ plain_text bitmap.now) (S.wire stream.new) }
+    ensures { HasPut result (S.wire stream.old) (reply_line answer.now ++ plain_text bitmap.now)
+        (S.wire stream.new) }
 {
     say(stream, text, answer)?;
     put(stream, piece.as_slice())?;
@@ -64,7 +65,8 @@ fn put_rows<S: Stream>(
     requires wire { CanGoOn (S.wire stream.old) }
     requires room { 65536 ≤ vec_capacity piece.old }
     ensures { HasPut result (S.wire stream.old)
-        (flat_map (plain_digit bitmap.now) (range_with_len 0 (bitmap.now.height * bitmap.now.width))) (S.wire stream.new) }
+        (flat_map (plain_digit bitmap.now)
+        (range_with_len 0 (bitmap.now.height * bitmap.now.width))) (S.wire stream.new) }
 {
     let height = bitmap.height();
     let mut y = 0;

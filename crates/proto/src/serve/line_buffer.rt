@@ -1,6 +1,7 @@
 //! The buffer of a line, read a part at a time.
 
-ghost use Rattle.std.specs.Prelude.{◌≡◌, ◌∷◌, ◌++◌, ◌+◌, ◌<◌, ◌≤◌, [], length, IfOk, IfErr, OnOk, OnErr};
+ghost use Rattle.std.specs.Prelude.{◌≡◌, ◌∷◌, ◌++◌, ◌+◌, ◌<◌, ◌≤◌, [], length, IfOk, IfErr, OnOk};
+ghost use Rattle.std.specs.Prelude.{OnErr};
 ghost use Rattle.proto.specs.Exchanges.{IsLine};
 ghost use Rattle.metric.specs.Stream.{StopsAt};
 ghost use Rattle.proto.specs.Served.{IsCutOff, IsKept, IsLinePart, IsLineStop};
@@ -55,8 +56,10 @@ impl LineBuffer {
     pub fn read<S: Stream>(&mut self, stream: &mut S) -> Result<(), End>
         requires { CanGoOn (S.wire stream.old) }
         ensures line { OnOk result (IsLine self.new) }
-        ensures bytes { OnOk result (HasRead 0 (S.wire stream.old) (self.new ++ 10 ∷ []) (S.wire stream.new)) }
-        ensures stop { IfErr result (λ end. IsLineStop end (S.wire stream.old) self.new (S.wire stream.new)) }
+        ensures bytes { OnOk result
+            (HasRead 0 (S.wire stream.old) (self.new ++ 10 ∷ []) (S.wire stream.new)) }
+        ensures stop { IfErr result
+            (λ end. IsLineStop end (S.wire stream.old) self.new (S.wire stream.new)) }
     {
         self.bytes.clear();
         'parts: while self.bytes.len() < MOST_BYTES {
@@ -71,9 +74,11 @@ impl LineBuffer {
     fn read_part<S: Stream>(&mut self, stream: &mut S) -> Result<bool, End>
         requires wire { CanGoOn (S.wire stream.old) }
         requires room { length self.old < 16385 }
-        ensures part { IfOk result (λ ends. IsLinePart ends self.old (S.wire stream.old) self.new (S.wire stream.new)) }
+        ensures part { IfOk result
+            (λ ends. IsLinePart ends self.old (S.wire stream.old) self.new (S.wire stream.new)) }
         ensures kept { OnErr result (self.new ≡ self.old) }
-        ensures stop { IfErr result (λ end. IsCutOff end (S.wire stream.old) [] (S.wire stream.new)) }
+        ensures stop { IfErr result
+            (λ end. IsCutOff end (S.wire stream.old) [] (S.wire stream.new)) }
     {
         let mut block = [0; PART];
         let most = (MOST_BYTES - self.bytes.len()).min(PART);

@@ -59,7 +59,8 @@ impl<'a, Id: StoreName, R: Wait> Service<'a, Id, R> {
         stream: &mut S,
     ) -> (Caller<Id>, Option<End>)
         requires { CanGoOn (S.wire stream.old) }
-        ensures { IsServed Id.store result.1 (S.wire stream.old) caller (S.wire stream.new) result.0 }
+        ensures { IsServed Id.store result.1 (S.wire stream.old) caller
+            (S.wire stream.new) result.0 }
     {
         match self.line.read(stream) {
             Ok(()) => {
@@ -131,7 +132,8 @@ impl<'a, Id: StoreName, R: Wait> Service<'a, Id, R> {
         stream: &mut S,
     ) -> (Caller<Id>, Option<End>)
         requires { CanGoOn (S.wire stream.old) }
-        ensures { (before : Wire) → HasHeard before (Ok (saids.stamp x y length)) (S.wire stream.old)
+        ensures { (before : Wire)
+            → HasHeard before (Ok (saids.stamp x y length)) (S.wire stream.old)
             → IsServed Id.store result.1 before caller (S.wire stream.new) result.0 }
     {
         if length > MOST_COUNTED {
@@ -150,7 +152,8 @@ impl<'a, Id: StoreName, R: Wait> Service<'a, Id, R> {
 
     /// Answers a stamp whose image is at the front of the bytes kept.
     fn stamp(&self, caller: Caller<Id>, x: u16, y: u16, kept: Counted) -> (Caller<Id>, Answer)
-        ensures { (bytes : List ℕ) → AreKept kept bytes → IsStampAnswer Id.store x y bytes caller result.1 result.0 }
+        ensures { (bytes : List ℕ) → AreKept kept bytes
+            → IsStampAnswer Id.store x y bytes caller result.1 result.0 }
     {
         let bytes = match kept {
             Ok(bytes) => bytes,

@@ -14,7 +14,8 @@ use metric::{ReadFault, Stream, WriteFault};
 pub fn take_block<S: Stream>(stream: &mut S, block: &mut [u8]) -> Result<usize, End>
     requires wire { CanGoOn (S.wire stream.old) }
     requires place { 0 < length block.old }
-    ensures taken { IfOk result (λ count. HasTaken count block.new (S.wire stream.old) (S.wire stream.new)) }
+    ensures taken { IfOk result
+        (λ count. HasTaken count block.new (S.wire stream.old) (S.wire stream.new)) }
     ensures cut { IfErr result (λ end. IsCutOff end (S.wire stream.old) [] (S.wire stream.new)) }
 {
     some_of(stream.next_block(block))
@@ -24,7 +25,8 @@ pub fn take_block<S: Stream>(stream: &mut S, block: &mut [u8]) -> Result<usize, 
 pub fn take_until<S: Stream>(stream: &mut S, stop: u8, block: &mut [u8]) -> Result<usize, End>
     requires wire { CanGoOn (S.wire stream.old) }
     requires place { 0 < length block.old }
-    ensures taken { IfOk result (λ count. HasTaken count block.new (S.wire stream.old) (S.wire stream.new)) }
+    ensures taken { IfOk result
+        (λ count. HasTaken count block.new (S.wire stream.old) (S.wire stream.new)) }
     ensures stops { IfOk result (λ count. StopsAt stop count block.new) }
     ensures cut { IfErr result (λ end. IsCutOff end (S.wire stream.old) [] (S.wire stream.new)) }
 {
@@ -35,7 +37,8 @@ pub fn take_until<S: Stream>(stream: &mut S, stop: u8, block: &mut [u8]) -> Resu
 /// ends.
 fn some_of(taken: Result<usize, ReadFault>) -> Result<usize, End>
     ensures some { IfOk result (λ count. (taken ≡ Ok count) × (0 < count)) }
-    ensures none { IfErr result (λ end. ((end ≡ EndOfInput) × (taken ≡ Ok 0)) ⊎ ((end ≡ ReadFailed) × IsErr taken)) }
+    ensures none { IfErr result (λ end. ((end ≡ EndOfInput) × (taken ≡ Ok 0))
+        ⊎ ((end ≡ ReadFailed) × IsErr taken)) }
 {
     match taken {
         Ok(0) => Err(End::EndOfInput),

@@ -1,7 +1,8 @@
 //! The commands of a pin are those of its session. The pin keeps its version and its bitmap.
 
 ghost use Rattle.std.specs.Prelude.{◌≡◌, IfErr};
-ghost use Rattle.map_core.specs.declared.command.Command.TheVariants.{Paint, Stamp, Publish, Revert, Collect, Checkpoint};
+ghost use Rattle.map_core.specs.declared.command.Command.TheVariants.{Paint, Stamp, Publish};
+ghost use Rattle.map_core.specs.declared.command.Command.TheVariants.{Revert, Collect, Checkpoint};
 ghost use Rattle.desk.specs.Desks.{outcome_of};
 ghost use Rattle.session.specs.Sessions.{IsPinApplied};
 
@@ -20,7 +21,8 @@ impl<Id: StoreName> Pinned<Id> {
         desk: &mut Desk<Id>,
         command: Command,
     ) -> Result<Reply, (Command, Refusal)>
-        ensures applied { IsPinApplied Id.store desk.old self.old command (outcome_of result) desk.new self.new }
+        ensures applied { IsPinApplied Id.store desk.old self.old command
+            (outcome_of result) desk.new self.new }
         ensures back { IfErr result (λ back. back.0 ≡ command) }
     {
         desk.apply(&mut self.seat, command)
@@ -28,7 +30,8 @@ impl<Id: StoreName> Pinned<Id> {
 
     /// Sets the cells of a rectangle of the draft to one value, as `Desk::paint` does.
     pub fn paint(&mut self, desk: &mut Desk<Id>, rect: Rect, black: bool) -> Result<Reply, Refusal>
-        ensures { IsPinApplied Id.store desk.old self.old (Paint rect black) result desk.new self.new }
+        ensures { IsPinApplied Id.store desk.old self.old
+            (Paint rect black) result desk.new self.new }
     {
         answered(self.apply(desk, Command::Paint { rect, black }))
     }
@@ -41,7 +44,8 @@ impl<Id: StoreName> Pinned<Id> {
         y: u16,
         bitmap: Bitmap,
     ) -> Result<Reply, (Bitmap, Refusal)>
-        ensures applied { IsPinApplied Id.store desk.old self.old (Stamp x y bitmap) (outcome_of result) desk.new self.new }
+        ensures applied { IsPinApplied Id.store desk.old self.old (Stamp x y bitmap)
+            (outcome_of result) desk.new self.new }
         ensures back { IfErr result (λ back. back.0 ≡ bitmap) }
     {
         stamp_answered(self.apply(desk, Command::Stamp { x, y, bitmap }))

@@ -4,7 +4,8 @@ ghost use Rattle.std.specs.Prelude.{◌≡◌, None, IfOk, IfErr};
 ghost use Rattle.metric.specs.Nearest.{IsNear};
 ghost use Rattle.bits.specs.Cells.{IsInside};
 ghost use Rattle.bits.specs.Edges.{IsBlocked};
-ghost use Rattle.clearance.specs.Answers.{IsClearOf, IsLeastOf, IsRefusalFor, LiesIn, cells_of_rect};
+ghost use Rattle.clearance.specs.Answers.{IsClearOf, IsLeastOf, IsRefusalFor, LiesIn};
+ghost use Rattle.clearance.specs.Answers.{cells_of_rect};
 ghost use Rattle.clearance.specs.Paths.{IsPathRefusal, cells_of_path, path_refusal};
 ghost use Rattle.session.specs.Sessions.{bitmap_pinned};
 
@@ -20,11 +21,14 @@ impl<Id: StoreName> Pinned<Id> {
     /// Refuses only a cell outside the map (`OutOfRange`). It allocates no memory.
     pub fn at<M: Metric>(&mut self, alloc: Global, cell: Cell) -> Result<Option<Near>, Refusal>
         ensures pin { self.new ≡ self.old }
-        ensures inside { IfOk result (λ _. IsInside (bitmap_pinned Id.store self.old) cell.x cell.y) }
+        ensures inside { IfOk result
+            (λ _. IsInside (bitmap_pinned Id.store self.old) cell.x cell.y) }
         ensures near { IfOk result
-            (λ near. IsNear M.distance (IsBlocked (bitmap_pinned Id.store self.old) Id.store.base.setting.edge) cell.x cell.y
+            (λ near. IsNear M.distance
+            (IsBlocked (bitmap_pinned Id.store self.old) Id.store.base.setting.edge) cell.x cell.y
             near) }
-        ensures refused { IfErr result (IsRefusalFor (IsInside (bitmap_pinned Id.store self.old) cell.x cell.y)) }
+        ensures refused { IfErr result
+            (IsRefusalFor (IsInside (bitmap_pinned Id.store self.old) cell.x cell.y)) }
     {
         let edge = self.edge();
         if self.is_read() {
@@ -47,8 +51,10 @@ impl<Id: StoreName> Pinned<Id> {
         ensures pin { self.new ≡ self.old }
         ensures inside { IfOk result (λ _. LiesIn (bitmap_pinned Id.store self.old) rect) }
         ensures least { IfOk result (IsLeastOf M.distance (IsBlocked
-            (bitmap_pinned Id.store self.old) Id.store.base.setting.edge) (cells_of_rect rect.x0 rect.y0 rect.x1 rect.y1)) }
-        ensures refused { IfErr result (IsRefusalFor (LiesIn (bitmap_pinned Id.store self.old) rect)) }
+            (bitmap_pinned Id.store self.old) Id.store.base.setting.edge)
+            (cells_of_rect rect.x0 rect.y0 rect.x1 rect.y1)) }
+        ensures refused { IfErr result
+            (IsRefusalFor (LiesIn (bitmap_pinned Id.store self.old) rect)) }
     {
         let edge = self.edge();
         if self.is_read() {
@@ -70,10 +76,13 @@ impl<Id: StoreName> Pinned<Id> {
         points: &[Cell],
     ) -> Result<Option<(Cell, Near)>, Refusal>
         ensures pin { self.new ≡ self.old }
-        ensures accepted { IfOk result (λ _. path_refusal (bitmap_pinned Id.store self.old) points.now ≡ None) }
+        ensures accepted { IfOk result
+            (λ _. path_refusal (bitmap_pinned Id.store self.old) points.now ≡ None) }
         ensures least { IfOk result (IsLeastOf M.distance (IsBlocked
-            (bitmap_pinned Id.store self.old) Id.store.base.setting.edge) (cells_of_path points.now)) }
-        ensures refused { IfErr result (IsPathRefusal (bitmap_pinned Id.store self.old) points.now) }
+            (bitmap_pinned Id.store self.old) Id.store.base.setting.edge)
+            (cells_of_path points.now)) }
+        ensures refused { IfErr result
+            (IsPathRefusal (bitmap_pinned Id.store self.old) points.now) }
     {
         let edge = self.edge();
         if self.is_read() {
@@ -93,10 +102,13 @@ impl<Id: StoreName> Pinned<Id> {
         d: u32,
     ) -> Result<Option<(Cell, Near)>, Refusal>
         ensures pin { self.new ≡ self.old }
-        ensures accepted { IfOk result (λ _. path_refusal (bitmap_pinned Id.store self.old) points.now ≡ None) }
+        ensures accepted { IfOk result
+            (λ _. path_refusal (bitmap_pinned Id.store self.old) points.now ≡ None) }
         ensures clear { IfOk result (IsClearOf M.distance (IsBlocked
-            (bitmap_pinned Id.store self.old) Id.store.base.setting.edge) (cells_of_path points.now) d) }
-        ensures refused { IfErr result (IsPathRefusal (bitmap_pinned Id.store self.old) points.now) }
+            (bitmap_pinned Id.store self.old) Id.store.base.setting.edge)
+            (cells_of_path points.now) d) }
+        ensures refused { IfErr result
+            (IsPathRefusal (bitmap_pinned Id.store self.old) points.now) }
     {
         let edge = self.edge();
         if self.is_read() {

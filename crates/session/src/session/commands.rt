@@ -1,7 +1,8 @@
 //! The commands of a session.
 
 ghost use Rattle.std.specs.Prelude.{◌≡◌, IfErr};
-ghost use Rattle.map_core.specs.declared.command.Command.TheVariants.{Paint, Stamp, Publish, Revert, Collect, Checkpoint};
+ghost use Rattle.map_core.specs.declared.command.Command.TheVariants.{Paint, Stamp, Publish};
+ghost use Rattle.map_core.specs.declared.command.Command.TheVariants.{Revert, Collect, Checkpoint};
 ghost use Rattle.desk.specs.Desks.{IsApplied, outcome_of};
 
 use crate::session::Session;
@@ -18,7 +19,8 @@ impl<Id: StoreName> Session<Id> {
         desk: &mut Desk<Id>,
         command: Command,
     ) -> Result<Reply, (Command, Refusal)>
-        ensures applied { IsApplied Id.store desk.old self.old command (outcome_of result) desk.new self.new }
+        ensures applied { IsApplied Id.store desk.old self.old command
+            (outcome_of result) desk.new self.new }
         ensures back { IfErr result (λ back. back.0 ≡ command) }
     {
         desk.apply(&mut self.seat, command)
@@ -39,7 +41,8 @@ impl<Id: StoreName> Session<Id> {
         y: u16,
         bitmap: Bitmap,
     ) -> Result<Reply, (Bitmap, Refusal)>
-        ensures applied { IsApplied Id.store desk.old self.old (Stamp x y bitmap) (outcome_of result) desk.new self.new }
+        ensures applied { IsApplied Id.store desk.old self.old (Stamp x y bitmap)
+            (outcome_of result) desk.new self.new }
         ensures back { IfErr result (λ back. back.0 ≡ bitmap) }
     {
         stamp_answered(self.apply(desk, Command::Stamp { x, y, bitmap }))

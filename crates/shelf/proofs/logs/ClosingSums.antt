@@ -1,5 +1,6 @@
 -- Where each reader was given up once, what they made adds up to the log's length.
-use Rattle.std.proofs.Common.{◌≡◌, ◌≢◌, ◌==◌, ℕ, zero, suc, ◌+◌, ◌<◌, ◌≤◌, cond, Bool, List, [], ◌∷◌, length, refl, ap, sym, ◌∙◌, subst, arith, eq-eqb, ne_eqb}
+use Rattle.std.proofs.Common.{◌≡◌, ◌≢◌, ◌==◌, ℕ, zero, suc, ◌+◌, ◌<◌, ◌≤◌, cond, Bool, List, []}
+use Rattle.std.proofs.Common.{◌∷◌, length, refl, ap, sym, ◌∙◌, subst, arith, eq-eqb, ne_eqb}
 use Rattle.std.specs.Prelude.{All, sum_by}
 use Rattle.std.proofs.lemmas.List.Sums.{sum_by-cons}
 use mathlib.Core.Logic.{dite}
@@ -27,7 +28,8 @@ sum_below zero f = 0
 sum_below (suc d) f = f d + sum_below d f
 
 -- the sum below d of f plus g is the sum of f plus the sum of g
-sum_below-plus : (d : ℕ) (f g : ℕ → ℕ) → sum_below d (λ n. f n + g n) ≡ sum_below d f + sum_below d g
+sum_below-plus : (d : ℕ) (f g : ℕ → ℕ)
+    → sum_below d (λ n. f n + g n) ≡ sum_below d f + sum_below d g
 sum_below-plus zero f g = refl
 sum_below-plus (suc d) f g = let rest = sum_below-plus d f g in omega arith
 
@@ -50,10 +52,13 @@ sum_below-once zero m below = absurd (omega arith)
 sum_below-once (suc d) m below =
     dite (ℕ_discrete d m)
     (λ is. let here = equal d m is in let rest = sum_below-past d m (omega arith) in omega arith)
-    (λ else. let here = other d m else in let rest = sum_below-once d m (omega arith) in omega arith)
+    (λ else. let here = other d m else in let rest = sum_below-once d m (omega arith) in
+    omega arith)
 
--- where a list has numbers below d alone, how often each of these stands in it adds up to its length
-all_counted : (d : ℕ) (ns : List ℕ) → ((n : ℕ) → d ≤ n → times n ns ≡ 0) → sum_below d (λ n. times n ns) ≡ length ns
+-- where a list has numbers below d alone, how often each of these stands in it adds up to its
+-- length
+all_counted : (d : ℕ) (ns : List ℕ) → ((n : ℕ) → d ≤ n → times n ns ≡ 0)
+    → sum_below d (λ n. times n ns) ≡ length ns
 all_counted d [] below = sum_below-none d
 all_counted d (m ∷ ms) below =
     let rest = all_counted d ms (λ n le. let none_of = below n le in omega arith) in
@@ -76,13 +81,15 @@ each_one zero f small all n below = absurd (omega arith)
 each_one (suc d) f small all n below =
     let rest = at_most d f small in
     let last = small d in
-    dite (ℕ_discrete n d) (λ is. subst (λ m. f m ≡ 1) (sym is) (let here : f d ≡ 1 = omega arith in here))
+    dite (ℕ_discrete n d) (λ is. subst (λ m. f m ≡ 1) (sym is)
+    (let here : f d ≡ 1 = omega arith in here))
     (λ else. each_one d f small (omega arith) n (omega arith))
 
 -- the sum over a list of f plus g is the sum of f plus the sum of g
 sum_by-plus : (f g : ℕ → ℕ) (ns : List ℕ) → sum_by (λ n. f n + g n) ns ≡ sum_by f ns + sum_by g ns
 sum_by-plus f g [] = refl
-sum_by-plus f g (n ∷ ns) = let rest = sum_by-plus f g ns in omega (arith, sum_by-cons (λ m. f m + g m) n ns, sum_by-cons f n ns, sum_by-cons g n ns)
+sum_by-plus f g (n ∷ ns) = let rest = sum_by-plus f g ns in
+    omega (arith, sum_by-cons (λ m. f m + g m) n ns, sum_by-cons f n ns, sum_by-cons g n ns)
 
 -- the sum over a list of zeros is 0
 sum_by-none : (ns : List ℕ) → sum_by (λ n. 0) ns ≡ 0
@@ -92,13 +99,17 @@ sum_by-none (n ∷ ns) = let rest = sum_by-none ns in omega (arith, sum_by-cons 
 -- how many elements of a list equal m is how often m stands in it
 sum_by-times : (m : ℕ) (ns : List ℕ) → sum_by (λ n. one_if n m) ns ≡ times m ns
 sum_by-times m [] = refl
-sum_by-times m (n ∷ ns) = let rest = sum_by-times m ns in let same = turned n m in omega (arith, sum_by-cons (λ k. one_if k m) n ns)
+sum_by-times m (n ∷ ns) = let rest = sum_by-times m ns in let same = turned n m in
+    omega (arith, sum_by-cons (λ k. one_if k m) n ns)
   where
     turned : (n m : ℕ) → one_if n m ≡ one_if m n
-    turned n m = dite (ℕ_discrete n m) (λ is. equal n m is ∙ sym (equal m n (sym is))) (λ else. other n m else ∙ sym (other m n (λ e. else (sym e))))
+    turned n m = dite (ℕ_discrete n m) (λ is. equal n m is ∙ sym (equal m n (sym is)))
+        (λ else. other n m else ∙ sym (other m n (λ e. else (sym e))))
 
--- where each caller of a log stands once in a list, the numbers in the list have made all its entries
-made_by_all : (ns : List ℕ) (log : List StoreEntry) → All (λ e. times e.by ns ≡ 1) log → sum_by (λ n. made_by n log) ns ≡ length log
+-- where each caller of a log stands once in a list, the numbers in the list have made all its
+-- entries
+made_by_all : (ns : List ℕ) (log : List StoreEntry) → All (λ e. times e.by ns ≡ 1) log
+    → sum_by (λ n. made_by n log) ns ≡ length log
 made_by_all ns [] once = sum_by-none ns
 made_by_all ns (e ∷ es) once =
     let rest = made_by_all ns es (λ k d h. once (suc k) d (omega arith)) in
@@ -108,7 +119,10 @@ made_by_all ns (e ∷ es) once =
     omega arith
 
 -- where all readers were given up, what they made adds up to the log's length
-pub closed_sum : (k : KeeperView) → IsClosing k → All (λ e. e.by < k.dealt) k.log → length k.gone ≡ k.dealt → sum_by (λ n. made_by n k.log) k.gone ≡ length k.log
+pub closed_sum : (k : KeeperView) → IsClosing k → All (λ e. e.by < k.dealt) k.log
+    → length k.gone ≡ k.dealt → sum_by (λ n. made_by n k.log) k.gone ≡ length k.log
 closed_sum k closing callers all =
-    let counted : sum_below k.dealt (λ n. times n k.gone) ≡ k.dealt = all_counted k.dealt k.gone closing.below ∙ all in
-    made_by_all k.gone k.log (λ i d h. each_one k.dealt (λ n. times n k.gone) closing.once counted _ (callers i d h))
+    let counted : sum_below k.dealt (λ n. times n k.gone) ≡ k.dealt =
+    all_counted k.dealt k.gone closing.below ∙ all in
+    made_by_all k.gone k.log (λ i d h. each_one k.dealt (λ n. times n k.gone) closing.once counted _
+    (callers i d h))

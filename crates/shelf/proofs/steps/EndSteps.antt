@@ -28,28 +28,46 @@ ends_it z slots id me k role s r homes at fits =
       tt,
       nothing_moves z s r id now_at me.0 at,
       λ l is.
-          let same : r.k ≡ l = sym mine.1 ∙ ap keeper_in (sym role ∙ is) in
-          (refl, subst (λ (q : KeeperView). Ends z q) same record { legal = r.whole.keeper.legal; callers = r.seats.callers }),
+          let same : r.k ≡ l = sym mine.1 ∙ ap keeper_in (sym role ∙ is) in (
+            refl,
+            subst (λ (q : KeeperView). Ends z q) same
+                record { legal = r.whole.keeper.legal; callers = r.seats.callers },
+          ),
     )
 
--- what the keeper's seat keeps at the opening is what its view says: zeros, no publish, and no unmet commit
+-- what the keeper's seat keeps at the opening is what its view says: zeros, no publish, and no
+-- unmet commit
 pub keeper_fresh : (z : Base) (dealt : ℕ) → KeeperSays z (resting dealt []) 0 0 0 false false
 unfolding story opened newest slot_of
-keeper_fresh z dealt = record { legal = tt; place_is = refl; version_is = refl; slot_is = refl; publishes_is = λ t none_there. absurd (cc); accepted = λ t none_there. absurd (cc); unmet_is = refl }
+keeper_fresh z dealt =
+    record {
+      legal = tt;
+      place_is = refl;
+      version_is = refl;
+      slot_is = refl;
+      publishes_is = λ t none_there. absurd (cc);
+      accepted = λ t none_there. absurd (cc);
+      unmet_is = refl;
+    }
 
--- what a reader's seat keeps at the opening is what its view says: its number, no entry, and version 0
-pub reader_fresh : (z : Base) (number : ℕ) → number < z.setting.sessions → ReaderSays z (reader_at_opening number) number 0 0
+-- what a reader's seat keeps at the opening is what its view says: its number, no entry, and
+-- version 0
+pub reader_fresh : (z : Base) (number : ℕ) → number < z.setting.sessions
+    → ReaderSays z (reader_at_opening number) number 0 0
 unfolding story opened newest
-reader_fresh z number below = record { below = below; number_is = refl; made_is = refl; version_is = refl }
+reader_fresh z number below =
+    record { below = below; number_is = refl; made_is = refl; version_is = refl }
 
 -- a seat of a table as it is made is its store's, and has the store's sizes
-pub is_of_new : (table seat : TableId) (key : Basis) (plan : Plan) (z : Base) (words : List ℕ) → table ≡ seat → base_of key ≡ z → table.words ≡ length words → AreOpeningWords z words
+pub is_of_new : (table seat : TableId) (key : Basis) (plan : Plan) (z : Base) (words : List ℕ)
+    → table ≡ seat → base_of key ≡ z → table.words ≡ length words → AreOpeningWords z words
     → IsReady z → IsPlan z plan → IsOf (store_at seat key) table key seat plan
 is_of_new table seat key plan z words at told count opening ready sizes = record {
   table_is = at;
   basis_is = refl;
   seat_is = refl;
-  sized = ap (λ (t : TableId). t.words) (sym at) ∙ (count ∙ (opening.sized ∙ ap word_count (sym told)));
+  sized = ap (λ (t : TableId). t.words) (sym at)
+      ∙ (count ∙ (opening.sized ∙ ap word_count (sym told)));
   ready = subst IsReady (sym told) ready;
   plan_is = subst (λ (k : Base). IsPlan k plan) (sym told) sizes;
 }

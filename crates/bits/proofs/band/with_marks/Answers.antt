@@ -10,7 +10,8 @@ returns-then-low_bits-clause-here c = λ k i within one.
     let few = c.requires in
     let all = c.low_bits-2.ensures.kept k within (omega arith) in
     let own = c.low_bits.ensures.kept k within (omega arith) in
-    let same : bit_at c.low_bits.result k ≡ bit_at c.low_bits-2.result k = rw (c.if-low_bits.true) refl in
+    let same : bit_at c.low_bits.result k ≡ bit_at c.low_bits-2.result k =
+    rw (c.if-low_bits.true) refl in
     sym own ∙ (same ∙ (all ∙ bit_at_ones 64 k (omega arith)))
 
 pub words-preserved : goal.words-preserved
@@ -19,10 +20,12 @@ words-preserved c =
     let last = c.words-test.true in
     record {
       here = λ k i within one. elim (cases_lt k c.words.index) [
-        | inl earlier ↦ c.with_mark-all.ensures.kept k (omega arith) (c.words.invariant.here k i earlier one)
+        | inl earlier ↦ c.with_mark-all.ensures.kept k (omega arith)
+            (c.words.invariant.here k i earlier one)
         | inr later ↦
             let here : k ≡ c.words.index = omega arith in
             rw here (c.with_mark-all.ensures.here i (rw (c.from.ensures) (rw here at one)))
       ];
-      kept = λ k within one. c.with_mark-all.ensures.kept k within (c.words.invariant.kept k within one);
+      kept = λ k within one. c.with_mark-all.ensures.kept k within
+          (c.words.invariant.kept k within one);
     }

@@ -4,4 +4,5 @@ use Rattle.bits.specs.Edges.{IsBlocked}
 use Rattle.bits.proofs.laws.one_nearest.Goals as goal
 
 pub returns : goal.returns
-returns c = λ distance cells edge x y p q one other. IsNear-one distance (IsBlocked cells edge) x y p q one other
+returns c = λ distance cells edge x y p q one other.
+    IsNear-one distance (IsBlocked cells edge) x y p q one other

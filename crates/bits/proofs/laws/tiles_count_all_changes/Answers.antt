@@ -3,4 +3,5 @@ use Rattle.bits.proofs.RegroupLemmas.{changes_regrouped}
 use Rattle.bits.proofs.laws.tiles_count_all_changes.Goals as goal
 
 pub returns : goal.returns
-returns c = λ old new old_is new_is width_same height_same. changes_regrouped old new old_is new_is width_same height_same
+returns c = λ old new old_is new_is width_same height_same.
+    changes_regrouped old new old_is new_is width_same height_same

@@ -7,5 +7,6 @@ use Rattle.bits.proofs.write.write_row.Given as goal
 abbrev pub invariant-words : goal.invariant-words
 invariant-words l = record {
   stored : IsStored l.width l.height l.words;
-  written : cells_stored l.width l.height l.words ≡ row_front (cells_stored l.width l.height l.fn.words) l.y l.row l.index;
+  written : cells_stored l.width l.height l.words
+      ≡ row_front (cells_stored l.width l.height l.fn.words) l.y l.row l.index;
 }

@@ -7,5 +7,6 @@ use Rattle.bits.proofs.write.write_tile.Given as goal
 abbrev pub invariant-rows : goal.invariant-rows
 invariant-rows l = record {
   stored : IsStored l.width l.height l.words;
-  written : cells_stored l.width l.height l.words ≡ put_above (cells_stored l.width l.height l.fn.words) l.position l.tile l.y;
+  written : cells_stored l.width l.height l.words
+      ≡ put_above (cells_stored l.width l.height l.fn.words) l.position l.tile l.y;
 }

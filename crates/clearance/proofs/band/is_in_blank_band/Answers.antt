@@ -3,4 +3,5 @@ use Rattle.clearance.proofs.BandRows.{IsBlankRow-none, not_true}
 use Rattle.clearance.proofs.band.is_in_blank_band.Goals as goal
 
 pub returns : goal.returns
-returns g c = λ blank. IsBlankRow-none (g.R.Rows.cells c.args.rows.now) c.args.y (λ x obstacle. c.has_band.ensures (not_true _ blank) (c.bands.ensures x c.args.y obstacle))
+returns g c = λ blank. IsBlankRow-none (g.R.Rows.cells c.args.rows.now) c.args.y
+    (λ x obstacle. c.has_band.ensures (not_true _ blank) (c.bands.ensures x c.args.y obstacle))

@@ -4,26 +4,40 @@ use Rattle.clearance.proofs.Borders.{best_framed, found_small}
 use Rattle.clearance.proofs.border.nearest_walled.Goals as goal
 
 pub better-requires : goal.better-requires
-better-requires g c = found_small g.M.Metric.distance (g.R.Rows.cells c.args.rows.now) c.args.cell.x c.args.cell.y _ c.own_below-own.result c.holds-inside.ensures.bitmap c.own_below-own.ensures.found
+better-requires g c =
+    found_small g.M.Metric.distance (g.R.Rows.cells c.args.rows.now) c.args.cell.x c.args.cell.y _
+    c.own_below-own.result c.holds-inside.ensures.bitmap c.own_below-own.ensures.found
 
 pub as_near-requires-clause-column : goal.as_near-requires-clause-column
 as_near-requires-clause-column g c =
     let cells = g.R.Rows.cells c.args.rows.now in
-    let frame = rw (c.width-width.ensures.width, c.height-height.ensures.height) at c.frame_nearest-frame.ensures in
-    let found = best_framed g.M.Metric.distance cells c.args.cell.x c.args.cell.y c.frame_nearest-frame.result c.own_below-own.result c.better.result frame (rw c.from.ensures at c.own_below-own.ensures.found) c.better.ensures in
-    (framed_small cells c.better.result.cell.x c.better.result.cell.y c.holds-inside.ensures.bitmap found.obstacle).0
+    let frame = rw (c.width-width.ensures.width, c.height-height.ensures.height) at
+    c.frame_nearest-frame.ensures in
+    let found = best_framed g.M.Metric.distance cells c.args.cell.x c.args.cell.y
+    c.frame_nearest-frame.result c.own_below-own.result c.better.result frame
+    (rw c.from.ensures at c.own_below-own.ensures.found) c.better.ensures in
+    (framed_small cells c.better.result.cell.x c.better.result.cell.y c.holds-inside.ensures.bitmap
+    found.obstacle).0
 
 pub as_near-requires-clause-row : goal.as_near-requires-clause-row
 as_near-requires-clause-row g c =
     let cells = g.R.Rows.cells c.args.rows.now in
-    let frame = rw (c.width-width.ensures.width, c.height-height.ensures.height) at c.frame_nearest-frame.ensures in
-    let found = best_framed g.M.Metric.distance cells c.args.cell.x c.args.cell.y c.frame_nearest-frame.result c.own_below-own.result c.better.result frame (rw c.from.ensures at c.own_below-own.ensures.found) c.better.ensures in
-    (framed_small cells c.better.result.cell.x c.better.result.cell.y c.holds-inside.ensures.bitmap found.obstacle).1
+    let frame = rw (c.width-width.ensures.width, c.height-height.ensures.height) at
+    c.frame_nearest-frame.ensures in
+    let found = best_framed g.M.Metric.distance cells c.args.cell.x c.args.cell.y
+    c.frame_nearest-frame.result c.own_below-own.result c.better.result frame
+    (rw c.from.ensures at c.own_below-own.ensures.found) c.better.ensures in
+    (framed_small cells c.better.result.cell.x c.better.result.cell.y c.holds-inside.ensures.bitmap
+    found.obstacle).1
 
 pub returns-clause-near : goal.returns-clause-near
 returns-clause-near g c =
     let cells = g.R.Rows.cells c.args.rows.now in
-    let frame = rw (c.width-width.ensures.width, c.height-height.ensures.height) at c.frame_nearest-frame.ensures in
+    let frame = rw (c.width-width.ensures.width, c.height-height.ensures.height) at
+    c.frame_nearest-frame.ensures in
     rw c.as_near.ensures
-    (wall_nearest g.M.Metric.distance cells c.args.cell.x c.args.cell.y c.better.result.dist c.better.result.cell.x c.better.result.cell.y
-    (best_framed g.M.Metric.distance cells c.args.cell.x c.args.cell.y c.frame_nearest-frame.result c.own_below-own.result c.better.result frame (rw c.from.ensures at c.own_below-own.ensures.found) c.better.ensures))
+    (wall_nearest g.M.Metric.distance cells c.args.cell.x c.args.cell.y c.better.result.dist
+    c.better.result.cell.x c.better.result.cell.y
+    (best_framed g.M.Metric.distance cells c.args.cell.x c.args.cell.y c.frame_nearest-frame.result
+    c.own_below-own.result c.better.result frame
+    (rw c.from.ensures at c.own_below-own.ensures.found) c.better.ensures))

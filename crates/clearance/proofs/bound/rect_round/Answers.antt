@@ -9,8 +9,14 @@ use Rattle.clearance.proofs.bound.rect_round.Goals as goal
 pub points-init : goal.points-init
 points-init g c =
     record {
-      inside = IsWalk-start (g.R.Rows.cells c.args._rows.now) c.args.from c.args.points.now c.requires.walk;
-      from = record { left = omega arith; right = omega arith; top = omega arith; bottom = omega arith };
+      inside = IsWalk-start (g.R.Rows.cells c.args._rows.now) c.args.from c.args.points.now
+          c.requires.walk;
+      from = record {
+        left = omega arith;
+        right = omega arith;
+        top = omega arith;
+        bottom = omega arith;
+      };
       points = λ k before. absurd (omega arith);
     }
 
@@ -20,7 +26,8 @@ points-preserved g c =
     let point = get_or c.args.points.now c.points.point-index origin in
     let low : Cell = record { x = c.min.result; y = c.min-in-points.result } in
     let high : Cell = record { x = c.max.result; y = c.max-in-points.result } in
-    let at = IsWalk-inside cells c.args.from c.args.points.now c.points.point-index c.requires.walk c.points-test.true in
+    let at = IsWalk-inside cells c.args.from c.args.points.now c.points.point-index c.requires.walk
+    c.points-test.true in
     let column = at.column in
     let row = at.row in
     let high_column = c.points.invariant.inside.column in
@@ -29,8 +36,11 @@ points-preserved g c =
     let top = c.min-in-points.ensures in
     let right = c.max.ensures in
     let bottom = c.max-in-points.ensures in
-    let wider = λ (cell : Cell) (is : IsBetween c.points.low c.points.high cell). IsBetween-wider c.points.low c.points.high low high cell (omega arith) (omega arith) (omega arith) (omega arith) is in
-    let here : IsBetween low high point = record { left = omega arith; right = omega arith; top = omega arith; bottom = omega arith } in
+    let wider = λ (cell : Cell) (is : IsBetween c.points.low c.points.high cell).
+    IsBetween-wider c.points.low c.points.high low high cell (omega arith) (omega arith)
+    (omega arith) (omega arith) is in
+    let here : IsBetween low high point =
+    record { left = omega arith; right = omega arith; top = omega arith; bottom = omega arith } in
     record {
       inside = record { column = omega arith; row = omega arith };
       from = wider c.args.from c.points.invariant.from;
@@ -65,7 +75,14 @@ invariant_of-result g c =
     let row = c.points.invariant.inside.row in
     let columns = c.requires.bitmap.width_is.few in
     let rows = c.requires.bitmap.height_is.few in
-    record { has_cells = record { columns = omega arith; rows = omega arith; right = omega arith; bottom = omega arith } }
+    record {
+      has_cells = record {
+        columns = omega arith;
+        rows = omega arith;
+        right = omega arith;
+        bottom = omega arith;
+      };
+    }
 
 pub returns-clause-inside : goal.returns-clause-inside
 returns-clause-inside g c =

@@ -8,8 +8,10 @@ abbrev pub invariant-gaps : goal.invariant-gaps
 invariant-gaps g l = record {
   rows : l.rows ≡ l.fn.rows;
   few : l.gap ≤ 4096;
-  sought : IsSought g.M.Metric.distance (g.R.Rows.cells l.rows) l.cell (IsWithin l.cell.y l.gap) l.best;
-  live : AreBandsLive g.M.Metric.distance (g.R.Rows.cells l.fn.rows) l.here l.gap (limit_of l.best) l.bands;
+  sought : IsSought g.M.Metric.distance (g.R.Rows.cells l.rows) l.cell
+      (IsWithin l.cell.y l.gap) l.best;
+  live : AreBandsLive g.M.Metric.distance (g.R.Rows.cells l.fn.rows) l.here l.gap
+      (limit_of l.best) l.bands;
 }
 
 abbrev pub decreases-gaps : goal.decreases-gaps

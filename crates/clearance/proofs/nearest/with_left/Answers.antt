@@ -17,8 +17,11 @@ left-preserved g c =
       sought = record {
         bitmap = sought.bitmap;
         inside = sought.inside;
-        near = IsNearAmong-left _ cells c.args.cell.x c.args.cell.y c.args.row.y c.args.gap c.limit_of.result c.of-dist.result c.in-Some.x c.left.end (words_of_row cells c.args.row.y) c.left.best c.better.result
-            sought.bitmap c.left.invariant.order (IsRowOf-words cells c.args.row.y) c.requires.gap found c.of-dist.ensures c.better.ensures sought.near;
+        near = IsNearAmong-left _ cells c.args.cell.x c.args.cell.y c.args.row.y c.args.gap
+            c.limit_of.result c.of-dist.result c.in-Some.x c.left.end
+            (words_of_row cells c.args.row.y) c.left.best c.better.result
+            sought.bitmap c.left.invariant.order (IsRowOf-words cells c.args.row.y) c.requires.gap
+            found c.of-dist.ensures c.better.ensures sought.near;
       };
       order = omega arith;
     }
@@ -31,6 +34,8 @@ returns-clause-sought g c =
     rw (c.last_nearer.ensures.rows, c.left.invariant.rows) (record {
       bitmap = sought.bitmap;
       inside = sought.inside;
-      near = IsNearAmong-left_none _ cells c.args.cell.x c.args.cell.y c.args.row.y c.args.gap c.limit_of.result c.left.end (words_of_row cells c.args.row.y) c.left.best
-          sought.bitmap c.left.invariant.order (IsRowOf-words cells c.args.row.y) c.requires.gap c.limit_of.ensures.is none sought.near;
+      near = IsNearAmong-left_none _ cells c.args.cell.x c.args.cell.y c.args.row.y c.args.gap
+          c.limit_of.result c.left.end (words_of_row cells c.args.row.y) c.left.best
+          sought.bitmap c.left.invariant.order (IsRowOf-words cells c.args.row.y) c.requires.gap
+          c.limit_of.ensures.is none sought.near;
     })

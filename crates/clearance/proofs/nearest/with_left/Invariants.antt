@@ -6,7 +6,8 @@ use Rattle.clearance.proofs.nearest.with_left.Given as goal
 abbrev pub invariant-left : goal.invariant-left
 invariant-left g l = record {
   rows : l.rows ≡ l.fn.rows;
-  sought : IsSought g.M.Metric.distance (g.R.Rows.cells l.fn.rows) l.cell (IsSeenInRow l.cell.y l.row.y (λ a. l.end ≤ a)) l.best;
+  sought : IsSought g.M.Metric.distance (g.R.Rows.cells l.fn.rows) l.cell
+      (IsSeenInRow l.cell.y l.row.y (λ a. l.end ≤ a)) l.best;
   order : l.end ≤ l.cell.x;
 }
 

@@ -10,7 +10,8 @@ pub of-dist-requires-clause-columns : goal.of-dist-requires-clause-columns
 of-dist-requires-clause-columns g c =
     let words = words_of_row (g.R.Rows.cells c.args.rows.now) c.args.row.y in
     let wide = c.requires.sought.bitmap.width_is.few in
-    let few : length words ≤ 64 = omega (arith, length-words_of_row (g.R.Rows.cells c.args.rows.now) c.args.row.y) in
+    let few : length words ≤ 64 = omega
+    (arith, length-words_of_row (g.R.Rows.cells c.args.rows.now) c.args.row.y) in
     omega (arith, mark_within words c.in-Some.x few c.in-Some.ensures.next.marked)
 
 pub returns-in-Some-clause-sought : goal.returns-in-Some-clause-sought
@@ -24,8 +25,12 @@ returns-in-Some-clause-sought g c =
     rw (c.next_nearer.ensures.rows) (record {
       bitmap = sought.bitmap;
       inside = sought.inside;
-      near = IsNearAmong-right _ g.met.M.Metric.stays_nearer cells c.args.cell.x c.args.cell.y c.args.row.y c.args.gap c.limit_of.result c.of-dist.result c.in-Some.x words c.args.best c.better.result
-          sought.bitmap sought.inside.column sought.inside.row c.requires.row (IsRowOf-words cells c.args.row.y) few c.requires.gap c.in-Some.ensures.next c.of-dist.ensures c.better.ensures sought.near;
+      near = IsNearAmong-right _ g.met.M.Metric.stays_nearer cells c.args.cell.x c.args.cell.y
+          c.args.row.y c.args.gap c.limit_of.result c.of-dist.result c.in-Some.x words c.args.best
+          c.better.result
+          sought.bitmap sought.inside.column sought.inside.row c.requires.row
+          (IsRowOf-words cells c.args.row.y) few c.requires.gap c.in-Some.ensures.next
+          c.of-dist.ensures c.better.ensures sought.near;
     })
 
 pub returns-in-None-clause-sought : goal.returns-in-None-clause-sought
@@ -35,6 +40,8 @@ returns-in-None-clause-sought g c =
     rw (c.next_nearer.ensures.rows) (record {
       bitmap = sought.bitmap;
       inside = sought.inside;
-      near = IsNearAmong-right_none _ cells c.args.cell.x c.args.cell.y c.args.row.y c.args.gap c.limit_of.result (words_of_row cells c.args.row.y) c.args.best
-          sought.bitmap (IsRowOf-words cells c.args.row.y) c.requires.gap c.limit_of.ensures.is c.in-None.ensures.next sought.near;
+      near = IsNearAmong-right_none _ cells c.args.cell.x c.args.cell.y c.args.row.y c.args.gap
+          c.limit_of.result (words_of_row cells c.args.row.y) c.args.best
+          sought.bitmap (IsRowOf-words cells c.args.row.y) c.requires.gap c.limit_of.ensures.is
+          c.in-None.ensures.next sought.near;
     })

@@ -13,6 +13,8 @@ returns-then-is_passed-clause-sought g c =
     rw (c.is_passed.ensures.rows) (record {
       bitmap = sought.bitmap;
       inside = sought.inside;
-      near = IsNearAmong-blank _ cells c.args.cell.x c.args.cell.y c.args.row (words_of_row cells c.args.row) c.args.best sought.bitmap (IsRowOf-words cells c.args.row)
-          (λ (k : ℕ) (within : k < length (words_of_row cells c.args.row)). blank k (omega (arith, length-words_of_row cells c.args.row))) sought.near;
+      near = IsNearAmong-blank _ cells c.args.cell.x c.args.cell.y c.args.row
+          (words_of_row cells c.args.row) c.args.best sought.bitmap (IsRowOf-words cells c.args.row)
+          (λ (k : ℕ) (within : k < length (words_of_row cells c.args.row)).
+          blank k (omega (arith, length-words_of_row cells c.args.row))) sought.near;
     })

@@ -2,7 +2,8 @@
 use Rattle.std.proofs.Common.{inl, inr, arith}
 use Rattle.clearance.proofs.NearestSearches.{IsNearAmong-no_below}
 use Rattle.clearance.proofs.nearest.with_row_below.Goals as goal
-use Rattle.clearance.proofs.nearest.with_row_below.Goals.{else-gap-gt0-via-then-gap-gt0+else-cell-gap, else-gap-gt0-via-else-gap-gt0}
+use Rattle.clearance.proofs.nearest.with_row_below.Goals.{else-gap-gt0-via-then-gap-gt0+else-cell-gap}
+use Rattle.clearance.proofs.nearest.with_row_below.Goals.{else-gap-gt0-via-else-gap-gt0}
 
 pub returns-else-gap-gt0-clause-sought : goal.returns-else-gap-gt0-clause-sought
 returns-else-gap-gt0-clause-sought g c =
@@ -10,7 +11,12 @@ returns-else-gap-gt0-clause-sought g c =
     record {
       bitmap = sought.bitmap;
       inside = sought.inside;
-      near = IsNearAmong-no_below _ (g.R.Rows.cells c.args.rows.now) c.args.cell.x c.args.cell.y c.args.gap c.args.best sought.bitmap
-          (elim c.else-gap-gt0.branch [ else-gap-gt0-via-then-gap-gt0+else-cell-gap w ↦ inr (omega arith) | else-gap-gt0-via-else-gap-gt0 w ↦ inl (omega arith) ])
+      near = IsNearAmong-no_below _ (g.R.Rows.cells c.args.rows.now) c.args.cell.x c.args.cell.y
+          c.args.gap c.args.best sought.bitmap
+          (elim c.else-gap-gt0.branch [
+            | else-gap-gt0-via-then-gap-gt0+else-cell-gap w ↦
+                inr (omega arith)
+            | else-gap-gt0-via-else-gap-gt0 w ↦ inl (omega arith)
+          ])
           sought.near;
     }

@@ -10,7 +10,8 @@ invariant-gaps g l = record {
   rows : l.rows ≡ l.fn.rows;
   some : 0 < l.gap;
   few : l.gap ≤ 4096;
-  least : IsLeastWithin g.M.Metric.distance (IsObstacle (g.R.Rows.cells l.fn.rows)) l.rect l.gap l.limit l.least;
+  least : IsLeastWithin g.M.Metric.distance (IsObstacle (g.R.Rows.cells l.fn.rows)) l.rect l.gap
+      l.limit l.least;
   live : AreBandsLive g.M.Metric.distance (g.R.Rows.cells l.fn.rows) l.rect l.gap l.least l.bands;
 }
 

@@ -7,5 +7,6 @@ use Rattle.clearance.proofs.search.least_inside.Given as goal
 abbrev pub invariant-inside : goal.invariant-inside
 invariant-inside g l = record {
   rows : l.rows ≡ l.fn.rows;
-  least : IsLeastAmong g.M.Metric.distance (IsObstacle (g.R.Rows.cells l.fn.rows)) l.rect (λ b. (l.rect.y0 ≤ b) × (b < l.y)) l.limit l.least;
+  least : IsLeastAmong g.M.Metric.distance (IsObstacle (g.R.Rows.cells l.fn.rows)) l.rect
+      (λ b. (l.rect.y0 ≤ b) × (b < l.y)) l.limit l.least;
 }

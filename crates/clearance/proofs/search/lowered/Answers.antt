@@ -9,5 +9,7 @@ pub returns-then-is_passed-clause-least : goal.returns-then-is_passed-clause-lea
 returns-then-is_passed-clause-least g c =
     let cells = g.R.Rows.cells c.args.rows.now in
     let blank = c.is_passed.ensures.blank c.if-is_passed.true in
-    IsLoweredBy-blank _ cells c.args.rect c.args.y c.args.gap c.args.least (words_of_row cells c.args.y) c.requires.rect.bitmap (IsRowOf-words cells c.args.y)
-    (λ (k : ℕ) (within : k < length (words_of_row cells c.args.y)). blank k (omega (arith, length-words_of_row cells c.args.y)))
+    IsLoweredBy-blank _ cells c.args.rect c.args.y c.args.gap c.args.least
+    (words_of_row cells c.args.y) c.requires.rect.bitmap (IsRowOf-words cells c.args.y)
+    (λ (k : ℕ) (within : k < length (words_of_row cells c.args.y)).
+    blank k (omega (arith, length-words_of_row cells c.args.y)))

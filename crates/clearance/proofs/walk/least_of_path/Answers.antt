@@ -21,14 +21,22 @@ first_along-requires g c = rw (c.least_along-least.ensures.rows) (record {
 pub returns-then-least-ge-NO_LIMIT-clause-found : goal.returns-then-least-ge-NO_LIMIT-clause-found
 returns-then-least-ge-NO_LIMIT-clause-found g c =
     let path = IsPath-from (g.R.Rows.cells c.args.rows.now) c.args.points.now c.requires in
-    let least = rw (← cells_of_path-start c.args.points.now path.some) at c.least_along-least.ensures.found in
-    IsLeastOver-none g.M.Metric.distance (IsBlocked (g.R.Rows.cells c.args.rows.now) c.args.edge) (cells_of_path c.args.points.now) 4294967296 c.least_along-least.result (length-cells_of_path c.args.points.now path.some)
+    let least = rw (← cells_of_path-start c.args.points.now path.some) at
+    c.least_along-least.ensures.found in
+    IsLeastOver-none g.M.Metric.distance (IsBlocked (g.R.Rows.cells c.args.rows.now) c.args.edge)
+    (cells_of_path c.args.points.now) 4294967296 c.least_along-least.result
+    (length-cells_of_path c.args.points.now path.some)
     least c.if-least-ge-NO_LIMIT.true
 
 pub returns-clause-found : goal.returns-clause-found
 returns-clause-found g c =
     let path = IsPath-from (g.R.Rows.cells c.args.rows.now) c.args.points.now c.requires in
-    let least = rw (← cells_of_path-start c.args.points.now path.some) at c.least_along-least.ensures.found in
-    let first = rw (← cells_of_path-start c.args.points.now path.some, c.least_along-least.ensures.rows) at c.first_along.ensures.found in
-    IsLeastOf-over g.M.Metric.distance (IsBlocked (g.R.Rows.cells c.args.rows.now) c.args.edge) (cells_of_path c.args.points.now) 4294967296 c.least_along-least.result c.first_along.result
+    let least = rw (← cells_of_path-start c.args.points.now path.some) at
+    c.least_along-least.ensures.found in
+    let first = rw (
+      ← cells_of_path-start c.args.points.now path.some,
+      c.least_along-least.ensures.rows,
+    ) at c.first_along.ensures.found in
+    IsLeastOf-over g.M.Metric.distance (IsBlocked (g.R.Rows.cells c.args.rows.now) c.args.edge)
+    (cells_of_path c.args.points.now) 4294967296 c.least_along-least.result c.first_along.result
     least c.if-least-ge-NO_LIMIT.false first

@@ -7,7 +7,9 @@ pub rows-preserved : goal.rows-preserved
 rows-preserved c = record {
   bitmap = c.rows.invariant.bitmap;
   at_least = omega arith;
-  line = IsLineFrom-marked c.args.edge c.args.bitmap.now c.rows.y c.rows.line c.mark_line.new.line c.rows.invariant.bitmap (omega arith) (omega arith) c.mark_line.ensures.len c.mark_line.ensures.marked c.rows.invariant.line;
+  line = IsLineFrom-marked c.args.edge c.args.bitmap.now c.rows.y c.rows.line c.mark_line.new.line
+      c.rows.invariant.bitmap (omega arith) (omega arith) c.mark_line.ensures.len
+      c.mark_line.ensures.marked c.rows.invariant.line;
 }
 
 pub returns : goal.returns

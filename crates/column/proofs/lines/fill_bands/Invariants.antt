@@ -12,6 +12,7 @@ invariant-bands l = record {
   width_is : l.width ≡ l.batch.bitmap.now.width;
   room : (l.batch.y1 - l.batch.y0 + 63) / 64 * l.batch.bitmap.now.width ≤ length l.bands;
   few : l.band ≤ (l.batch.y1 - l.batch.y0 + 63) / 64;
-  line : IsLineFrom (capped l.batch.edge l.batch.bitmap.now) (min (l.batch.y0 + 64 * l.band) l.batch.y1 + shift l.batch.edge) l.line;
+  line : IsLineFrom (capped l.batch.edge l.batch.bitmap.now)
+      (min (l.batch.y0 + 64 * l.band) l.batch.y1 + shift l.batch.edge) l.line;
   bands : AreBandLines l.batch.bitmap.now l.batch.edge l.batch.y0 l.batch.y1 l.band l.bands;
 }

@@ -7,4 +7,9 @@ use Rattle.column.proofs.lines.mark_line.Goals as goal
 pub returns-clause-marked : goal.returns-clause-marked
 returns-clause-marked c = λ x column.
     let back : c.args.y + shift c.args.edge - shift c.args.edge ≡ c.args.y = omega arith in
-    rw (has-capped c.args.edge c.args.bitmap.now x (c.args.y + shift c.args.edge) column (omega arith) (omega (arith, c.requires.row)), back, ← c.shift.ensures) (search rules)
+    rw (
+      has-capped c.args.edge c.args.bitmap.now x (c.args.y + shift c.args.edge) column
+          (omega arith) (omega (arith, c.requires.row)),
+      back,
+      ← c.shift.ensures,
+    ) (search rules)

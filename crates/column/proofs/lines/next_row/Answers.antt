@@ -7,7 +7,10 @@ use Rattle.column.proofs.LineLemmas.{IsLineBefore-marked, IsRowOfTable-between}
 use Rattle.column.proofs.lines.next_row.Goals as goal
 
 pub returns-clause-before : goal.returns-clause-before
-returns-clause-before c = IsLineBefore-marked c.args.edge c.args.bitmap.now c.args.y c.args.before.now c.mark_line.new.line c.requires.bitmap c.requires.row c.mark_line.ensures.len c.mark_line.ensures.marked c.requires.before
+returns-clause-before c =
+    IsLineBefore-marked c.args.edge c.args.bitmap.now c.args.y c.args.before.now
+    c.mark_line.new.line c.requires.bitmap c.requires.row c.mark_line.ensures.len
+    c.mark_line.ensures.marked c.requires.before
 
 pub returns-clause-entries : goal.returns-clause-entries
 returns-clause-entries c =
@@ -15,10 +18,18 @@ returns-clause-entries c =
     let cells = c.args.bitmap.now in
     let y = c.args.y + shift edge in
     let first : c.from-first.result ≡ shift edge = c.from-first.ensures ∙ c.shift-2.ensures in
-    let within : c.from-first.result ≤ length c.args.entries.now = omega (arith, first, c.requires.width) in
+    let within : c.from-first.result ≤ length c.args.entries.now =
+    omega (arith, first, c.requires.width) in
     let many : length c.pick_line.new.entries ≡ cells.width = search rules in
     let next : c.args.y + 1 + shift edge ≡ c.args.y + shift edge + 1 = omega arith in
-    let before = IsLineBefore-marked edge cells c.args.y c.args.before.now c.mark_line.new.line c.requires.bitmap c.requires.row c.mark_line.ensures.len c.mark_line.ensures.marked c.requires.before in
-    let inner = IsRowOfTable-between (capped edge cells) y c.mark_line.new.line c.args.behind.now c.pick_line.new.entries (rw next at before) (rw next at c.requires.behind) many (search rules) in
-    IsRowOfTable-framed edge cells y c.pick_line.new.entries _ c.mark_sides.new.row c.requires.bitmap (omega (arith, c.requires.row)) inner (rw c.shift.ensures at c.mark_sides.ensures.marked) c.mark_sides.ensures.len
-    (search rules) (λ x column. written_inside c.args.entries.now c.pick_line.new.entries _ c.from-first.result (shift edge) x within first (omega (arith, many, column)))
+    let before = IsLineBefore-marked edge cells c.args.y c.args.before.now c.mark_line.new.line
+    c.requires.bitmap c.requires.row c.mark_line.ensures.len c.mark_line.ensures.marked
+    c.requires.before in
+    let inner = IsRowOfTable-between (capped edge cells) y c.mark_line.new.line c.args.behind.now
+    c.pick_line.new.entries (rw next at before) (rw next at c.requires.behind) many
+    (search rules) in
+    IsRowOfTable-framed edge cells y c.pick_line.new.entries _ c.mark_sides.new.row
+    c.requires.bitmap (omega (arith, c.requires.row)) inner
+    (rw c.shift.ensures at c.mark_sides.ensures.marked) c.mark_sides.ensures.len
+    (search rules) (λ x column. written_inside c.args.entries.now c.pick_line.new.entries _
+    c.from-first.result (shift edge) x within first (omega (arith, many, column)))

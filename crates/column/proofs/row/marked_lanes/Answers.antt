@@ -7,5 +7,6 @@ use Rattle.column.proofs.row.marked_lanes.Goals as goal
 
 pub returns : goal.returns
 returns c i within =
-    chosen_at eqb (zip2 bit_and (replicate 8 c.args.bits) places) places (replicate 8 c.args.y) c.args.entries i refl refl refl c.fits-entries.0 within
+    chosen_at eqb (zip2 bit_and (replicate 8 c.args.bits) places) places
+    (replicate 8 c.args.y) c.args.entries i refl refl refl c.fits-entries.0 within
     ∙ lane_marked c.args.bits c.args.y i c.args.entries within

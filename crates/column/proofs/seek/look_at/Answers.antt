@@ -6,7 +6,8 @@ use Rattle.column.proofs.seek.look_at.Goals as goal
 pub returns-then-is_cap-clause-seen : goal.returns-then-is_cap-clause-seen
 returns-then-is_cap-clause-seen c = λ x column.
     let cap = rw (c.height.ensures.height) at (sym c.is_cap.ensures ∙ c.if-is_cap.true) in
-    rw (has-cap c.args.edge c.args.bitmap.now x c.args.y column c.requires.row cap) (c.mark_all.ensures.marked x (rw (c.requires.width) column))
+    rw (has-cap c.args.edge c.args.bitmap.now x c.args.y column c.requires.row cap)
+    (c.mark_all.ensures.marked x (rw (c.requires.width) column))
 
 pub returns-clause-seen : goal.returns-clause-seen
 returns-clause-seen c = λ x column.

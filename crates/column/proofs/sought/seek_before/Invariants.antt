@@ -6,6 +6,7 @@ use Rattle.column.proofs.sought.seek_before.Given as goal
 
 abbrev pub invariant-rows : goal.invariant-rows
 invariant-rows l = record {
-  sought : IsSought (capped l.edge l.bitmap) (IsRowToBefore (capped l.edge l.bitmap) l.row l.y) l.missing l.line;
+  sought : IsSought (capped l.edge l.bitmap) (IsRowToBefore (capped l.edge l.bitmap) l.row l.y)
+      l.missing l.line;
   bitmap : IsBitmap l.bitmap;
 }

@@ -6,6 +6,7 @@ use Rattle.column.proofs.sought.seek_from.Given as goal
 
 abbrev pub invariant-rows : goal.invariant-rows
 invariant-rows l = record {
-  sought : IsSought (capped l.edge l.bitmap) (IsRowFromTo (capped l.edge l.bitmap) l.y l.row) l.missing l.line;
+  sought : IsSought (capped l.edge l.bitmap) (IsRowFromTo (capped l.edge l.bitmap) l.y l.row)
+      l.missing l.line;
   bitmap : IsBitmap l.bitmap;
 }

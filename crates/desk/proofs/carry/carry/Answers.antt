@@ -8,20 +8,28 @@ pub order-requires-clause-none : goal.order-requires-clause-none
 order-requires-clause-none g c = ap (λ (u : KeeperView). u.task) c.requires.able.keeper_is
 
 pub order-requires-clause-accepted : goal.order-requires-clause-accepted
-order-requires-clause-accepted g c = accepted g.Id.StoreName.store _ _ _ _ c.requires.able c.requires.judged
+order-requires-clause-accepted g c =
+    accepted g.Id.StoreName.store _ _ _ _ c.requires.able c.requires.judged
 
 pub work-reply-requires-clause-in_hand : goal.work-reply-requires-clause-in_hand
-work-reply-requires-clause-in_hand g c = taken_in_hand g.Id.StoreName.store c.args.keeper.now _ _ _ _ c.requires.able c.order.ensures
+work-reply-requires-clause-in_hand g c =
+    taken_in_hand g.Id.StoreName.store c.args.keeper.now _ _ _ _ c.requires.able c.order.ensures
 
 pub commit-requires-clause-may : goal.commit-requires-clause-may
 commit-requires-clause-may g c =
     let z = g.Id.StoreName.store in
-    may_commit z _ _ _ _ _ _ c.work-reply.result (taken_in_hand z c.args.keeper.now _ _ _ _ c.requires.able c.order.ensures) c.requires.caller c.work-reply.ensures.worked
+    may_commit z _ _ _ _ _ _ c.work-reply.result
+    (taken_in_hand z c.args.keeper.now _ _ _ _ c.requires.able c.order.ensures) c.requires.caller
+    c.work-reply.ensures.worked
 
 pub commit-requires-clause-slot : goal.commit-requires-clause-slot
 commit-requires-clause-slot g c =
     let z = g.Id.StoreName.store in
-    slot_told z _ _ _ _ _ _ c.work-reply.result (taken_in_hand z c.args.keeper.now _ _ _ _ c.requires.able c.order.ensures) c.work-reply.ensures.worked
+    slot_told z _ _ _ _ _ _ c.work-reply.result
+    (taken_in_hand z c.args.keeper.now _ _ _ _ c.requires.able c.order.ensures)
+    c.work-reply.ensures.worked
 
 pub returns-clause-carried : goal.returns-clause-carried
-returns-clause-carried g c = carried g.Id.StoreName.store c.args.keeper.now _ _ _ _ _ _ _ _ c.order.ensures c.work-reply.ensures.worked c.commit.ensures.committed
+returns-clause-carried g c =
+    carried g.Id.StoreName.store c.args.keeper.now _ _ _ _ _ _ _ _ c.order.ensures
+    c.work-reply.ensures.worked c.commit.ensures.committed

@@ -1,4 +1,5 @@
--- Another request and its reply follow those of the lines before; where a call fails, a prefix of them has passed.
+-- Another request and its reply follow those of the lines before; where a call fails, a prefix of
+-- them has passed.
 use Rattle.std.proofs.Common.{◌∙◌, rules}
 use Rattle.std.proofs.lemmas.Result.{err_from_is_err_and}
 use Rattle.engines.proofs.Gathering.{PassesOn-both, PassesFront-both}
@@ -7,7 +8,9 @@ use Rattle.engines.proofs.Talks.{Exchanges-both, Breaks-behind, Breaks-none}
 use Rattle.engines.proofs.ask.ask_lines.Goals as goal
 
 pub returns-in_err-ask_line-clause-sent : goal.returns-in_err-ask_line-clause-sent
-returns-in_err-ask_line-clause-sent g c = PassesFront-both _ _ _ _ _ _ (Asks-passes _ _ _ _ c.lines.invariant.asked) c.in_err-ask_line.ensures.sent
+returns-in_err-ask_line-clause-sent g c =
+    PassesFront-both _ _ _ _ _ _ (Asks-passes _ _ _ _ c.lines.invariant.asked)
+    c.in_err-ask_line.ensures.sent
 
 pub returns-in_err-ask_line-clause-cut : goal.returns-in_err-ask_line-clause-cut
 returns-in_err-ask_line-clause-cut g c =
@@ -15,25 +18,33 @@ returns-in_err-ask_line-clause-cut g c =
     rw p.1 (PassesFront-both _ _ _ _ _ _ c.lines.invariant.printed c.in_err-ask_line.ensures.cut)
 
 pub returns-then-not-branch-clause-sent : goal.returns-then-not-branch-clause-sent
-returns-then-not-branch-clause-sent g c = PassesFront-both _ _ _ _ _ _ (Asks-passes _ _ _ _ c.lines.invariant.asked) c.in_ok-ask_line.ensures.sent
+returns-then-not-branch-clause-sent g c =
+    PassesFront-both _ _ _ _ _ _ (Asks-passes _ _ _ _ c.lines.invariant.asked)
+    c.in_ok-ask_line.ensures.sent
 
 pub returns-then-not-branch-clause-printed : goal.returns-then-not-branch-clause-printed
-returns-then-not-branch-clause-printed g c = PassesOn-both _ _ _ _ _ _ c.lines.invariant.printed c.in_ok-ask_line.ensures.printed
+returns-then-not-branch-clause-printed g c =
+    PassesOn-both _ _ _ _ _ _ c.lines.invariant.printed c.in_ok-ask_line.ensures.printed
 
 pub lines-preserved : goal.lines-preserved
 lines-preserved g c = record {
-  asked = Asks-both _ _ _ _ _ _ c.lines.invariant.asked (c.in_ok-ask_line.ensures.went (search rules));
+  asked = Asks-both _ _ _ _ _ _ c.lines.invariant.asked
+      (c.in_ok-ask_line.ensures.went (search rules));
   printed = PassesOn-both _ _ _ _ _ _ c.lines.invariant.printed c.in_ok-ask_line.ensures.printed;
-  order = Exchanges-both _ _ _ c.lines.invariant.order (c.in_ok-ask_line.ensures.exchanged (search rules));
-  stream_reads = c.in_ok-ask_line.ensures.stream_reads (λ e. absurd cc) ∙ c.lines.invariant.stream_reads;
-  stream_writes = c.in_ok-ask_line.ensures.stream_writes (λ e. absurd cc) ∙ c.lines.invariant.stream_writes;
+  order = Exchanges-both _ _ _ c.lines.invariant.order
+      (c.in_ok-ask_line.ensures.exchanged (search rules));
+  stream_reads = c.in_ok-ask_line.ensures.stream_reads (λ e. absurd cc)
+      ∙ c.lines.invariant.stream_reads;
+  stream_writes = c.in_ok-ask_line.ensures.stream_writes (λ e. absurd cc)
+      ∙ c.lines.invariant.stream_writes;
   reader = c.in_ok-ask_line.ensures.reader (λ e. absurd cc) ∙ c.lines.invariant.reader;
   writer = c.in_ok-ask_line.ensures.writer (λ e. absurd cc) ∙ c.lines.invariant.writer;
 }
 
 pub returns-then-not-branch-clause-asked : goal.returns-then-not-branch-clause-asked
 returns-then-not-branch-clause-asked g c =
-    AsksAll-both _ _ _ _ _ _ _ _ _ c.lines.invariant.printed.bytes c.lines.invariant.asked c.lines.invariant.printed.written (c.in_ok-ask_line.ensures.over (search rules))
+    AsksAll-both _ _ _ _ _ _ _ _ _ c.lines.invariant.printed.bytes c.lines.invariant.asked
+    c.lines.invariant.printed.written (c.in_ok-ask_line.ensures.over (search rules))
 
 pub returns-in_err-ask_line-clause-order : goal.returns-in_err-ask_line-clause-order
 returns-in_err-ask_line-clause-order g c =

@@ -5,10 +5,18 @@ use Rattle.engines.proofs.command_line.dist_command.Goals as goal
 
 pub returns-clause-app : goal.returns-clause-app
 returns-clause-app c =
-    let start : app_of c.after_help.result ≡ new_app (codes "dist") = search (rules, c.new.ensures.app, c.override_usage.ensures, c.about.ensures, c.after_help.ensures) in
+    let start : app_of c.after_help.result ≡ new_app (codes "dist") =
+    search (
+      rules,
+      c.new.ensures.app,
+      c.override_usage.ensures,
+      c.about.ensures,
+      c.after_help.ensures,
+    ) in
     c.in_ok-arg-5.ensures.shape c.edge_flag.ensures.local
     ∙ ap₂ with_rule (c.in_ok-arg-4.ensures.shape c.default_flag.ensures.local
     ∙ ap₂ with_rule (c.in_ok-arg-3.ensures.shape c.query_flag.ensures.local
     ∙ ap₂ with_rule (c.in_ok-arg-2.ensures.shape c.nearest_flag.ensures.local
     ∙ ap₂ with_rule (c.in_ok-arg.ensures.shape c.metric_flag.ensures.local
-    ∙ ap₂ with_rule start c.metric_flag.ensures.rule) c.nearest_flag.ensures.rule) c.query_flag.ensures.rule) c.default_flag.ensures.rule) c.edge_flag.ensures.rule
+    ∙ ap₂ with_rule start c.metric_flag.ensures.rule) c.nearest_flag.ensures.rule)
+    c.query_flag.ensures.rule) c.default_flag.ensures.rule) c.edge_flag.ensures.rule

@@ -6,10 +6,14 @@ use Rattle.engines.proofs.command_line.program.Goals as goal
 
 pub returns-clause-app : goal.returns-clause-app
 returns-clause-app c =
-    let start : app_of c.subcommand_required.result ≡ on_top (λ s. record s { has_version = true; subcommand_required = true }) (new_app (codes "clearmap")) = search rules in
+    let start : app_of c.subcommand_required.result
+    ≡ on_top (λ s. record s { has_version = true; subcommand_required = true })
+    (new_app (codes "clearmap")) = search rules in
     c.in_ok-subcommand-4.ensures.shape c.in_ok-ask_command.ensures.local
     ∙ ap₂ with_subcommand (c.in_ok-subcommand-3.ensures.shape c.in_ok-serve_command.ensures.local
     ∙ ap₂ with_subcommand (c.in_ok-subcommand-2.ensures.shape c.steps_command.ensures.local
     ∙ ap₂ with_subcommand (c.in_ok-subcommand.ensures.shape c.in_ok-dist_command.ensures.local
-    ∙ ap₂ with_subcommand start (ap (λ (app : App). app.top) c.in_ok-dist_command.ensures.app)) (ap (λ (app : App). app.top) c.steps_command.ensures.app))
-    (ap (λ (app : App). app.top) c.in_ok-serve_command.ensures.app)) (ap (λ (app : App). app.top) c.in_ok-ask_command.ensures.app)
+    ∙ ap₂ with_subcommand start (ap (λ (app : App). app.top) c.in_ok-dist_command.ensures.app)) (ap
+    (λ (app : App). app.top) c.steps_command.ensures.app))
+    (ap (λ (app : App). app.top) c.in_ok-serve_command.ensures.app)) (ap
+    (λ (app : App). app.top) c.in_ok-ask_command.ensures.app)

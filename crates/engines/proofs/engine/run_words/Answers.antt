@@ -11,5 +11,12 @@ returns-clause-done g c = λ reads writes errors. record {
 
 pub returns-clause-failed_write : goal.returns-clause-failed_write
 returns-clause-failed_write g c = λ failed.
-    let begun = c.run_said.ensures.failed_write failed in
-    (record { said = c.options.result; said_by = said_so _ c.options.result c.options.ensures.options c.options.ensures.refused; begun = begun.0 }, begun.1, begun.2)
+    let begun = c.run_said.ensures.failed_write failed in (
+      record {
+        said = c.options.result;
+        said_by = said_so _ c.options.result c.options.ensures.options c.options.ensures.refused;
+        begun = begun.0;
+      },
+      begun.1,
+      begun.2,
+    )

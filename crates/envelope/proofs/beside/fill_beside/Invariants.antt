@@ -9,7 +9,10 @@ invariant-cells g l = record {
   width : length l.answers + 2 * shift g.B.Border.EDGE ≡ length l.entries;
   room : length l.entries ≤ length l.spans;
   within : l.start ≤ length l.answers + 15;
-  filled : (x : ℕ) → x < l.start → x < length l.answers → IsNearColumn g.M.Metric.distance l.entries l.y g.B.Border.EDGE (x + shift g.B.Border.EDGE) (g.A.CellAnswer.told g.M.Metric.distance x (l.y - shift g.B.Border.EDGE) (slice_index_or l.answers x g.A.CellAnswer.nothing));
+  filled : (x : ℕ) → x < l.start → x < length l.answers
+      → IsNearColumn g.M.Metric.distance l.entries l.y g.B.Border.EDGE (x + shift g.B.Border.EDGE)
+      (g.A.CellAnswer.told g.M.Metric.distance x (l.y - shift g.B.Border.EDGE)
+      (slice_index_or l.answers x g.A.CellAnswer.nothing));
 }
 
 abbrev pub decreases-cells : goal.decreases-cells

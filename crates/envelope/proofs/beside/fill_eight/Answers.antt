@@ -12,16 +12,27 @@ cells-preserved g c =
     let edge = g.B.Border.EDGE in
     let distance = g.M.Metric.distance in
     let told = g.A.CellAnswer.told in
-    let first : c.from-first.result ≡ shift edge = c.from-first.ensures ∙ (rw c.EDGE-edge.ensures at c.shift.ensures) in
-    let where_is : p + c.from-first.result ≡ c.args.start + shift edge + c.cells.lane = omega (arith, first) in
+    let first : c.from-first.result ≡ shift edge = c.from-first.ensures
+    ∙ (rw c.EDGE-edge.ensures at c.shift.ensures) in
+    let where_is : p + c.from-first.result ≡ c.args.start + shift edge + c.cells.lane =
+    omega (arith, first) in
     let place : c.args.start + shift edge + c.cells.lane ≡ p + shift edge = omega arith in
-    let inside : p < length c.cells.answers = omega (arith, c.cells.invariant.width, c.cells-test.true, c.max.ensures, c.min-count.ensures) in
-    let found = c.requires.told c.cells.lane (omega (arith, c.cells-test.true, c.min-count.ensures)) (omega (arith, inside, c.cells.invariant.width, c.requires.width)) in
-    let near : IsNearColumn distance c.args.entries.now c.args.y edge (p + shift edge) (Some c.near.result) = rw (← place, rw (where_is, c.EDGE-edge.ensures) at c.near.ensures.near) found.near in
+    let inside : p < length c.cells.answers =
+    omega (arith, c.cells.invariant.width, c.cells-test.true, c.max.ensures, c.min-count.ensures)
+    in
+    let found = c.requires.told c.cells.lane (omega (arith, c.cells-test.true, c.min-count.ensures))
+    (omega (arith, inside, c.cells.invariant.width, c.requires.width)) in
+    let near : IsNearColumn distance c.args.entries.now c.args.y edge (p + shift edge)
+    (Some c.near.result) = rw (← place, rw (where_is, c.EDGE-edge.ensures) at c.near.ensures.near)
+    found.near in
     record {
       width = search rules;
       filled = λ x from below.
-          set_more (λ x answer. IsNearColumn distance c.args.entries.now c.args.y edge (x + shift edge) (told distance x (c.args.y - shift edge) answer)) c.args.start p c.cells.answers c.some.result g.A.CellAnswer.nothing
-          inside c.cells.invariant.filled (near_kept told distance c.args.entries.now edge c.args.y p c.near.result c.some.result near c.requires.row c.some.ensures) x from (omega (arith, below));
+          set_more (λ x answer. IsNearColumn distance c.args.entries.now c.args.y edge
+          (x + shift edge) (told distance x (c.args.y - shift edge) answer)) c.args.start p
+          c.cells.answers c.some.result g.A.CellAnswer.nothing
+          inside c.cells.invariant.filled
+          (near_kept told distance c.args.entries.now edge c.args.y p c.near.result c.some.result
+          near c.requires.row c.some.ensures) x from (omega (arith, below));
       others = search rules;
     }

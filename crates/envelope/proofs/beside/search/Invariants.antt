@@ -8,7 +8,8 @@ invariant-columns g l = record {
   some : 1 ≤ l.k;
   few : l.k ≤ 97;
   low : AreBestNear g.M.Metric.distance g.M.Metric.joined l.parts l.at l.k l.low.best l.low.away;
-  high : AreBestNear g.M.Metric.distance g.M.Metric.joined l.parts (l.at + 8) l.k l.high.best l.high.away;
+  high : AreBestNear g.M.Metric.distance g.M.Metric.joined l.parts
+      (l.at + 8) l.k l.high.best l.high.away;
 }
 
 abbrev pub decreases-columns : goal.decreases-columns

@@ -8,6 +8,7 @@ use Rattle.envelope.proofs.cover.cover.Given as goal
 abbrev pub invariant-columns : goal.invariant-columns
 invariant-columns g l = record {
   few : l.count ≤ l.column;
-  covered : IsCovered g.M.Metric.distance (gap_of l.entries l.y) (IsColumnFrom l.entries l.piece.first l.column) l.spans l.count l.piece.end;
+  covered : IsCovered g.M.Metric.distance (gap_of l.entries l.y)
+      (IsColumnFrom l.entries l.piece.first l.column) l.spans l.count l.piece.end;
   end_is : l.column-end ≡ l.piece.last;
 }

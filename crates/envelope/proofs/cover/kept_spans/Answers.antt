@@ -8,31 +8,53 @@ use Rattle.envelope.proofs.cover.kept_spans.Goals as goal
 pub spans-init : goal.spans-init
 spans-init g c = record {
   few = omega arith;
-  cut = cut_begin _ (gap_of c.args.entries.now c.args.y) (IsColumnFrom c.args.entries.now c.args._piece.first c.args.column) c.args.column c.args.spans.now c.args._piece.end c.args.count c.requires.covered;
+  cut = cut_begin _ (gap_of c.args.entries.now c.args.y)
+      (IsColumnFrom c.args.entries.now c.args._piece.first c.args.column) c.args.column
+      c.args.spans.now c.args._piece.end c.args.count c.requires.covered;
 }
 
 pub distance-own-requires-clause-column : goal.distance-own-requires-clause-column
-distance-own-requires-clause-column g c = (top_known _ c.args.entries.now c.args.y c.args._piece.first c.args._piece.end c.args.column c.args.spans.now c.spans.kept c.requires.entries c.requires.column.among c.spans-test.true c.requires.piece.within c.spans.invariant.cut).column
+distance-own-requires-clause-column g c =
+    (top_known _ c.args.entries.now c.args.y c.args._piece.first c.args._piece.end c.args.column
+    c.args.spans.now c.spans.kept c.requires.entries c.requires.column.among c.spans-test.true
+    c.requires.piece.within c.spans.invariant.cut).column
 
 pub distance-own-requires-clause-gap : goal.distance-own-requires-clause-gap
-distance-own-requires-clause-gap g c = (top_known _ c.args.entries.now c.args.y c.args._piece.first c.args._piece.end c.args.column c.args.spans.now c.spans.kept c.requires.entries c.requires.column.among c.spans-test.true c.requires.piece.within c.spans.invariant.cut).gap
+distance-own-requires-clause-gap g c =
+    (top_known _ c.args.entries.now c.args.y c.args._piece.first c.args._piece.end c.args.column
+    c.args.spans.now c.spans.kept c.requires.entries c.requires.column.among c.spans-test.true
+    c.requires.piece.within c.spans.invariant.cut).gap
 
 pub distance-own-requires-clause-cell : goal.distance-own-requires-clause-cell
-distance-own-requires-clause-cell g c = (top_known _ c.args.entries.now c.args.y c.args._piece.first c.args._piece.end c.args.column c.args.spans.now c.spans.kept c.requires.entries c.requires.column.among c.spans-test.true c.requires.piece.within c.spans.invariant.cut).start
+distance-own-requires-clause-cell g c =
+    (top_known _ c.args.entries.now c.args.y c.args._piece.first c.args._piece.end c.args.column
+    c.args.spans.now c.spans.kept c.requires.entries c.requires.column.among c.spans-test.true
+    c.requires.piece.within c.spans.invariant.cut).start
 
 pub distance-requires-clause-cell : goal.distance-requires-clause-cell
-distance-requires-clause-cell g c = (top_known _ c.args.entries.now c.args.y c.args._piece.first c.args._piece.end c.args.column c.args.spans.now c.spans.kept c.requires.entries c.requires.column.among c.spans-test.true c.requires.piece.within c.spans.invariant.cut).start
+distance-requires-clause-cell g c =
+    (top_known _ c.args.entries.now c.args.y c.args._piece.first c.args._piece.end c.args.column
+    c.args.spans.now c.spans.kept c.requires.entries c.requires.column.among c.spans-test.true
+    c.requires.piece.within c.spans.invariant.cut).start
 
 pub returns-then-own-distance : goal.returns-then-own-distance
 returns-then-own-distance g c =
-    let top = top_known _ c.args.entries.now c.args.y c.args._piece.first c.args._piece.end c.args.column c.args.spans.now c.spans.kept c.requires.entries c.requires.column.among c.spans-test.true c.requires.piece.within c.spans.invariant.cut in
+    let top = top_known _ c.args.entries.now c.args.y c.args._piece.first c.args._piece.end
+    c.args.column c.args.spans.now c.spans.kept c.requires.entries c.requires.column.among
+    c.spans-test.true c.requires.piece.within c.spans.invariant.cut in
     let own = rw top.gap_is at c.distance-own.ensures in
     let other = rw c.gap-gap.ensures.gap at c.distance.ensures in
-    record { few = c.spans.invariant.few; cut = c.spans.invariant.cut; top = λ some. omega (arith, own, other, c.if-own-distance.true) }
+    record {
+      few = c.spans.invariant.few;
+      cut = c.spans.invariant.cut;
+      top = λ some. omega (arith, own, other, c.if-own-distance.true);
+    }
 
 pub spans-preserved : goal.spans-preserved
 spans-preserved g c =
-    let top = top_known _ c.args.entries.now c.args.y c.args._piece.first c.args._piece.end c.args.column c.args.spans.now c.spans.kept c.requires.entries c.requires.column.among c.spans-test.true c.requires.piece.within c.spans.invariant.cut in
+    let top = top_known _ c.args.entries.now c.args.y c.args._piece.first c.args._piece.end
+    c.args.column c.args.spans.now c.spans.kept c.requires.entries c.requires.column.among
+    c.spans-test.true c.requires.piece.within c.spans.invariant.cut in
     let own = rw top.gap_is at c.distance-own.ensures in
     let other = rw c.gap-gap.ensures.gap at c.distance.ensures in
     let few = c.requires.entries.few in
@@ -41,8 +63,11 @@ spans-preserved g c =
     record {
       few = omega arith;
       cut =
-          cut_drop _ (gap_of c.args.entries.now c.args.y) (IsColumnFrom c.args.entries.now c.args._piece.first c.args.column) c.args.column c.args.spans.now c.args._piece.end c.spans.kept c.spans-test.true
+          cut_drop _ (gap_of c.args.entries.now c.args.y)
+          (IsColumnFrom c.args.entries.now c.args._piece.first c.args.column) c.args.column
+          c.args.spans.now c.args._piece.end c.spans.kept c.spans-test.true
           g.met.M.Metric.stays_nearer end_few
-          (pairs_from c.args.entries.now c.args.y c.args._piece.first c.args.column c.requires.entries c.requires.column.among)
+          (pairs_from c.args.entries.now c.args.y c.args._piece.first c.args.column
+          c.requires.entries c.requires.column.among)
           c.spans.invariant.cut (omega (arith, own, other, c.if-own-distance.false));
     }

@@ -1,19 +1,29 @@
--- The spans that are left are those of the cells before the end, and the cells of the piece from there on are filled.
+-- The spans that are left are those of the cells before the end, and the cells of the piece from
+-- there on are filled.
 use Rattle.std.proofs.Common.{◌≡◌, ℕ, ◌+◌, ◌-◌, ◌<◌, ◌≤◌, ◌⊎◌, length, slice_index_or}
 use Rattle.metric.specs.Edge.{shift}
 use Rattle.envelope.specs.Columns.{IsColumnFrom, IsNearColumn, gap_of}
 use Rattle.envelope.specs.Envelope.{IsEnvelope}
 use Rattle.envelope.proofs.fill.fill.Given as goal
 
--- the spans that are left are those of the cells before the end, and the piece's cells from there on are filled
+-- the spans that are left are those of the cells before the end, and the piece's cells from there
+-- on are filled
 abbrev pub invariant-spans : goal.invariant-spans
 invariant-spans g l = record {
   few : l.count ≤ length l.spans;
   within : l.end ≤ l.piece.end;
   width : length l.answers ≡ length l.fn.answers;
-  covered : IsEnvelope g.M.Metric.distance (gap_of l.entries l.y) (IsColumnFrom l.entries l.piece.first l.piece.last) l.spans l.count l.end;
-  filled : (x : ℕ) → l.end ≤ x + shift g.B.Border.EDGE → l.piece.from ≤ x + shift g.B.Border.EDGE → x + shift g.B.Border.EDGE < l.piece.end → x < length l.answers → IsNearColumn g.M.Metric.distance l.entries l.y g.B.Border.EDGE (x + shift g.B.Border.EDGE) (g.A.CellAnswer.told g.M.Metric.distance x (l.y - shift g.B.Border.EDGE) (slice_index_or l.answers x g.A.CellAnswer.nothing));
-  others : (x : ℕ) → (x + shift g.B.Border.EDGE < l.piece.from) ⊎ (l.piece.end ≤ x + shift g.B.Border.EDGE) → slice_index_or l.answers x g.A.CellAnswer.nothing ≡ slice_index_or l.fn.answers x g.A.CellAnswer.nothing;
+  covered : IsEnvelope g.M.Metric.distance (gap_of l.entries l.y)
+      (IsColumnFrom l.entries l.piece.first l.piece.last) l.spans l.count l.end;
+  filled : (x : ℕ) → l.end ≤ x + shift g.B.Border.EDGE → l.piece.from ≤ x + shift g.B.Border.EDGE
+      → x + shift g.B.Border.EDGE < l.piece.end → x < length l.answers
+      → IsNearColumn g.M.Metric.distance l.entries l.y g.B.Border.EDGE (x + shift g.B.Border.EDGE)
+      (g.A.CellAnswer.told g.M.Metric.distance x (l.y - shift g.B.Border.EDGE)
+      (slice_index_or l.answers x g.A.CellAnswer.nothing));
+  others : (x : ℕ) → (x + shift g.B.Border.EDGE < l.piece.from)
+      ⊎ (l.piece.end ≤ x + shift g.B.Border.EDGE)
+      → slice_index_or l.answers x g.A.CellAnswer.nothing
+      ≡ slice_index_or l.fn.answers x g.A.CellAnswer.nothing;
 }
 
 abbrev pub decreases-spans : goal.decreases-spans

@@ -11,8 +11,11 @@ fill-requires-clause-covered g c =
     let count = c.cover-count.result in
     let spans = c.cover-count.new.spans in
     let few = c.cover-count.ensures.few in
-    let room : count ≤ length spans = omega (arith, few, c.requires.room, c.cover-count.auto.spans) in
+    let room : count ≤ length spans = omega (arith, few, c.requires.room, c.cover-count.auto.spans)
+    in
     rw (length-take-le count spans room)
-    (covered_same _ (gap_of c.args.entries.now c.args.y) (IsColumnFrom c.args.entries.now c.args.piece.first c.args.piece.last) spans (take count spans) count c.args.piece.end
+    (covered_same _ (gap_of c.args.entries.now c.args.y)
+    (IsColumnFrom c.args.entries.now c.args.piece.first c.args.piece.last) spans
+    (take count spans) count c.args.piece.end
     (λ place below. get_or-take count spans place no_span below)
     c.cover-count.ensures.covered)

@@ -8,6 +8,12 @@ columns-preserved c = record {
   few = omega (arith, c.columns.invariant.few, c.one_if_far-count.ensures.few);
   some = λ some. elim (cases_lt 0 c.columns.count) [
     | inl before ↦ c.columns.invariant.some before
-    | inr none ↦ (c.columns.column, record { left = c.columns-test.true; some = c.one_if_far-count.ensures.some (omega (arith, some, none)) })
+    | inr none ↦ (
+      c.columns.column,
+      record {
+        left = c.columns-test.true;
+        some = c.one_if_far-count.ensures.some (omega (arith, some, none));
+      },
+    )
   ];
 }

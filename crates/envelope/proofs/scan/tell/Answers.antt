@@ -8,27 +8,43 @@ use Rattle.envelope.proofs.scan.tell.Goals as goal
 
 pub near_of-requires-clause-inside : goal.near_of-requires-clause-inside
 near_of-requires-clause-inside g c =
-    let before : c.from-before.result ≡ shift g.B.Border.EDGE = c.from-before.ensures ∙ (rw c.EDGE-edge.ensures at c.shift.ensures) in
-    (c.requires.told (c.cells.x + c.from-before.result) (omega (arith, before, c.cells-test.true, c.requires.width))).best.among.left
+    let before : c.from-before.result ≡ shift g.B.Border.EDGE = c.from-before.ensures
+    ∙ (rw c.EDGE-edge.ensures at c.shift.ensures) in
+    (c.requires.told (c.cells.x + c.from-before.result)
+    (omega (arith, before, c.cells-test.true, c.requires.width))).best.among.left
 
 pub near_of-requires-clause-row : goal.near_of-requires-clause-row
 near_of-requires-clause-row g c =
-    let before : c.from-before.result ≡ shift g.B.Border.EDGE = c.from-before.ensures ∙ (rw c.EDGE-edge.ensures at c.shift.ensures) in
-    let among = (c.requires.told (c.cells.x + c.from-before.result) (omega (arith, before, c.cells-test.true, c.requires.width))).best.among in
-    c.requires.entries.each (slice_index c.args.words.now (c.cells.x + c.from-before.result) % 8192) among.left among.some
+    let before : c.from-before.result ≡ shift g.B.Border.EDGE = c.from-before.ensures
+    ∙ (rw c.EDGE-edge.ensures at c.shift.ensures) in
+    let among = (c.requires.told (c.cells.x + c.from-before.result)
+    (omega (arith, before, c.cells-test.true, c.requires.width))).best.among in
+    c.requires.entries.each (slice_index c.args.words.now (c.cells.x + c.from-before.result) % 8192)
+    among.left among.some
 
 pub cells-preserved : goal.cells-preserved
 cells-preserved g c =
     let p = c.cells.x in
     let k = shift g.B.Border.EDGE in
-    let before : c.from-before.result ≡ k = c.from-before.ensures ∙ (rw c.EDGE-edge.ensures at c.shift.ensures) in
-    let inside : p < length c.cells.answers = omega (arith, c.cells-test.true, c.cells.auto.answers) in
-    let told = c.requires.told (p + c.from-before.result) (omega (arith, before, c.cells-test.true, c.requires.width)) in
-    let near : IsNearColumn g.M.Metric.distance c.args.entries.now c.args._y g.B.Border.EDGE (p + c.from-before.result) (Some c.near_of.result) =
-    near_of_word g.M.Metric.distance c.args.entries.now g.B.Border.EDGE c.args._y (p + c.from-before.result) (slice_index c.args.words.now (p + c.from-before.result)) c.near_of.result told (rw c.EDGE-edge.ensures at c.near_of.ensures.near) in
+    let before : c.from-before.result ≡ k = c.from-before.ensures
+    ∙ (rw c.EDGE-edge.ensures at c.shift.ensures) in
+    let inside : p < length c.cells.answers =
+    omega (arith, c.cells-test.true, c.cells.auto.answers) in
+    let told = c.requires.told (p + c.from-before.result)
+    (omega (arith, before, c.cells-test.true, c.requires.width)) in
+    let near : IsNearColumn g.M.Metric.distance c.args.entries.now c.args._y g.B.Border.EDGE
+    (p + c.from-before.result) (Some c.near_of.result) =
+    near_of_word g.M.Metric.distance c.args.entries.now g.B.Border.EDGE c.args._y
+    (p + c.from-before.result) (slice_index c.args.words.now (p + c.from-before.result))
+    c.near_of.result told (rw c.EDGE-edge.ensures at c.near_of.ensures.near) in
     record {
       width = search rules;
       filled = λ x below.
-          set_more (λ x answer. IsNearColumn g.M.Metric.distance c.args.entries.now c.args._y g.B.Border.EDGE (x + k) (g.A.CellAnswer.told g.M.Metric.distance x (c.args._y - k) answer)) 0 p c.cells.answers c.some.result g.A.CellAnswer.nothing
-          inside (λ x low. c.cells.invariant.filled x) (near_kept g.A.CellAnswer.told g.M.Metric.distance c.args.entries.now g.B.Border.EDGE c.args._y p c.near_of.result c.some.result (rw before at near) c.requires.row c.some.ensures) x (omega arith) below;
+          set_more (λ x answer. IsNearColumn g.M.Metric.distance c.args.entries.now c.args._y
+          g.B.Border.EDGE (x + k) (g.A.CellAnswer.told g.M.Metric.distance x
+          (c.args._y - k) answer)) 0 p c.cells.answers c.some.result g.A.CellAnswer.nothing
+          inside (λ x low. c.cells.invariant.filled x)
+          (near_kept g.A.CellAnswer.told g.M.Metric.distance c.args.entries.now g.B.Border.EDGE
+          c.args._y p c.near_of.result c.some.result (rw before at near) c.requires.row
+          c.some.ensures) x (omega arith) below;
     }

@@ -11,13 +11,18 @@ row_from-requires-clause-entries g c =
     let edge = c.args.table.now.edge in
     let cells = c.args.table.now.cells in
     let high = (framed_size edge cells).1 in
-    let row_is : c.args.y + c.shift.result ≡ c.args.y + shift edge = rw (c.shift.ensures, c.edge-edge.ensures) refl in
-    rw row_is (entries_of_row (framed edge cells) (c.args.y + shift edge) c.row.result.now (framed_map edge cells c.row.ensures.bitmap) (omega (arith, high, c.requires.row)) c.row.ensures.row)
+    let row_is : c.args.y + c.shift.result ≡ c.args.y + shift edge =
+    rw (c.shift.ensures, c.edge-edge.ensures) refl in
+    rw row_is (entries_of_row (framed edge cells) (c.args.y + shift edge) c.row.result.now
+    (framed_map edge cells c.row.ensures.bitmap)
+    (omega (arith, high, c.requires.row)) c.row.ensures.row)
 
 pub returns-clause-nears : goal.returns-clause-nears
 returns-clause-nears g c =
     let edge = c.args.table.now.edge in
     let cells = c.args.table.now.cells in
-    let row_is : c.args.y + c.shift.result ≡ c.args.y + shift edge = rw (c.shift.ensures, c.edge-edge.ensures) refl in
+    let row_is : c.args.y + c.shift.result ≡ c.args.y + shift edge =
+    rw (c.shift.ensures, c.edge-edge.ensures) refl in
     AreRowNears-answers _ cells edge c.args.y cells.width c.row_from.new.answers
-    ((rw c.edge-edge.ensures at c.row_from.ensures.answers) cells c.args.y c.row.ensures.bitmap c.requires.row row_is (rw row_is c.row.ensures.row))
+    ((rw c.edge-edge.ensures at c.row_from.ensures.answers) cells c.args.y c.row.ensures.bitmap
+    c.requires.row row_is (rw row_is c.row.ensures.row))

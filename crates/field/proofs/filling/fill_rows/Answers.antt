@@ -11,13 +11,19 @@ rows-preserved g c =
     let batch = c.args.batch.now in
     let cells = batch.bitmap.now in
     let row = c.fill_line.ensures.line in
-    let start : c.from.result * c.width-width.result ≡ (c.rows.y - batch.y0) * cells.width = rw (c.from.ensures, c.rows.invariant.width_is) refl in
-    let ends = row_ends (c.rows.y - batch.y0) (batch.y1 - batch.y0) cells.width (omega (arith, c.rows-test.true)) in
+    let start : c.from.result * c.width-width.result ≡ (c.rows.y - batch.y0) * cells.width =
+    rw (c.from.ensures, c.rows.invariant.width_is) refl in
+    let ends = row_ends (c.rows.y - batch.y0) (batch.y1 - batch.y0) cells.width
+    (omega (arith, c.rows-test.true)) in
     record {
       width_is = c.rows.invariant.width_is;
       filled = record {
-        each = rows_put (λ x b answer. IsNear g.M.Metric.distance (IsBlocked cells batch.edge) x b (g.A.CellAnswer.told g.M.Metric.distance x b answer)) g.A.CellAnswer.nothing cells.width batch.y0 c.rows.y
-            (c.from.result * c.width-width.result) c.width-width.result c.rows.answers c.fill_line.new.line (omega arith) start c.rows.invariant.width_is (omega (arith, start, ends, c.rows.invariant.many, c.rows.invariant.width_is))
+        each = rows_put (λ x b answer. IsNear g.M.Metric.distance (IsBlocked cells batch.edge) x b
+            (g.A.CellAnswer.told g.M.Metric.distance x b answer)) g.A.CellAnswer.nothing cells.width
+            batch.y0 c.rows.y
+            (c.from.result * c.width-width.result) c.width-width.result c.rows.answers
+            c.fill_line.new.line (omega arith) start c.rows.invariant.width_is
+            (omega (arith, start, ends, c.rows.invariant.many, c.rows.invariant.width_is))
             row.as_many c.rows.invariant.filled.each row.each;
       };
       many = search rules;

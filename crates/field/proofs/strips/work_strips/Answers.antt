@@ -9,11 +9,22 @@ pub returns-clause-each : goal.returns-clause-each
 returns-clause-each g c =
     let strips = c.args.strips.now in
     let batch = strips.batch.now in
-    IfOk-weaker c.gather.result (λ cells. c.in_ok-found.found.items ≡ map Ok cells.items) (λ cells. AreStripAnswers g.M.Metric.distance batch strips.height (map (λ strip. strip.items) cells.items))
+    IfOk-weaker c.gather.result (λ cells. c.in_ok-found.found.items ≡ map Ok cells.items)
+    (λ cells. AreStripAnswers g.M.Metric.distance batch strips.height
+    (map (λ strip. strip.items) cells.items))
     (λ cells same. record {
-      each = strips_told (λ strip. strip.items) (IsStripAnswer g.M.Metric.distance batch strips.height) c.in_ok-found.found.items cells.items same
+      each = strips_told (λ strip. strip.items)
+          (IsStripAnswer g.M.Metric.distance batch strips.height) c.in_ok-found.found.items
+          cells.items same
           (λ k other below.
-          let called = (c.in_ok-found.ensures.each k other (omega (arith, below, c.in_ok-found.ensures.len, c.from.ensures, c.in_ok-found.found.ok))).1 in
+          let called = (c.in_ok-found.ensures.each k other
+          (omega (
+            arith,
+            below,
+            c.in_ok-found.ensures.len,
+            c.from.ensures,
+            c.in_ok-found.found.ok,
+          ))).1 in
           called.met.0);
     })
     c.gather.ensures.found

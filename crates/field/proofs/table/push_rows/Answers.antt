@@ -9,13 +9,18 @@ rows-preserved g c =
     let batch = c.args.batch.now in
     let row = c.fill_line.ensures.line in
     let many = row.as_many in
-    let all : c.resize.new.self.len ≡ c.len-start.result + length c.fill_line.new.line = search rules in
+    let all : c.resize.new.self.len ≡ c.len-start.result + length c.fill_line.new.line =
+    search rules in
     let start : c.len-start.result ≡ length c.rows.answers.items = search rules in
     let filled = c.as_mut_slice.ensures.value ∙ c.in_ok-resize.ensures.items in
     record {
       width_is = c.rows.invariant.width_is;
       answers =
-          rw (put_behind c.rows.answers.items _ c.as_mut_slice.result.now c.fill_line.new.line _ c.len-start.result (c.len-start.result + c.width-width.result) _ c.resize.new.self.len filled start (omega arith) all)
-          (AreAnswers-more g.A.CellAnswer.told g.A.CellAnswer.nothing g.M.Metric.distance batch.bitmap.now batch.edge batch.y0 c.rows.y c.rows.answers.items c.fill_line.new.line (omega arith) c.rows.invariant.answers row);
+          rw (put_behind c.rows.answers.items _ c.as_mut_slice.result.now c.fill_line.new.line _
+          c.len-start.result (c.len-start.result + c.width-width.result) _ c.resize.new.self.len
+          filled start (omega arith) all)
+          (AreAnswers-more g.A.CellAnswer.told g.A.CellAnswer.nothing g.M.Metric.distance
+          batch.bitmap.now batch.edge batch.y0 c.rows.y c.rows.answers.items c.fill_line.new.line
+          (omega arith) c.rows.invariant.answers row);
       phases = c.fill_line.ensures.ready;
     }

@@ -7,6 +7,7 @@ use Rattle.field.proofs.table.push_rows.Given as goal
 abbrev pub invariant-rows : goal.invariant-rows
 invariant-rows g l = record {
   width_is : l.width ≡ l.batch.bitmap.now.width;
-  answers : AreAnswers g.A.CellAnswer.told g.A.CellAnswer.nothing g.M.Metric.distance l.batch.bitmap.now l.batch.edge l.batch.y0 l.y l.answers.items;
+  answers : AreAnswers g.A.CellAnswer.told g.A.CellAnswer.nothing g.M.Metric.distance
+      l.batch.bitmap.now l.batch.edge l.batch.y0 l.y l.answers.items;
   phases : IsNextLine l.batch l.phases l.y;
 }

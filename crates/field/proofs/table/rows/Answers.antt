@@ -11,5 +11,8 @@ returns-clause-rows g c =
     let batch = c.args.batch.now in
     let cells = batch.bitmap.now in
     let distance = g.M.Metric.distance in
-    IfOk-weaker c.answers.result (λ nears. AreAnswers (λ d x y near. near) None distance cells batch.edge batch.y0 batch.y1 nears.items) (λ nears. AreNears distance cells batch.edge batch.y0 batch.y1 nears.items)
-    (λ nears. AreNears-answers distance cells batch.edge batch.y0 batch.y1 nears.items) c.answers.ensures.rows
+    IfOk-weaker c.answers.result
+    (λ nears. AreAnswers (λ d x y near. near) None distance cells batch.edge batch.y0 batch.y1
+    nears.items) (λ nears. AreNears distance cells batch.edge batch.y0 batch.y1 nears.items)
+    (λ nears. AreNears-answers distance cells batch.edge batch.y0 batch.y1 nears.items)
+    c.answers.ensures.rows

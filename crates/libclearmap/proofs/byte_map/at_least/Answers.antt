@@ -1,5 +1,6 @@
 -- A bit of the mask is what the byte of its place is compared with.
-use Rattle.std.proofs.Common.{ℕ, ◌≤◌, ◌%◌, ◌^◌, nat_le, false, Bool, List, length, map, ap, cond, ◌∙◌, arith, w8, replicate}
+use Rattle.std.proofs.Common.{ℕ, ◌≤◌, ◌%◌, ◌^◌, nat_le, false, Bool, List, length, map, ap, cond}
+use Rattle.std.proofs.Common.{◌∙◌, arith, w8, replicate}
 use Rattle.std.specs.Int.{bit_at}
 use Rattle.std.proofs.lemmas.Simd.{bit_mask_l, mask_l-mod, tops_compared, zip2_splat_left}
 use Rattle.std.proofs.lemmas.List.{get_or-map, length-map}

@@ -1,5 +1,6 @@
 -- The cells of one more word are written.
-use Rattle.std.proofs.Common.{◌≡◌, ◌+◌, ◌-◌, ◌*◌, ◌<◌, ◌≤◌, ◌⊎◌, ◌∙◌, ℕ, Bool, inl, inr, ap, sym, get_or, if◌then◌else◌, arith}
+use Rattle.std.proofs.Common.{◌≡◌, ◌+◌, ◌-◌, ◌*◌, ◌<◌, ◌≤◌, ◌⊎◌, ◌∙◌, ℕ, Bool, inl, inr, ap, sym}
+use Rattle.std.proofs.Common.{get_or, if◌then◌else◌, arith}
 use Rattle.std.proofs.lemmas.Bool.{cases_lt}
 use Rattle.bits.specs.TileWords.{is_bit}
 use Rattle.clearance.specs.Rows.{words_of_row}

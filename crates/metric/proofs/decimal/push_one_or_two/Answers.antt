@@ -9,17 +9,21 @@ push_reserved-requires c =
     let one = ap length (decimal_digit c.args.number (omega arith)) in omega arith
 
 pub returns-then-number-lt10-clause-text : goal.returns-then-number-lt10-clause-text
-returns-then-number-lt10-clause-text c = rw (decimal_digit c.args.number (omega arith)) c.push_reserved.ensures.items
+returns-then-number-lt10-clause-text c =
+    rw (decimal_digit c.args.number (omega arith)) c.push_reserved.ensures.items
 
 pub returns-then-number-lt10-clause-length : goal.returns-then-number-lt10-clause-length
-returns-then-number-lt10-clause-length c = rw (decimal_digit c.args.number (omega arith)) c.push_reserved.ensures.len
+returns-then-number-lt10-clause-length c =
+    rw (decimal_digit c.args.number (omega arith)) c.push_reserved.ensures.len
 
 pub push_two-requires : goal.push_two-requires
 push_two-requires c =
-    let two = length-decimal_two c.args.number (omega arith) (omega arith) in record { short = omega arith; space = omega arith }
+    let two = length-decimal_two c.args.number (omega arith) (omega arith) in
+    record { short = omega arith; space = omega arith }
 
 pub returns-clause-text : goal.returns-clause-text
-returns-clause-text c = rw (decimal_two c.args.number (omega arith) (omega arith)) c.push_two.ensures.text
+returns-clause-text c =
+    rw (decimal_two c.args.number (omega arith) (omega arith)) c.push_two.ensures.text
 
 pub returns-clause-length : goal.returns-clause-length
 returns-clause-length c =

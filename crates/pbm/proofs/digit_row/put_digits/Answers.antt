@@ -13,7 +13,9 @@ words-preserved c = record {
         let place : 64 * c.words.index + (x - 64 * c.words.index) ≡ x = omega (arith, here) in
         let word : c.words.index ≡ x / 64 = omega (arith, below, here) in
         let bit : x - 64 * c.words.index ≡ x % 64 = omega (arith, below, here) in
-        let new = rw place at (c.put_word.ensures.pixels (x - 64 * c.words.index) (omega (arith, below, here))) in
-        new ∙ (ap (λ (i : ℕ). 48 + bit_at (get_or c.args.words.now c.words.index 0) i) bit ∙ ap (λ (k : ℕ). 48 + bit_at (get_or c.args.words.now k 0) (x % 64)) word)
+        let new = rw place at (c.put_word.ensures.pixels (x - 64 * c.words.index)
+        (omega (arith, below, here))) in
+        new ∙ (ap (λ (i : ℕ). 48 + bit_at (get_or c.args.words.now c.words.index 0) i) bit
+        ∙ ap (λ (k : ℕ). 48 + bit_at (get_or c.args.words.now k 0) (x % 64)) word)
   ];
 }

@@ -12,7 +12,19 @@ returns-in_err-form-clause-memory c = λ is.
     absurd (header-memory c.args.bytes.now c.in_err-form.field-0.0 c.in_err-form.ensures same)
 
 pub blank-requires-clause-width : goal.blank-requires-clause-width
-blank-requires-clause-width c = (header-read c.args.bytes.now (c.in_ok-form.form, c.in_ok-form.width, c.in_ok-form.height, c.in_ok-form.rest.now) c.in_ok-form.ensures).width_side
+blank-requires-clause-width c =
+    (header-read c.args.bytes.now (
+      c.in_ok-form.form,
+      c.in_ok-form.width,
+      c.in_ok-form.height,
+      c.in_ok-form.rest.now,
+    ) c.in_ok-form.ensures).width_side
 
 pub blank-requires-clause-height : goal.blank-requires-clause-height
-blank-requires-clause-height c = (header-read c.args.bytes.now (c.in_ok-form.form, c.in_ok-form.width, c.in_ok-form.height, c.in_ok-form.rest.now) c.in_ok-form.ensures).height_side
+blank-requires-clause-height c =
+    (header-read c.args.bytes.now (
+      c.in_ok-form.form,
+      c.in_ok-form.width,
+      c.in_ok-form.height,
+      c.in_ok-form.rest.now,
+    ) c.in_ok-form.ensures).height_side

@@ -6,10 +6,15 @@ use Rattle.pbm.proofs.image.read_image.Goals as goal
 pub returns-in_err-bitmap-clause-none : goal.returns-in_err-bitmap-clause-none
 returns-in_err-bitmap-clause-none c =
     let p = err_from_is_err_and c.from_residual.result c.from_residual.ensures.1 in
-    rw (p.1, p.2) (λ told. fault-none c.args.bytes.now c.in_err-bitmap.field-0.0 (c.in_err-bitmap.ensures.found told))
+    rw (p.1, p.2) (λ told. fault-none c.args.bytes.now c.in_err-bitmap.field-0.0
+    (c.in_err-bitmap.ensures.found told))
 
 pub overflow_sub-result : goal.overflow_sub-result
-overflow_sub-result c = image-shorter c.args.bytes.now (c.in_ok-bitmap.bitmap, c.in_ok-bitmap.rest.now) c.in_ok-bitmap.ensures.found
+overflow_sub-result c =
+    image-shorter c.args.bytes.now (c.in_ok-bitmap.bitmap, c.in_ok-bitmap.rest.now)
+    c.in_ok-bitmap.ensures.found
 
 pub returns-clause-reads : goal.returns-clause-reads
-returns-clause-reads c = (image-reads c.args.bytes.now c.in_ok-bitmap.rest.now c.in_ok-bitmap.bitmap c.in_ok-bitmap.ensures.found).0
+returns-clause-reads c =
+    (image-reads c.args.bytes.now c.in_ok-bitmap.rest.now c.in_ok-bitmap.bitmap
+    c.in_ok-bitmap.ensures.found).0

@@ -11,6 +11,12 @@ pub returns : goal.returns
 unfolding plain_text
 returns c =
     let cells = c.args.bitmap.now in
-    let rows : length (flat_map (plain_digit c.args.bitmap.now) (range_with_len 0 (c.args.bitmap.now.height * c.args.bitmap.now.width))) ≡ c.from.result * c.row_length.result =
-    rows-length cells cells.height ∙ sym (ap₂ (λ (a b : ℕ). a * b) (c.from.ensures ∙ c.height.ensures.height) (c.row_length.ensures ∙ ap row_length c.width.ensures.width)) in
-    sym (length-append (front_text Plain cells) (flat_map (plain_digit cells) (range_with_len 0 (cells.height * cells.width))) ∙ ap₂ (λ (a b : ℕ). a + b) (ap length (sym c.requires)) rows)
+    let rows : length (flat_map (plain_digit c.args.bitmap.now)
+    (range_with_len 0 (c.args.bitmap.now.height * c.args.bitmap.now.width)))
+    ≡ c.from.result * c.row_length.result =
+    rows-length cells cells.height
+    ∙ sym (ap₂ (λ (a b : ℕ). a * b) (c.from.ensures ∙ c.height.ensures.height)
+    (c.row_length.ensures ∙ ap row_length c.width.ensures.width)) in
+    sym (length-append (front_text Plain cells)
+    (flat_map (plain_digit cells) (range_with_len 0 (cells.height * cells.width)))
+    ∙ ap₂ (λ (a b : ℕ). a + b) (ap length (sym c.requires)) rows)

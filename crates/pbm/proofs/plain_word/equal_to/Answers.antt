@@ -8,6 +8,7 @@ use Rattle.pbm.proofs.plain_word.equal_to.Goals as goal
 pub returns : goal.returns
 returns c k within =
     let is = λ (x : ℕ). eqb x c.args.byte in
-    ap (λ (n : ℕ). bit_at n k) (bitmask_splat w8 eqb c.args.block 64 c.args.byte c.fits-block.0 (omega arith))
+    ap (λ (n : ℕ). bit_at n k)
+    (bitmask_splat w8 eqb c.args.block 64 c.args.byte c.fits-block.0 (omega arith))
     ∙ (bit_mask_l (map is c.args.block) k
     ∙ ap (λ b. cond b 1 0) (get_or-map is c.args.block k 0 false (omega (arith, c.fits-block.0))))

@@ -9,6 +9,10 @@ pub returns-clause-digits : goal.returns-clause-digits
 returns-clause-digits c =
     let few : c.trailing_ones.result ≤ 64 = search rules in
     let same = c.trailing_ones.ensures in
-    let fits : bit_or c.equal_to-ones.result c.equal_to.result < 2 ^ 64 = or_lt 64 c.equal_to-ones.result c.equal_to.result c.equal_to-ones.type_inv c.equal_to.type_inv in
-    AreDigits-block c.trailing_ones.result c.args.bytes.now _ c.equal_to-ones.result c.equal_to.result (omega arith) refl c.equal_to-ones.ensures c.equal_to.ensures few
-    (λ k before. below_trailing (bit_or c.equal_to-ones.result c.equal_to.result) k fits (omega (arith, same, before)) (omega (arith, same, few)))
+    let fits : bit_or c.equal_to-ones.result c.equal_to.result < 2 ^ 64 =
+    or_lt 64 c.equal_to-ones.result c.equal_to.result c.equal_to-ones.type_inv c.equal_to.type_inv
+    in
+    AreDigits-block c.trailing_ones.result c.args.bytes.now _ c.equal_to-ones.result
+    c.equal_to.result (omega arith) refl c.equal_to-ones.ensures c.equal_to.ensures few
+    (λ k before. below_trailing (bit_or c.equal_to-ones.result c.equal_to.result) k fits
+    (omega (arith, same, before)) (omega (arith, same, few)))

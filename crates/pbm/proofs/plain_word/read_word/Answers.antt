@@ -3,16 +3,24 @@ use Rattle.std.proofs.Common.{◌≡◌, ℕ, ◌+◌, ◌≤◌, ◌-◌, refl,
 use Rattle.std.specs.Int.{bit_at}
 use Rattle.std.proofs.lemmas.Result.{err_from_is_err_and}
 use Rattle.std.proofs.lemmas.Nat.Bits.{bit_at_cat_low, bit_at_cat_high}
-use Rattle.pbm.proofs.PartReads.{IsPartRead-none, IsPartRead-add, IsPartRead-fault_one, IsPartRead-all}
+use Rattle.pbm.proofs.PartReads.{IsPartRead-none, IsPartRead-add, IsPartRead-fault_one}
+use Rattle.pbm.proofs.PartReads.{IsPartRead-all}
 use Rattle.pbm.proofs.plain_word.read_word.Goals as goal
 
 pub turns-init : goal.turns-init
-turns-init c = record { within = omega arith; below = omega arith; read = IsPartRead-none c.args.count c.args.bytes.now (bit_at 0) }
+turns-init c =
+    record {
+      within = omega arith;
+      below = omega arith;
+      read = IsPartRead-none c.args.count c.args.bytes.now (bit_at 0);
+    }
 
 pub returns-in_err-more : goal.returns-in_err-more
 returns-in_err-more c =
     let p = err_from_is_err_and c.from_residual.result c.from_residual.ensures.1 in
-    rw (p.1, p.2) (IsPartRead-fault_one c.args.count c.args.bytes.now c.turns.place (bit_at c.turns.word) c.turns.rest.now c.in_err-more.field-0.0 c.turns-test.true c.in_err-more.ensures c.turns.invariant.read)
+    rw (p.1, p.2) (IsPartRead-fault_one c.args.count c.args.bytes.now c.turns.place
+    (bit_at c.turns.word) c.turns.rest.now c.in_err-more.field-0.0 c.turns-test.true
+    c.in_err-more.ensures c.turns.invariant.read)
 
 pub turns-preserved : goal.turns-preserved
 turns-preserved c =
@@ -23,12 +31,17 @@ turns-preserved c =
       within = within;
       below = c.with_bits-word.ensures.below;
       read =
-          IsPartRead-add c.args.count c.args.bytes.now c.turns.place c.in_ok-more.more (bit_at c.turns.word) (bit_at c.with_bits-word.result) c.turns.rest.now c.in_ok-more.digits c.in_ok-more.others.now within c.in_ok-more.ensures.read
-          (λ i before. ap (λ (n : ℕ). bit_at n i) c.with_bits-word.ensures.joined ∙ bit_at_cat_low c.in_ok-more.digits c.turns.place c.turns.word i before)
+          IsPartRead-add c.args.count c.args.bytes.now c.turns.place c.in_ok-more.more
+          (bit_at c.turns.word) (bit_at c.with_bits-word.result) c.turns.rest.now
+          c.in_ok-more.digits c.in_ok-more.others.now within c.in_ok-more.ensures.read
+          (λ i before. ap (λ (n : ℕ). bit_at n i) c.with_bits-word.ensures.joined
+          ∙ bit_at_cat_low c.in_ok-more.digits c.turns.place c.turns.word i before)
           (λ i before.
           let behind : c.turns.place + i - c.turns.place ≡ i = omega arith in
           ap (λ (n : ℕ). bit_at n (c.turns.place + i)) c.with_bits-word.ensures.joined
-          ∙ (bit_at_cat_high c.in_ok-more.digits c.turns.place c.turns.word (c.turns.place + i) c.turns.invariant.below (omega arith) ∙ ap (bit_at c.in_ok-more.digits) behind))
+          ∙ (bit_at_cat_high c.in_ok-more.digits c.turns.place c.turns.word
+          (c.turns.place + i) c.turns.invariant.below (omega arith)
+          ∙ ap (bit_at c.in_ok-more.digits) behind))
           c.turns.invariant.read;
     }
 
@@ -36,4 +49,6 @@ pub returns : goal.returns
 returns c =
     let within = c.turns.invariant.within in
     let ended = c.turns-test.false in
-    IsPartRead-all c.args.count c.args.bytes.now c.turns.place (bit_at c.turns.word) c.turns.word c.turns.rest.now (omega arith) (λ i before. refl) c.turns.invariant.read
+    IsPartRead-all c.args.count c.args.bytes.now c.turns.place
+    (bit_at c.turns.word) c.turns.word c.turns.rest.now (omega arith)
+    (λ i before. refl) c.turns.invariant.read

@@ -12,9 +12,13 @@ rows-preserved c =
     record {
       order = omega (arith, order);
       text = c.push_row.ensures.text
-          ∙ (ap (λ (t : List ℕ). t ++ flat_map (plain_digit c.args.bitmap.now) (range_with_len (c.rows.y * c.args.bitmap.now.width) c.args.bitmap.now.width)) c.rows.invariant.text
-          ∙ flat_map-row_from (plain_digit c.args.bitmap.now) c.args.out.now.items c.args.bitmap.now.width c.args.from c.rows.y order);
-      added = (let a = c.push_row.ensures.length in let b = c.rows.invariant.added in rw next (omega (arith, a, b)));
+          ∙ (ap (λ (t : List ℕ). t ++ flat_map (plain_digit c.args.bitmap.now)
+          (range_with_len (c.rows.y * c.args.bitmap.now.width) c.args.bitmap.now.width))
+          c.rows.invariant.text
+          ∙ flat_map-row_from (plain_digit c.args.bitmap.now) c.args.out.now.items
+          c.args.bitmap.now.width c.args.from c.rows.y order);
+      added = (let a = c.push_row.ensures.length in let b = c.rows.invariant.added in
+          rw next (omega (arith, a, b)));
       room = (let a = c.push_row.ensures.room in let b = c.rows.invariant.room in omega arith);
       digits = c.push_row.ensures.digits;
     }

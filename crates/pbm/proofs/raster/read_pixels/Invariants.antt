@@ -4,7 +4,11 @@ use Rattle.pbm.proofs.Progress.{IsReadTo}
 use Rattle.pbm.proofs.raster.read_pixels.Given as goal
 
 abbrev pub invariant-words : goal.invariant-words
-invariant-words l = IsReadTo l.fn.bytes l.fn.bitmap.width l.fn.bitmap.height (pixels_before l.fn.bitmap.width l.y l.index) l.bitmap l.rest
+invariant-words l =
+    IsReadTo l.fn.bytes l.fn.bitmap.width l.fn.bitmap.height
+    (pixels_before l.fn.bitmap.width l.y l.index) l.bitmap l.rest
 
 abbrev pub invariant-rows : goal.invariant-rows
-invariant-rows l = IsReadTo l.fn.bytes l.fn.bitmap.width l.fn.bitmap.height (pixels_before l.fn.bitmap.width l.y 0) l.bitmap l.rest
+invariant-rows l =
+    IsReadTo l.fn.bytes l.fn.bitmap.width l.fn.bitmap.height
+    (pixels_before l.fn.bitmap.width l.y 0) l.bitmap l.rest

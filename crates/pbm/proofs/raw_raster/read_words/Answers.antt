@@ -16,14 +16,19 @@ rows-preserved c =
     let words = c.read_row.new.words in
     c.set_row.ensures.written
     ∙ (ap (λ (cells : Cells). with_row cells y words) c.rows.invariant
-    ∙ drawn_row-more width c.args.bitmap.now.height y words (raw_pixel (bytes_across width) c.args.raster.now)
+    ∙ drawn_row-more width c.args.bitmap.now.height y words
+    (raw_pixel (bytes_across width) c.args.raster.now)
     (λ k i column within inside.
-    let start : c.from.result * c.from-across.result + 8 * k ≡ y * bytes_across width + 8 * k = rw (c.from.ensures, across) refl in
-    raw_word-pixel (bytes_across width) c.args.raster.now y k (c.from.result * c.from-across.result + 8 * k) i (get_or words k 0) start
+    let start : c.from.result * c.from-across.result + 8 * k ≡ y * bytes_across width + 8 * k =
+    rw (c.from.ensures, across) refl in
+    raw_word-pixel (bytes_across width) c.args.raster.now y k
+    (c.from.result * c.from-across.result + 8 * k) i (get_or words k 0) start
     (c.read_row.ensures k (omega arith) i within (omega arith))))
 
 pub returns : goal.returns
 returns c =
     let width = c.args.bitmap.now.width in
     let down : c.rows.y ≡ c.args.bitmap.now.height = omega arith in
-    c.rows.invariant ∙ drawn_words-all width c.args.bitmap.now.height (c.rows.y * words_across width) (raw_pixel (bytes_across width) c.args.raster.now) (rw down refl)
+    c.rows.invariant ∙ drawn_words-all width c.args.bitmap.now.height
+    (c.rows.y * words_across width) (raw_pixel (bytes_across width) c.args.raster.now)
+    (rw down refl)

@@ -6,4 +6,6 @@ use Rattle.pbm.proofs.Words.{drawn_words}
 use Rattle.pbm.proofs.raw_raster.read_words.Given as goal
 
 abbrev pub invariant-rows : goal.invariant-rows
-invariant-rows l = l.bitmap ≡ drawn_words l.fn.bitmap.width l.fn.bitmap.height (raw_pixel (bytes_across l.fn.bitmap.width) l.fn.raster) (l.y * words_across l.fn.bitmap.width)
+invariant-rows l =
+    l.bitmap ≡ drawn_words l.fn.bitmap.width l.fn.bitmap.height
+    (raw_pixel (bytes_across l.fn.bitmap.width) l.fn.raster) (l.y * words_across l.fn.bitmap.width)

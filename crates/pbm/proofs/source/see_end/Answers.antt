@@ -8,8 +8,11 @@ use Rattle.pbm.proofs.source.see_end.Goals as goal
 pub returns-in-Ok-clause-ended : goal.returns-in-Ok-clause-ended
 returns-in-Ok-clause-ended g c =
     Meets-read _ _ _ _ _ c.in_default.ensures.reads
-    (ends-so _ _ c.in-Ok.field-0.now c.fill.new.self.ended c.fill.ensures.«open».ended c.in_default.ensures.more (ap (λ b. ended b) (sym c.unread.ensures) ∙ c.in-Ok.ensures))
+    (ends-so _ _ c.in-Ok.field-0.now c.fill.new.self.ended c.fill.ensures.«open».ended
+    c.in_default.ensures.more (ap (λ b. ended b) (sym c.unread.ensures) ∙ c.in-Ok.ensures))
 
 pub returns-in-Err-after_image-clause-fault : goal.returns-in-Err-after_image-clause-fault
 returns-in-Err-after_image-clause-fault g c =
-    Meets-read _ _ _ _ _ c.in_default.ensures.reads (ends-not _ _ c.in-Err-after_image.fault (ap (λ b. ended b) (sym c.unread.ensures) ∙ c.in-Err-after_image.ensures))
+    Meets-read _ _ _ _ _ c.in_default.ensures.reads
+    (ends-not _ _ c.in-Err-after_image.fault
+    (ap (λ b. ended b) (sym c.unread.ensures) ∙ c.in-Err-after_image.ensures))

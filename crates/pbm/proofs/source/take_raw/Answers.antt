@@ -7,9 +7,15 @@ use Rattle.pbm.proofs.source.take_raw.Goals as goal
 pub returns-in-Ok-clause-raster : goal.returns-in-Ok-clause-raster
 returns-in-Ok-clause-raster g c =
     Meets-read _ _ _ _ _ c.in_default.ensures.reads
-    (Meets-end _ _ _ c.in_default.ensures.ended (c.in-Ok.field-0.now, ap (λ b. raw_raster c.args.bitmap.now.width c.args.bitmap.now.height b) (sym c.unread.ensures) ∙ c.in-Ok.ensures.raster))
+    (Meets-end _ _ _ c.in_default.ensures.ended (
+      c.in-Ok.field-0.now,
+      ap (λ b. raw_raster c.args.bitmap.now.width c.args.bitmap.now.height b) (sym c.unread.ensures)
+          ∙ c.in-Ok.ensures.raster,
+    ))
 
 pub returns-in-Err-read_raw-clause-fault : goal.returns-in-Err-read_raw-clause-fault
 returns-in-Err-read_raw-clause-fault g c =
     Meets-read _ _ _ _ _ c.in_default.ensures.reads
-    (Meets-end _ _ _ c.in_default.ensures.ended (ap (λ b. raw_raster c.args.bitmap.now.width c.args.bitmap.now.height b) (sym c.unread.ensures) ∙ c.in-Err-read_raw.ensures.fault))
+    (Meets-end _ _ _ c.in_default.ensures.ended
+    (ap (λ b. raw_raster c.args.bitmap.now.width c.args.bitmap.now.height b)
+    (sym c.unread.ensures) ∙ c.in-Err-read_raw.ensures.fault))

@@ -1,4 +1,5 @@
--- The words of a line, joined by blanks, are the line, and none of them has a blank: both are lemmas on words.
+-- The words of a line, joined by blanks, are the line, and none of them has a blank: both are
+-- lemmas on words.
 use Rattle.proto.proofs.Splitting.{joined-words, plain-words}
 use Rattle.proto.proofs.laws.words_of_line.Goals as goal
 

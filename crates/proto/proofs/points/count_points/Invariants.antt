@@ -7,7 +7,8 @@ use Rattle.proto.proofs.points.count_points.Given as goal
 
 abbrev pub invariant-points : goal.invariant-points
 invariant-points l = record {
-  counted : option_map (λ cells. length cells) (points (words_left l.fn.rest)) ≡ option_map (λ cells. l.count + length cells) (points (words_left l.rest));
+  counted : option_map (λ cells. length cells) (points (words_left l.fn.rest))
+      ≡ option_map (λ cells. l.count + length cells) (points (words_left l.rest));
   few : 0 < l.count → l.count + bytes_left l.rest ≤ 2 ^ 64;
 }
 

@@ -13,6 +13,8 @@ points-preserved c = record {
       c.points.invariant.added
       ∙ ap (option_map (λ more. c.points.cells.items ++ more)) c.in-Some.ensures.points
       ∙ added-more c.points.cells.items c.in-Some.cell (points (words_left c.in-Some.others))
-      ∙ ap (λ (items : List Cell). option_map (λ more. items ++ more) (points (words_left c.in-Some.others))) (sym c.push_reserved.ensures.items);
-  room = rw (c.push_reserved.ensures.len, c.push_reserved.ensures.capacity) (room-more _ _ c.in-Some.cell _ (rw c.in-Some.ensures.points at c.points.invariant.room)).1;
+      ∙ ap (λ (items : List Cell). option_map (λ more. items ++ more)
+      (points (words_left c.in-Some.others))) (sym c.push_reserved.ensures.items);
+  room = rw (c.push_reserved.ensures.len, c.push_reserved.ensures.capacity)
+      (room-more _ _ c.in-Some.cell _ (rw c.in-Some.ensures.points at c.points.invariant.room)).1;
 }

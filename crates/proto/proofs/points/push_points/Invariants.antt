@@ -7,8 +7,10 @@ use Rattle.proto.proofs.points.push_points.Given as goal
 
 abbrev pub invariant-points : goal.invariant-points
 invariant-points l = record {
-  added : option_map (λ cells. l.fn.cells.items ++ cells) (points (words_left l.fn.rest)) ≡ option_map (λ cells. l.cells.items ++ cells) (points (words_left l.rest));
-  room : IsSomeAnd (points (words_left l.rest)) (λ cells. vec_len l.cells + length cells ≤ vec_capacity l.cells);
+  added : option_map (λ cells. l.fn.cells.items ++ cells) (points (words_left l.fn.rest))
+      ≡ option_map (λ cells. l.cells.items ++ cells) (points (words_left l.rest));
+  room : IsSomeAnd (points (words_left l.rest))
+      (λ cells. vec_len l.cells + length cells ≤ vec_capacity l.cells);
 }
 
 abbrev pub decreases-points : goal.decreases-points

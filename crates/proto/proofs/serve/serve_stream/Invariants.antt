@@ -7,4 +7,5 @@ use Rattle.proto.proofs.serve.serve_stream.Given as goal
 -- the stream was served so far, and goes on
 abbrev pub invariant-lines : goal.invariant-lines
 invariant-lines g l =
-    IsServed g.Id.StoreName.store None (g.S.Stream.wire l.fn.stream) (free l.fn.session) (g.S.Stream.wire l.stream) l.caller
+    IsServed g.Id.StoreName.store None (g.S.Stream.wire l.fn.stream) (free l.fn.session)
+    (g.S.Stream.wire l.stream) l.caller

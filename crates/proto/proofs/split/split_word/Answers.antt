@@ -1,4 +1,5 @@
--- A line with a blank has the word before its first blank and then those of the rest; one without a blank is a word.
+-- A line with a blank has the word before its first blank and then those of the rest; one without a
+-- blank is a word.
 use Rattle.std.proofs.Common.{sym}
 use Rattle.proto.proofs.Splitting.{words-blank, words-one}
 use Rattle.proto.proofs.split.split_word.Goals as goal

@@ -8,4 +8,6 @@ streams-init g c = record { streams = []; served = refl }
 
 pub streams-preserved : goal.streams-preserved
 streams-preserved g c =
-    HasWorked-next _ _ _ _ _ _ _ _ _ c.streams.invariant (rw c.in-Some-next.is at c.next-next.ensures.fresh) c.serve_stream-back.ensures.served c.serve_stream-back.ensures.session
+    HasWorked-next _ _ _ _ _ _ _ _ _ c.streams.invariant
+    (rw c.in-Some-next.is at c.next-next.ensures.fresh) c.serve_stream-back.ensures.served
+    c.serve_stream-back.ensures.session

@@ -4,4 +4,5 @@ use Rattle.proto.proofs.workers.serve_all.Given as goal
 
 -- the session was led on by fresh streams alone
 abbrev pub invariant-streams : goal.invariant-streams
-invariant-streams g l = HasWorked g.T.Streams.fresh g.T.S.Stream.wire g.Id.StoreName.store l.fn.session l.session
+invariant-streams g l =
+    HasWorked g.T.Streams.fresh g.T.S.Stream.wire g.Id.StoreName.store l.fn.session l.session

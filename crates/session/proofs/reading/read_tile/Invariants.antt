@@ -8,5 +8,6 @@ abbrev pub invariant-rows : goal.invariant-rows
 invariant-rows g l =
     record {
       seat : l.seat ≡ l.fn.seat;
-      read : AreRead (bitmap_seen g.Id.StoreName.store l.fn.seat l.version) l.position l.row l.words;
+      read : AreRead (bitmap_seen g.Id.StoreName.store l.fn.seat l.version) l.position l.row
+          l.words;
     }

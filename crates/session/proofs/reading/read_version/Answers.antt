@@ -1,4 +1,5 @@
--- Each tile that is read becomes the version's in the bitmap, and after the last one the bitmap is the version.
+-- Each tile that is read becomes the version's in the bitmap, and after the last one the bitmap is
+-- the version.
 use Rattle.std.proofs.Common.{arith, ap, ◌∙◌}
 use Rattle.bits.specs.TileWords.{tile_words}
 use Rattle.shelf.specs.Roles.{ReaderView}
@@ -11,12 +12,19 @@ positions-preserved g c =
     let p = c.positions.position in
     record {
       seat = c.read_tile.ensures.seat ∙ c.positions.invariant.seat;
-      bitmap = tile_more c.args.bitmap.now c.positions.bitmap c.put_tile.new.self (bitmap_seen g.Id.StoreName.store c.args.seat.now c.args.version) p c.read_tile.new.words c.positions.invariant.bitmap
-          (c.read_tile.ensures.words ∙ ap (λ (x : ReaderView). tile_words (bitmap_seen g.Id.StoreName.store x c.args.version) p) c.positions.invariant.seat)
+      bitmap = tile_more c.args.bitmap.now c.positions.bitmap c.put_tile.new.self
+          (bitmap_seen g.Id.StoreName.store c.args.seat.now c.args.version) p c.read_tile.new.words
+          c.positions.invariant.bitmap
+          (c.read_tile.ensures.words
+          ∙ ap (λ (x : ReaderView). tile_words (bitmap_seen g.Id.StoreName.store x c.args.version)
+          p) c.positions.invariant.seat)
           c.put_tile.ensures.written;
     }
 
 pub returns-clause-bitmap : goal.returns-clause-bitmap
 returns-clause-bitmap g c =
-    all_tiles g.Id.StoreName.store.base c.args.bitmap.now c.positions.bitmap (bitmap_seen g.Id.StoreName.store c.args.seat.now c.args.version) c.positions.position c.requires.of_map c.requires.width c.requires.height
-    c.positions.invariant.bitmap (omega (arith, c.positions-test.false, c.tiles-position-end.ensures.tiles))
+    all_tiles g.Id.StoreName.store.base c.args.bitmap.now c.positions.bitmap
+    (bitmap_seen g.Id.StoreName.store c.args.seat.now c.args.version) c.positions.position
+    c.requires.of_map c.requires.width c.requires.height
+    c.positions.invariant.bitmap
+    (omega (arith, c.positions-test.false, c.tiles-position-end.ensures.tiles))

@@ -9,5 +9,6 @@ abbrev pub invariant-positions : goal.invariant-positions
 invariant-positions g l =
     record {
       seat : l.seat ≡ l.fn.seat;
-      bitmap : l.bitmap ≡ put_before l.fn.bitmap (tile_words (bitmap_seen g.Id.StoreName.store l.fn.seat l.version)) l.position;
+      bitmap : l.bitmap ≡ put_before l.fn.bitmap
+          (tile_words (bitmap_seen g.Id.StoreName.store l.fn.seat l.version)) l.position;
     }

@@ -1,4 +1,5 @@
--- Giving a reader up keeps the rule, and the load tells what the keeper and the reader have of each other.
+-- Giving a reader up keeps the rule, and the load tells what the keeper and the reader have of each
+-- other.
 use Rattle.std.proofs.Common.{ap, ◌∙◌}
 use Rattle.shelf.specs.Roles.{keeping, keeper_in}
 use Rattle.shelf.specs.Seats.{reader_on}
@@ -11,7 +12,8 @@ load-requires g c =
     let role = ap (λ m. m.0) c.lay_together.ensures.role in (
       c.lay_together.ensures.table ∙ c.requires.table.0,
       c.requires.table.2,
-      rw c.requires.base (gives_it_up g.Id.StoreName.store.base _ _ _ (keeper_in c.args.keeper.now.me.0) (reader_on c.args.reader.views) role c.requires.quiet),
+      rw c.requires.base (gives_it_up g.Id.StoreName.store.base _ _ _
+          (keeper_in c.args.keeper.now.me.0) (reader_on c.args.reader.views) role c.requires.quiet),
     )
 
 pub returns-clause-keeper : goal.returns-clause-keeper
@@ -23,4 +25,5 @@ returns-clause-keeper g c =
 
 pub returns-clause-meets : goal.returns-clause-meets
 returns-clause-meets g c =
-    (c.load.ensures.2 (keeper_in c.args.keeper.now.me.0) (reader_on c.args.reader.views) (ap (λ m. m.0) c.lay_together.ensures.role)).1
+    (c.load.ensures.2 (keeper_in c.args.keeper.now.me.0) (reader_on c.args.reader.views)
+    (ap (λ m. m.0) c.lay_together.ensures.role)).1

@@ -14,5 +14,6 @@ join_seat-requires c =
       c.into_seat.ensures.0 ∙ c.requires.table.1,
       c.into_seat.ensures.3,
       c.requires.table.2,
-      rw (role, its) (joins (base_of c.args.words.now.shared.key) _ _ (keeper_in c.args.keeper.now.me.0) (reader_on c.args.reader.views)),
+      rw (role, its) (joins (base_of c.args.words.now.shared.key) _ _
+          (keeper_in c.args.keeper.now.me.0) (reader_on c.args.reader.views)),
     )

@@ -13,5 +13,6 @@ split_seat-requires c =
     rw c.deref.ensures (
       at_own _ _ _ _ _ c.requires.of,
       within_own _ _ _ _ _ _ c.requires.of (now-within _),
-      rw role (deals (base_of (arc_value c.args.words.now).shared.key) _ c.args.number c.requires.below),
+      rw role (deals (base_of (arc_value c.args.words.now).shared.key) _ c.args.number
+          c.requires.below),
     )

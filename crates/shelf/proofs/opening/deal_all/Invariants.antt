@@ -11,6 +11,7 @@ invariant-loop-number l =
     record {
       table : l.keeper.table_id ≡ l.fn.keeper.table_id;
       role : l.keeper.me ≡ (keeping (resting l.number []), []);
-      dealt : l.dealt.items ≡ newcomers (store_at l.fn.keeper.table_id (arc_value l.words).shared.key) l.number;
+      dealt : l.dealt.items ≡ newcomers
+          (store_at l.fn.keeper.table_id (arc_value l.words).shared.key) l.number;
       room : l.readers ≤ vec_capacity l.dealt;
     }

@@ -5,7 +5,9 @@ use Rattle.arena.proofs.arena.Arena.new.Given as goal
 
 -- the blocks below hold the number of the next, and the others nothing yet
 abbrev pub invariant-filling : goal.invariant-filling
-invariant-filling l = (l.done ≤ l.count) × Filled l.region.blocks l.done l.count × (l.region.home ≡ l.lease.home) × (l.region.home.count ≡ l.count) × (l.lease ≡ l.initial.lease) × (l.count ≡ l.initial.count)
+invariant-filling l = (l.done ≤ l.count) × Filled l.region.blocks l.done l.count
+    × (l.region.home ≡ l.lease.home) × (l.region.home.count ≡ l.count) × (l.lease ≡ l.initial.lease)
+    × (l.count ≡ l.initial.count)
 
 abbrev pub decreases-filling : goal.decreases-filling
 decreases-filling l = l.count - l.done

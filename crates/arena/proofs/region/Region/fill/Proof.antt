@@ -1,5 +1,6 @@
 -- `fill` writes a block. Assumes `Logic`.
-use Rattle.std.proofs.Common.{◌≡◌, ◌^◌, ◌+◌, ◌*◌, ◌<◌, List, [], ◌∷◌, ◌++◌, refl, ap, ◌∙◌, length, get_or, set, length-set, arith}
+use Rattle.std.proofs.Common.{◌≡◌, ◌^◌, ◌+◌, ◌*◌, ◌<◌, List, [], ◌∷◌, ◌++◌, refl, ap, ◌∙◌, length}
+use Rattle.std.proofs.Common.{get_or, set, length-set, arith}
 use Rattle.arena.specs.Blocks.{out, bare, held}
 use mir.Syntax.{Fn}
 use mir.Val.{Val}
@@ -8,9 +9,11 @@ use base.Logic.{SProp, emp}
 use prog.Wp.{Env, WpFn}
 use contract.Monad.{fact, fact_i}
 use contract.Running.{tables}
-use types.Kit.{‵, raw, ◌⊛◌, prop, ◌$◌, ◌∵◌, !, qed, by, move, keep, drop, use0, use1, use2, split, rewrite, at_ret, regoal, fsplit, fjoin}
+use types.Kit.{‵, raw, ◌⊛◌, prop, ◌$◌, ◌∵◌, !, qed, by, move, keep, drop, use0, use1, use2, split}
+use types.Kit.{rewrite, at_ret, regoal, fsplit, fjoin}
 use types.Part.{whole, sub, agg}
-use types.Run.{init, assigns_last, stop, fld, lit, un, bin, of_opd, no_more, and_then, first, blocks, exec, returns, enter}
+use types.Run.{init, assigns_last, stop, fld, lit, un, bin, of_opd, no_more, and_then, first}
+use types.Run.{blocks, exec, returns, enter}
 use types.ByLocal.{through, alloc_all, pass_all, free_all, look_at, get, get_in, sets, env}
 use denote.RattleType.{owns}
 use denote.RawPtr.{Ptr, block_ptr}
@@ -49,10 +52,23 @@ fill_spec 𝓤 𝓛 𝓜 𝓡 wired =
     let En₀ = ended in
     let c = clauses 𝓛 𝓜.mem 𝓡.returns in
     let fn : Fn = compiled.function in
-    let stays : Stays En₀.signature.params En₀.kept = (stay_dropped (slot_at 0 En₀.signature.params) En₀.kept.0, (stay_dropped (slot_at 1 En₀.signature.params) En₀.kept.1.0, (stay_dropped (slot_at 2 En₀.signature.params) En₀.kept.1.1.0, tt))) in
+    let stays : Stays En₀.signature.params En₀.kept = (
+      stay_dropped (slot_at 0 En₀.signature.params) En₀.kept.0,
+      (
+        stay_dropped (slot_at 1 En₀.signature.params) En₀.kept.1.0,
+        (stay_dropped (slot_at 2 En₀.signature.params) En₀.kept.1.1.0, tt),
+      ),
+    ) in
     let C = (tables 𝓤 H 𝓜 𝓡 𝓡.env).C in
     let Λ = (tables 𝓤 H 𝓜 𝓡 𝓡.env).Λ in
-    proved_at 𝓛 En₀ stays c 𝓜 𝓡 (Goes-blank 𝓛 0 (slot_at 0 En₀.signature.params) En₀.kept.0 (λ κs x f. tt), (Goes-dropped 𝓛 0 (slot_at 1 En₀.signature.params) En₀.kept.1.0 (λ κs x f. refl), (Goes-dropped 𝓛 0 (slot_at 2 En₀.signature.params) En₀.kept.1.1.0 (λ κs x f. refl), tt))) #self fn (compiled.unfolded 𝓤 H 𝓜 𝓡 wired) (λ z are.
+    proved_at 𝓛 En₀ stays c 𝓜 𝓡 (
+      Goes-blank 𝓛 0 (slot_at 0 En₀.signature.params) En₀.kept.0 (λ κs x f. tt),
+      (
+        Goes-dropped 𝓛 0 (slot_at 1 En₀.signature.params) En₀.kept.1.0 (λ κs x f. refl),
+        (Goes-dropped 𝓛 0 (slot_at 2 En₀.signature.params) En₀.kept.1.1.0 (λ κs x f. refl), tt),
+      ),
+    )
+    #self fn (compiled.unfolded 𝓤 H 𝓜 𝓡 wired) (λ z are.
     let Post : Val → SProp 𝓤 = (walk_of 𝓛 En₀ stays c).post z in
     let a = z.0.3 in
     let vss = z.0.4 in
@@ -64,35 +80,57 @@ fill_spec 𝓤 𝓛 𝓜 𝓡 wired =
     let b = h.block in
     let base : Ptr = block_ptr b h.start in
     let Asked : Type 0 = get_or r.blocks n out ≡ bare in
-    let told : vss.0 ≡ region_val base ∷ [] = (region_told r.base vss.0 are.0.0).0 ∙ ap (λ (p : Ptr). region_val p ∷ []) r.placed.0 in
-    let got = one block_ty vss.1.1.0 ((Array-Lawful 𝓛 u64 (uint_Lawful 𝓛 w64) 64).typed ws vss.1.1.0 are.1.1.0) in
+    let told : vss.0 ≡ region_val base ∷ [] = (region_told r.base vss.0 are.0.0).0
+    ∙ ap (λ (p : Ptr). region_val p ∷ []) r.placed.0 in
+    let got = one block_ty vss.1.1.0
+    ((Array-Lawful 𝓛 u64 (uint_Lawful 𝓛 w64) 64).typed ws vss.1.1.0 are.1.1.0) in
     let v : Val = got.0 in
     let good = got.2 in
-    qed 𝓛 ((raw (alive 𝓛 En₀.signature z.0.0 z.0.1) ⊛ ‵ (owns (types_at En₀.signature.params z.0.0) a vss)) ∷ raw (fact 𝓤 Asked) ∷ []) ∵ move ! (1 ∷ []) $ heard ! Asked (λ asked. split ! $ move ! (1 ∷ []) $
+    qed 𝓛 ((raw (alive 𝓛 En₀.signature z.0.0 z.0.1) ⊛ ‵
+    (owns (types_at En₀.signature.params z.0.0) a vss)) ∷ raw (fact 𝓤 Asked) ∷ [])
+    ∵ move ! (1 ∷ []) $ heard ! Asked (λ asked. split ! $ move ! (1 ∷ []) $
     let inside : n < length r.blocks = bare_inside r.blocks n asked in
     let same = r.counted in
     let few = r.placed.1 in
     let at : Ptr = block_ptr b (n * 512 + h.start) in
     let f64 : n < 2 ^ 64 = omega arith in let far : n * 512 < 2 ^ 64 = omega arith in
-    fsplit ! $ fsplit ! $ drop ! $ move ! (1 ∷ []) $ fsplit ! $ drop ! $ fsplit ! $ rewrite ! 0 (λ (us : List Val). ‵ (block_row.own_val ws us)) got.1 refl $ keep ! (2 ∷ 0 ∷ 3 ∷ []) $
-    use1 𝓛 (‵ (froom block_ty b (n * 512 + h.start)) ⊛ ‵ (besides b h.start r.blocks n)) (bare_out 𝓛 b r.blocks n h.start inside asked) $ split ! $
+    fsplit ! $ fsplit ! $ drop ! $ move ! (1 ∷ []) $ fsplit ! $ drop ! $ fsplit !
+    $ rewrite ! 0 (λ (us : List Val). ‵ (block_row.own_val ws us)) got.1 refl
+    $ keep ! (2 ∷ 0 ∷ 3 ∷ []) $
+    use1 𝓛 (‵ (froom block_ty b (n * 512 + h.start)) ⊛ ‵ (besides b h.start r.blocks n))
+    (bare_out 𝓛 b r.blocks n h.start inside asked) $ split ! $
     -- [the room; the other blocks; what the words own; the rest]
-    regoal ! (λ (us : List Val). prop (WpFn 𝓤 H C Λ fn us Post)) (λ i. told i ++ (are.1.0.0 i ++ (got.1 i ++ []))) refl $
+    regoal ! (λ (us : List Val). prop (WpFn 𝓤 H C Λ fn us Post))
+    (λ i. told i ++ (are.1.0.0 i ++ (got.1 i ++ []))) refl $
     enter ! C Λ fn (region_val base ∷ vint w32 n ∷ v ∷ []) Post $
-    alloc_all ! (λ l. pass_all ! refl ((tt, (tt, tt)), ((tt, record { fits = fn32 }), (good, tt))) $ let En : Env 𝓤 𝓛.H = env fn.locals l in
+    alloc_all ! (λ l. pass_all ! refl ((tt, (tt, tt)), ((tt, record { fits = fn32 }), (good, tt)))
+    $ let En : Env 𝓤 𝓛.H = env fn.locals l in
     sets ! (of_opd ! (get_in ! (fld ! refl (stop !)) (sub ! 0 refl (whole !)))) refl (tt, tt) $
     first ! $ blocks ! $
     sets ! (un ! (get ! refl) (record { fits = f64 })) refl (tt, record { fits = f64 }) $
-    sets ! (bin ! (get ! refl) (lit ! tt) (record { fits = far })) refl (tt, record { fits = far }) $
+    sets ! (bin ! (get ! refl) (lit ! tt) (record { fits = far })) refl (tt, record { fits = far })
+    $
     sets ! (bin ! (get ! refl) (get ! refl) tt) refl (tt, tt) $
     assigns_last ! (of_opd ! (get ! refl)) (through ! refl (stop !)) (init ! 0 refl good) $
     exec ! C Λ En (after 2 fn.body) (at_ret En Post) $
     sets ! (agg ! (and_then ! (get ! refl) (no_more !))) refl (tt, (tt, tt)) $
-    move ! (0 ∷ 2 ∷ []) $ use2 𝓛 (‵ (part_at block_row full_share ws b (n * 512 + h.start))) (part_in 𝓛 block_row refl full_share ws b (n * 512 + h.start) v) $
-    use2 𝓛 (‵ (blocks_from b h.start (set r.blocks n (held ws)))) (filled 𝓛 b r.blocks n h.start inside ws) $
+    move ! (0 ∷ 2 ∷ [])
+    $ use2 𝓛 (‵ (part_at block_row full_share ws b (n * 512 + h.start)))
+    (part_in 𝓛 block_row refl full_share ws b (n * 512 + h.start) v) $
+    use2 𝓛 (‵ (blocks_from b h.start (set r.blocks n (held ws))))
+    (filled 𝓛 b r.blocks n h.start inside ws) $
     returns ! (look_at ! 0 refl) $ free_all ! refl $
-    let y : (region.the_row).Denot = record { base = base; home = h; blocks = set r.blocks n (held ws); placed = (refl, few); counted = length-set r.blocks n (held ws) ∙ same } in
+    let y : (region.the_row).Denot =
+    record {
+      base = base;
+      home = h;
+      blocks = set r.blocks n (held ws);
+      placed = (refl, few);
+      counted = length-set r.blocks n (held ws) ∙ same;
+    } in
     use0 𝓛 (‵ (region_own base (region_val base ∷ []))) (region_made 𝓛 base) $ fjoin ! $
-    use0 𝓛 (raw (fact 𝓤 ((h ≡ h) × (y.blocks ≡ y.blocks)))) (fact_i 𝓤 ((h ≡ h) × (y.blocks ≡ y.blocks)) (emp 𝓤) (refl, refl)) $
-    nothing ! $ nothing ! $ fjoin ! $ nothing ! $ fjoin ! $ nothing ! $ fjoin ! $ move ! (3 ∷ 0 ∷ 2 ∷ 1 ∷ []) $
+    use0 𝓛 (raw (fact 𝓤 ((h ≡ h) × (y.blocks ≡ y.blocks))))
+    (fact_i 𝓤 ((h ≡ h) × (y.blocks ≡ y.blocks)) (emp 𝓤) (refl, refl)) $
+    nothing ! $ nothing ! $ fjoin ! $ nothing ! $ fjoin ! $ nothing ! $ fjoin !
+    $ move ! (3 ∷ 0 ∷ 2 ∷ 1 ∷ []) $
     by ! (leaves 𝓛 En₀ stays c z (region_val base) y (tt, (tt, (tt, tt))) (tt, (tt, (tt, tt)))))))

@@ -15,5 +15,8 @@ use Rattle.arena.proofs.region.Tile.TheLaw.Statement.{statement}
 
 -- a borrowed tile shows what the law of its type says
 pub shares : statement
-shares = of_Lends C.struct C.the_codes C.the_heap C.the_lent (λ d p. lent_at_shr_laws block_row (Array-row_laws u64 (uint_row_laws w64) 64) d.at d.words) (copy_shared RawPtr-field RawPtr-copy, (copy_shared u32-field u32-copy, tt))
-    (λ M 𝓤 𝓛 d p. Lends-lies 𝓛 block_row (C.the_row).lives d.at d.words (Shares-Array 𝓛 u64 tt 64 [] ((copy_shared u64-field u64-copy).shares M 𝓤 𝓛) d.words))
+shares = of_Lends C.struct C.the_codes C.the_heap C.the_lent
+    (λ d p. lent_at_shr_laws block_row (Array-row_laws u64 (uint_row_laws w64) 64) d.at d.words)
+    (copy_shared RawPtr-field RawPtr-copy, (copy_shared u32-field u32-copy, tt))
+    (λ M 𝓤 𝓛 d p. Lends-lies 𝓛 block_row (C.the_row).lives d.at d.words
+    (Shares-Array 𝓛 u64 tt 64 [] ((copy_shared u64-field u64-copy).shares M 𝓤 𝓛) d.words))

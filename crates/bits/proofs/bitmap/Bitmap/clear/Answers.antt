@@ -6,8 +6,12 @@ use Rattle.bits.proofs.bitmap.Bitmap.clear.Goals as goal
 pub invariant_of-self : goal.invariant_of-self
 invariant_of-self c =
     let len : vec_len c.self.inside.words ≡ length c.self.inside.words.items = search rules in
-    IsKept-none c.self.inside.width c.self.inside.height (vec_len c.self.inside.words) _ _ c.self.invariant.stored.width_is c.self.invariant.stored.height_is
+    IsKept-none c.self.inside.width c.self.inside.height
+    (vec_len c.self.inside.words) _ _ c.self.invariant.stored.width_is
+    c.self.invariant.stored.height_is
     (c.fill.ensures.items (λ y is. is)) (len ∙ c.self.invariant.stored.as_many)
 
 pub returns : goal.returns
-returns c = rw (← c.self.view_is) (cells_stored-none c.self.inside.width c.self.inside.height (vec_len c.self.inside.words) _ (c.fill.ensures.items (λ y is. is)))
+returns c =
+    rw (← c.self.view_is) (cells_stored-none c.self.inside.width c.self.inside.height
+    (vec_len c.self.inside.words) _ (c.fill.ensures.items (λ y is. is)))

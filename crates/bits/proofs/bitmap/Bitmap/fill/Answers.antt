@@ -1,6 +1,8 @@
 -- Each step of the filling, by the lemma of that step.
 use Rattle.std.proofs.Common.{◌∙◌, sym, arith}
-use Rattle.bits.proofs.FillLemmas.{filling_none, filling_kept, filling_set, filling_row, filling_all, filling_bitmap, filling_fits, other_value, same_value}
+use Rattle.bits.proofs.FillLemmas.{filling_none, filling_kept, filling_set, filling_row}
+use Rattle.bits.proofs.FillLemmas.{filling_all, filling_bitmap, filling_fits, other_value}
+use Rattle.bits.proofs.FillLemmas.{same_value}
 use Rattle.bits.proofs.bitmap.Bitmap.fill.Goals as goal
 use Rattle.bits.proofs.bitmap.Bitmap.fill.Goals.{then-get-black, else-get-black}
 
@@ -14,11 +16,13 @@ pub columns-preserved : goal.columns-preserved
 columns-preserved c =
     elim c.if-get-black.branch [
       | then-get-black w ↦ rw (w.self-is, w.changed-is)
-          (filling_set _ _ _ _ _ _ _ _ _ _ c.columns.invariant (omega arith) (omega arith) (omega arith)
+          (filling_set _ _ _ _ _ _ _ _ _ _ c.columns.invariant (omega arith) (omega arith)
+          (omega arith)
           (λ e. other_value _ _ w.if-get-black.true (c.get.ensures ∙ e))
           w.set.ensures.written)
       | else-get-black w ↦ rw (w.self-is, w.changed-is)
-          (filling_kept _ _ _ _ _ _ _ _ _ c.columns.invariant (omega arith) (sym c.get.ensures ∙ same_value _ _ w.if-get-black.false))
+          (filling_kept _ _ _ _ _ _ _ _ _ c.columns.invariant (omega arith)
+          (sym c.get.ensures ∙ same_value _ _ w.if-get-black.false))
     ]
 
 pub rows-preserved : goal.rows-preserved

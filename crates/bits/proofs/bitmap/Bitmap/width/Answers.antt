@@ -3,4 +3,5 @@ use Rattle.bits.proofs.StoredLemmas.{IsBitmap-cells_stored}
 use Rattle.bits.proofs.bitmap.Bitmap.width.Goals as goal
 
 pub returns-clause-bitmap : goal.returns-clause-bitmap
-returns-clause-bitmap c = rw (← c.self.view_is) (IsBitmap-cells_stored _ _ _ c.self.invariant.stored)
+returns-clause-bitmap c =
+    rw (← c.self.view_is) (IsBitmap-cells_stored _ _ _ c.self.invariant.stored)

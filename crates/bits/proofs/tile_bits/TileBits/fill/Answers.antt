@@ -8,4 +8,6 @@ rows-init c = tile_filling_none _ _ _ _ _ (search rules)
 
 pub rows-preserved : goal.rows-preserved
 rows-preserved c =
-    rw (c.from-row.ensures) (tile_filling_more _ _ _ _ _ _ _ _ _ _ _ c.rows.invariant (omega arith) (omega arith) (search rules) c.filled-new.ensures c.changes-changed.ensures.changes c.changes-changed.ensures.few)
+    rw (c.from-row.ensures) (tile_filling_more _ _ _ _ _ _ _ _ _ _ _ c.rows.invariant (omega arith)
+    (omega arith) (search rules) c.filled-new.ensures c.changes-changed.ensures.changes
+    c.changes-changed.ensures.few)

@@ -7,8 +7,12 @@ use Rattle.bits.proofs.tile_bits.TileBits.would_lay.Goals as goal
 
 pub returns-then-laid_row-old : goal.returns-then-laid_row-old
 returns-then-laid_row-old c =
-    row_would_change _ _ _ _ _ c.rows.y (laid (has c.args.stamp.now) c.args.from.x c.args.from.y c.args.rect.x0 c.args.rect.y0) _ (omega arith) (omega arith) (omega arith) (search rules)
+    row_would_change _ _ _ _ _ c.rows.y
+    (laid (has c.args.stamp.now) c.args.from.x c.args.from.y c.args.rect.x0 c.args.rect.y0) _
+    (omega arith) (omega arith) (omega arith) (search rules)
     (λ e. c.if-laid_row-old.true (c.laid_row.ensures ∙ e))
 
 pub returns : goal.returns
-returns c = nothing_would_change _ _ _ _ _ c.rows.y (laid (has c.args.stamp.now) c.args.from.x c.args.from.y c.args.rect.x0 c.args.rect.y0) c.rows.invariant (omega arith)
+returns c = nothing_would_change _ _ _ _ _ c.rows.y
+    (laid (has c.args.stamp.now) c.args.from.x c.args.from.y c.args.rect.x0 c.args.rect.y0)
+    c.rows.invariant (omega arith)

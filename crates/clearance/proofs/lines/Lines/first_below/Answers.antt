@@ -8,7 +8,8 @@ pub returns-else-y-height-clause-found : goal.returns-else-y-height-clause-found
 returns-else-y-height-clause-found g c =
     let cells = g.R.Rows.cells c.args.rows.now in
     let some = c.requires.lines.some in
-    IsFirstAmong-none g.M.Metric.distance cells c.args.self (λ b. b ≡ c.args.y) c.args.end (omega arith)
+    IsFirstAmong-none g.M.Metric.distance cells c.args.self (λ b. b ≡ c.args.y) c.args.end
+    (omega arith)
     (λ a b obstacle row.
     let inside = (obstacle_within cells c.requires.strip.bitmap a b obstacle).1 in
     let none = c.if-y-height.false in

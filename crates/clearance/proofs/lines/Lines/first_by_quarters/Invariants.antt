@@ -9,8 +9,11 @@ invariant-quarters g l = record {
   rows : l.rows ≡ l.fn.rows;
   from : l.self.first ≤ l.low;
   within : l.high ≤ l.last;
-  some : IsSomeNear g.M.Metric.distance (IsPart (g.R.Rows.cells l.fn.rows) l.part) l.self.strip l.self.limit l.low l.high;
-  before : (k : ℕ) → l.self.first ≤ k → k < l.low → IsLineFar g.M.Metric.distance (IsPart (g.R.Rows.cells l.fn.rows) l.part) l.self.strip l.self.limit k;
+  some : IsSomeNear g.M.Metric.distance (IsPart (g.R.Rows.cells l.fn.rows) l.part) l.self.strip
+      l.self.limit l.low l.high;
+  before : (k : ℕ) → l.self.first ≤ k → k < l.low
+      → IsLineFar g.M.Metric.distance (IsPart (g.R.Rows.cells l.fn.rows) l.part) l.self.strip
+      l.self.limit k;
 }
 
 abbrev pub decreases-quarters : goal.decreases-quarters

@@ -11,7 +11,8 @@ invariant-gaps g l = record {
   left : IsRectOf l.self l.line l.left;
   some : 0 < l.gap;
   few : l.gap ≤ 4096;
-  found : IsFirstAmong g.M.Metric.distance (g.R.Rows.cells l.fn.rows) l.self (λ b. row_gap l.left b < l.gap) l.end l.line;
+  found : IsFirstAmong g.M.Metric.distance (g.R.Rows.cells l.fn.rows) l.self
+      (λ b. row_gap l.left b < l.gap) l.end l.line;
   live : AreLinesLive g.M.Metric.distance (g.R.Rows.cells l.fn.rows) l.self l.line l.bands;
 }
 

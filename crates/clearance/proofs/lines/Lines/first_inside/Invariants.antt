@@ -7,5 +7,6 @@ abbrev pub invariant-lines : goal.invariant-lines
 invariant-lines g l = record {
   rows : l.rows ≡ l.fn.rows;
   left : IsRectOf l.self l.line l.left;
-  found : IsFirstAmong g.M.Metric.distance (g.R.Rows.cells l.fn.rows) l.self (IsLineRow l.self l.index) l.end l.line;
+  found : IsFirstAmong g.M.Metric.distance (g.R.Rows.cells l.fn.rows) l.self
+      (IsLineRow l.self l.index) l.end l.line;
 }

@@ -35,20 +35,28 @@ pub spot_row-requires-clause-entry : goal.spot_row-requires-clause-entry
 spot_row-requires-clause-entry c =
     let t = c.self.inside in
     let cells = cells_tabled t.width t.height t.edge t.entries.items in
-    let row : IsRowOfTable (framed t.edge cells) (c.args.y + shift t.edge) c.row.result.now = rw (← c.self.view_is) at c.row.ensures.row in
+    let row : IsRowOfTable (framed t.edge cells) (c.args.y + shift t.edge) c.row.result.now =
+    rw (← c.self.view_is) at c.row.ensures.row in
     let right = rw (← c.self.view_is) at c.requires.right in
     let wide = (framed_size t.edge cells).0 in
-    entry_small t.edge cells c.column_of-column.result (c.args.y + shift t.edge) _ (IsBitmap-cells_tabled t.width t.height t.edge t.entries.items c.self.invariant)
-    (rw c.from.ensures (row.each c.column_of-column.result (omega (arith, ints, right, wide, c.column_of-column.ensures))))
+    entry_small t.edge cells c.column_of-column.result (c.args.y + shift t.edge) _
+    (IsBitmap-cells_tabled t.width t.height t.edge t.entries.items c.self.invariant)
+    (rw c.from.ensures (row.each c.column_of-column.result
+    (omega (arith, ints, right, wide, c.column_of-column.ensures))))
 
 pub returns : goal.returns
 returns c =
     let t = c.self.inside in
     let cells = cells_tabled t.width t.height t.edge t.entries.items in
-    let row : IsRowOfTable (framed t.edge cells) (c.args.y + shift t.edge) c.row.result.now = rw (← c.self.view_is) at c.row.ensures.row in
+    let row : IsRowOfTable (framed t.edge cells) (c.args.y + shift t.edge) c.row.result.now =
+    rw (← c.self.view_is) at c.row.ensures.row in
     let right = rw (← c.self.view_is) at c.requires.right in
     let wide = (framed_size t.edge cells).0 in
-    let nearest = row.each c.column_of-column.result (omega (arith, ints, right, wide, c.column_of-column.ensures)) in
-    let found = spot_row t.edge cells c.column_of-column.result c.args.y _ (IsBitmap-cells_tabled t.width t.height t.edge t.entries.items c.self.invariant) nearest in
-    let column : pos c.column_of-column.result ≡ (c.args.x +ℤ pos (shift t.edge)) = omega (arith, ints, c.column_of-column.ensures) in
-    rw (← c.self.view_is, c.spot_row.ensures, c.from.ensures) (rw (spot_column t.edge c.column_of-column.result c.args.x column) at found)
+    let nearest = row.each c.column_of-column.result
+    (omega (arith, ints, right, wide, c.column_of-column.ensures)) in
+    let found = spot_row t.edge cells c.column_of-column.result c.args.y _
+    (IsBitmap-cells_tabled t.width t.height t.edge t.entries.items c.self.invariant) nearest in
+    let column : pos c.column_of-column.result ≡ (c.args.x +ℤ pos (shift t.edge)) =
+    omega (arith, ints, c.column_of-column.ensures) in
+    rw (← c.self.view_is, c.spot_row.ensures, c.from.ensures)
+    (rw (spot_column t.edge c.column_of-column.result c.args.x column) at found)

@@ -4,4 +4,5 @@ use Rattle.column.proofs.table.ColumnTable.width.Goals as goal
 
 pub returns-clause-bitmap : goal.returns-clause-bitmap
 returns-clause-bitmap c =
-    rw (← c.self.view_is) (IsBitmap-cells_tabled c.self.inside.width c.self.inside.height c.self.inside.edge c.self.inside.entries.items c.self.invariant)
+    rw (← c.self.view_is) (IsBitmap-cells_tabled c.self.inside.width c.self.inside.height
+    c.self.inside.edge c.self.inside.entries.items c.self.invariant)

@@ -7,6 +7,7 @@ use Rattle.desk.proofs.carry.collect.scan_all.Given as goal
 abbrev pub invariant-loop-reader : goal.invariant-loop-reader
 invariant-loop-reader g l =
     record {
-      keeper : l.keeper ≡ scanning l.fn.keeper l.by (map pin_word (take l.reader l.announced.items));
+      keeper : l.keeper ≡ scanning l.fn.keeper l.by
+          (map pin_word (take l.reader l.announced.items));
       place_each : length l.announced.items ≡ l.sessions;
     }

@@ -1,4 +1,5 @@
--- A current publish is worked: each call finds what it needs, and what is held is answered after them.
+-- A current publish is worked: each call finds what it needs, and what is held is answered after
+-- them.
 use Rattle.std.proofs.Common.{refl}
 use Rattle.map_core.specs.declared.command.Command.TheVariants.{Publish}
 use Rattle.desk.proofs.CarryLemmas.{has_task}
@@ -8,14 +9,18 @@ use Rattle.desk.proofs.PublishSteps.{publish_worked}
 use Rattle.desk.proofs.carry.publish.carry_publish.Goals as goal
 
 pub write_tiles-stored-requires-clause-in_hand : goal.write_tiles-stored-requires-clause-in_hand
-write_tiles-stored-requires-clause-in_hand g c = has_task g.Id.StoreName.store _ _ _ Publish c.requires.in_hand
+write_tiles-stored-requires-clause-in_hand g c =
+    has_task g.Id.StoreName.store _ _ _ Publish c.requires.in_hand
 
 pub write_directory-requires-clause-slot : goal.write_directory-requires-clause-slot
-write_directory-requires-clause-slot g c = publish_room _ _ (can_answer _ _ _ c.requires.in_hand.told).balanced refl c.requires.judged
+write_directory-requires-clause-slot g c =
+    publish_room _ _ (can_answer _ _ _ c.requires.in_hand.told).balanced refl c.requires.judged
 
 pub publish-requires-clause-able : goal.publish-requires-clause-able
 publish-requires-clause-able g c = can_answer _ _ _ c.requires.in_hand.told
 
 pub returns : goal.returns
 returns g c =
-    publish_worked g.Id.StoreName.store c.args.keeper.now _ _ _ _ c.args.by _ _ c.requires.in_hand c.write_tiles-stored.ensures.keeper c.write_tiles-stored.ensures.count c.write_directory.ensures c.publish.ensures
+    publish_worked g.Id.StoreName.store c.args.keeper.now _ _ _ _ c.args.by _ _ c.requires.in_hand
+    c.write_tiles-stored.ensures.keeper c.write_tiles-stored.ensures.count
+    c.write_directory.ensures c.publish.ensures

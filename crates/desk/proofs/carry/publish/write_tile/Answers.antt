@@ -4,15 +4,22 @@ use Rattle.desk.proofs.PublishSteps.{own_long, next_tile, one_more}
 use Rattle.desk.proofs.carry.publish.write_tile.Goals as goal
 
 pub own_tile-requires : goal.own_tile-requires
-own_tile-requires g c = omega (arith, own_long _ c.args.keeper.now _ c.requires.told, c.requires.inside)
+own_tile-requires g c =
+    omega (arith, own_long _ c.args.keeper.now _ c.requires.told, c.requires.inside)
 
 pub write_rows-requires-clause-own : goal.write_rows-requires-clause-own
 write_rows-requires-clause-own g c =
-    next_tile _ c.args.keeper.now _ c.args.by c.args.index c.args.position _ _ _ c.requires.told c.requires.in_hand c.requires.index
-    (c.in-Some.ensures.0 ∙ ap (λ n. Some n) (sym c.number.ensures)) (c.words.ensures ∙ c.in-Some.ensures.1)
+    next_tile _ c.args.keeper.now _ c.args.by c.args.index c.args.position _ _ _ c.requires.told
+    c.requires.in_hand c.requires.index
+    (c.in-Some.ensures.0 ∙ ap (λ n. Some n) (sym c.number.ensures))
+    (c.words.ensures ∙ c.in-Some.ensures.1)
 
 pub returns-in-Some-clause-count : goal.returns-in-Some-clause-count
-returns-in-Some-clause-count g c = one_more _ c.args.keeper.now _ c.args.index c.args.position 1 _ c.requires.told c.requires.inside c.requires.index c.in-Some.ensures.0 refl
+returns-in-Some-clause-count g c =
+    one_more _ c.args.keeper.now _ c.args.index c.args.position 1 _ c.requires.told
+    c.requires.inside c.requires.index c.in-Some.ensures.0 refl
 
 pub returns-in-None-clause-count : goal.returns-in-None-clause-count
-returns-in-None-clause-count g c = one_more _ c.args.keeper.now _ c.args.index c.args.position 0 _ c.requires.told c.requires.inside c.requires.index c.in-None.ensures refl
+returns-in-None-clause-count g c =
+    one_more _ c.args.keeper.now _ c.args.index c.args.position 0 _ c.requires.told
+    c.requires.inside c.requires.index c.in-None.ensures refl

@@ -9,10 +9,16 @@ use Rattle.desk.proofs.carry.publish.write_tiles.Goals as goal
 
 pub overflow_add-stored : goal.overflow_add-stored
 overflow_add-stored g c =
-    omega (arith, c.write_tile-stored.ensures.count, own_few (blocks g.Id.StoreName.store.base (entries c.loop-position.keeper.log)).own (c.loop-position.position + 1))
+    omega (
+      arith,
+      c.write_tile-stored.ensures.count,
+      own_few (blocks g.Id.StoreName.store.base (entries c.loop-position.keeper.log)).own
+          (c.loop-position.position + 1),
+    )
 
 pub returns-clause-count : goal.returns-clause-count
 returns-clause-count g c =
     let z = g.Id.StoreName.store.base in
     let all : c.loop-position.position ≡ tiles z = omega (arith, c.requires.plan.tiles_is) in
-    all_own z c.args.keeper.now _ c.loop-position.position _ c.requires.told all c.loop-position.invariant.count
+    all_own z c.args.keeper.now _ c.loop-position.position _ c.requires.told all
+    c.loop-position.invariant.count

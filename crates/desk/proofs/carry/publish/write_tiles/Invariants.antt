@@ -10,5 +10,7 @@ abbrev pub invariant-loop-position : goal.invariant-loop-position
 invariant-loop-position g l =
     record {
       keeper : l.keeper ≡ writing l.fn.keeper l.by (64 * l.stored);
-      count : l.stored ≡ length (own_list (take l.position (blocks g.Id.StoreName.store.base (entries l.fn.keeper.log)).own));
+      count : l.stored ≡ length
+          (own_list
+          (take l.position (blocks g.Id.StoreName.store.base (entries l.fn.keeper.log)).own));
     }

@@ -8,4 +8,5 @@ pub enter_checkpoint-requires : goal.enter_checkpoint-requires
 enter_checkpoint-requires c = place_of_ledger c.args.self.now.ledger _ c.requires.judged
 
 pub returns : goal.returns
-returns c = checkpoint_done c.args.self.now _ _ _ c.requires.judged refl c.enter_checkpoint.ensures.entered c.enter_checkpoint.ensures.reply
+returns c = checkpoint_done c.args.self.now _ _ _ c.requires.judged refl
+    c.enter_checkpoint.ensures.entered c.enter_checkpoint.ensures.reply

@@ -11,4 +11,6 @@ enter_draw-requires c = place_of_ledger c.args.self.now.ledger _ c.requires.judg
 
 pub returns : goal.returns
 returns c = λ command judged.
-    draw_done c.args.self.now _ command _ _ judged.kind.0 judged.by judged.kind.1.accepted (c.draw-changed.ensures.done command judged.kind.1) c.draw-changed.ensures.home c.enter_draw.ensures.entered c.enter_draw.ensures.reply
+    draw_done c.args.self.now _ command _ _ judged.kind.0 judged.by judged.kind.1.accepted
+    (c.draw-changed.ensures.done command judged.kind.1) c.draw-changed.ensures.home
+    c.enter_draw.ensures.entered c.enter_draw.ensures.reply

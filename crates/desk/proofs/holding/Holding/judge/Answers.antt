@@ -4,4 +4,5 @@ use Rattle.desk.proofs.HoldDraw.{judged_why}
 use Rattle.desk.proofs.holding.Holding.judge.Goals as goal
 
 pub returns-in-Some-clause-refused : goal.returns-in-Some-clause-refused
-returns-in-Some-clause-refused c = judged_why c.args.self.now c.args.command.now _ (sym c.judge.ensures ∙ c.in-Some.is)
+returns-in-Some-clause-refused c =
+    judged_why c.args.self.now c.args.command.now _ (sym c.judge.ensures ∙ c.in-Some.is)

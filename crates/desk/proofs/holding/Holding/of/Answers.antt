@@ -10,11 +10,19 @@ pub new-requires : goal.new-requires
 new-requires c = (bad_field-none _ _ c.requires).few_blocks
 
 pub open-requires : goal.open-requires
-open-requires c = omega (arith, (bad_field-none _ _ c.requires).blocks, ap length c.in_ok-arena.ensures.free, length-range_with_len 0 c.args.setting.blocks)
+open-requires c =
+    omega (
+      arith,
+      (bad_field-none _ _ c.requires).blocks,
+      ap length c.in_ok-arena.ensures.free,
+      length-range_with_len 0 c.args.setting.blocks,
+    )
 
 pub end-requires : goal.end-requires
 end-requires c =
-    ap length (c.in-Err.ensures.memory.1 ∙ c.in_ok-arena.ensures.free) ∙ (length-range_with_len 0 c.args.setting.blocks ∙ sym (ap (λ (h : Home). h.count) c.open.ensures.home ∙ c.in_ok-arena.ensures.count))
+    ap length (c.in-Err.ensures.memory.1 ∙ c.in_ok-arena.ensures.free)
+    ∙ (length-range_with_len 0 c.args.setting.blocks
+    ∙ sym (ap (λ (h : Home). h.count) c.open.ensures.home ∙ c.in_ok-arena.ensures.count))
 
 pub returns-in-Ok-clause-opened : goal.returns-in-Ok-clause-opened
 returns-in-Ok-clause-opened c =

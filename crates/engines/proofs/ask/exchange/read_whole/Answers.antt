@@ -1,15 +1,22 @@
--- What is read is a line and then the bytes that it counts, each gathered after what the buffer held.
+-- What is read is a line and then the bytes that it counts, each gathered after what the buffer
+-- held.
 use Rattle.std.proofs.Common.{◌∙◌}
 use Rattle.engines.proofs.Gathering.{taken_behind}
 use Rattle.engines.proofs.Requests.{counted_read, gathered_both}
 use Rattle.engines.proofs.ask.exchange.read_whole.Goals as goal
 
 pub returns-clause-all : goal.returns-clause-all
-returns-clause-all g c = gathered_both _ _ _ _ _ _ c.read_count.result c.in_ok-read_line.ensures.all c.read_count.ensures.all
+returns-clause-all g c =
+    gathered_both _ _ _ _ _ _ c.read_count.result c.in_ok-read_line.ensures.all
+    c.read_count.ensures.all
 
 pub returns-clause-taken : goal.returns-clause-taken
-returns-clause-taken g c = taken_behind _ _ _ _ _ c.in_ok-read_line.ensures.all c.read_count.ensures.taken
+returns-clause-taken g c =
+    taken_behind _ _ _ _ _ c.in_ok-read_line.ensures.all c.read_count.ensures.taken
 
 pub returns-clause-reply : goal.returns-clause-reply
 returns-clause-reply g c = λ empty.
-    counted_read _ _ _ _ c.without_end.result.now _ c.read_count.result empty c.in_ok-read_line.ensures.line (λ front is. c.without_end.ensures front (c.as_slice.ensures.value ∙ is)) c.promised-count.ensures c.read_count.ensures.count
+    counted_read _ _ _ _ c.without_end.result.now _ c.read_count.result empty
+    c.in_ok-read_line.ensures.line
+    (λ front is. c.without_end.ensures front (c.as_slice.ensures.value ∙ is))
+    c.promised-count.ensures c.read_count.ensures.count

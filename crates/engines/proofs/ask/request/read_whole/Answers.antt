@@ -6,18 +6,28 @@ use Rattle.engines.proofs.Requests.{counted_read, cut_bytes, cut_line, gathered_
 use Rattle.engines.proofs.ask.request.read_whole.Goals as goal
 
 pub returns-clause-all : goal.returns-clause-all
-returns-clause-all g c = gathered_both _ _ _ _ _ _ c.read_count.result c.in_ok-read_line.ensures.all c.read_count.ensures.all
+returns-clause-all g c =
+    gathered_both _ _ _ _ _ _ c.read_count.result c.in_ok-read_line.ensures.all
+    c.read_count.ensures.all
 
 pub returns-clause-taken : goal.returns-clause-taken
-returns-clause-taken g c = taken_behind _ _ _ _ _ c.in_ok-read_line.ensures.all c.read_count.ensures.taken
+returns-clause-taken g c =
+    taken_behind _ _ _ _ _ c.in_ok-read_line.ensures.all c.read_count.ensures.taken
 
 pub returns-clause-request : goal.returns-clause-request
 returns-clause-request g c = λ empty.
-    counted_read counted_by _ _ _ c.without_end.result.now _ c.read_count.result empty c.in_ok-read_line.ensures.line (λ front is. c.without_end.ensures front (c.as_slice.ensures.value ∙ is)) c.counted-count.ensures c.read_count.ensures.count
+    counted_read counted_by _ _ _ c.without_end.result.now _ c.read_count.result empty
+    c.in_ok-read_line.ensures.line
+    (λ front is. c.without_end.ensures front (c.as_slice.ensures.value ∙ is))
+    c.counted-count.ensures c.read_count.ensures.count
 
 pub returns-clause-ended : goal.returns-clause-ended
 returns-clause-ended g c = λ empty ended.
-    cut_bytes _ _ _ _ _ _ c.without_end.result.now _ empty c.in_ok-read_line.ensures.line c.in_ok-read_line.ensures.all (λ front is. c.without_end.ensures front (c.as_slice.ensures.value ∙ is)) c.counted-count.ensures (c.read_count.ensures.ended ended)
+    cut_bytes _ _ _ _ _ _ c.without_end.result.now _ empty c.in_ok-read_line.ensures.line
+    c.in_ok-read_line.ensures.all
+    (λ front is. c.without_end.ensures front (c.as_slice.ensures.value ∙ is))
+    c.counted-count.ensures (c.read_count.ensures.ended ended)
 
 pub returns-in_err-read_line-clause-ended : goal.returns-in_err-read_line-clause-ended
-returns-in_err-read_line-clause-ended g c = λ empty ended. cut_line _ _ _ _ empty (c.read_line.ensures.ended (search rules))
+returns-in_err-read_line-clause-ended g c =
+    λ empty ended. cut_line _ _ _ _ empty (c.read_line.ensures.ended (search rules))

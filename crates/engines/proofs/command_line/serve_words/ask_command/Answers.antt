@@ -5,5 +5,13 @@ use Rattle.engines.proofs.command_line.serve_words.ask_command.Goals as goal
 
 pub returns-clause-app : goal.returns-clause-app
 returns-clause-app c =
-    let start : app_of c.after_help.result ≡ new_app (codes "ask") = search (rules, c.new.ensures.app, c.override_usage.ensures, c.about.ensures, c.after_help.ensures) in
-    c.in_ok-arg.ensures.shape c.required_flag.ensures.local ∙ ap₂ with_rule start c.required_flag.ensures.rule
+    let start : app_of c.after_help.result ≡ new_app (codes "ask") =
+    search (
+      rules,
+      c.new.ensures.app,
+      c.override_usage.ensures,
+      c.about.ensures,
+      c.after_help.ensures,
+    ) in
+    c.in_ok-arg.ensures.shape c.required_flag.ensures.local
+    ∙ ap₂ with_rule start c.required_flag.ensures.rule

@@ -8,4 +8,6 @@ use Rattle.engines.proofs.command_line.serve_words.serve_or_ask.Goals as goal
 pub returns-in_err-serve_options-clause-refused : goal.returns-in_err-serve_options-clause-refused
 returns-in_err-serve_options-clause-refused c =
     let p = err_from_is_err_and c.from_residual.result c.from_residual.ensures.1 in
-    rw (p.1) (no_match_serve _ (rows_of (found_of c.in-Some.flags.now)) (c.in-Some.ensures.found.0 refl) c.in-Some.ensures.rows c.in_err-serve_options.ensures.refused)
+    rw (p.1) (no_match_serve _ (rows_of (found_of c.in-Some.flags.now))
+    (c.in-Some.ensures.found.0 refl) c.in-Some.ensures.rows
+    c.in_err-serve_options.ensures.refused)

@@ -1,4 +1,5 @@
--- A blank and a distance take no more than 25 bytes, since a number of 32 bits has ten digits at most.
+-- A blank and a distance take no more than 25 bytes, since a number of 32 bits has ten digits at
+-- most.
 use Rattle.std.proofs.Common.{arith}
 use Rattle.metric.proofs.Decimals.{length-decimal_32}
 use Rattle.engines.proofs.dist.distances.put_other.Goals as goal

@@ -8,6 +8,9 @@ use Rattle.engines.proofs.dist.distances.put_others.Given as goal
 -- the distances so far are put, each after a blank
 abbrev pub invariant-distances : goal.invariant-distances
 invariant-distances l = record {
-  text : Puts l.fn.text l.at (flat_map (λ distance. 32 ∷ distance_text distance) (take l.distance-index l.distances)) l.text l.end;
+  text : Puts l.fn.text l.at
+      (flat_map (λ distance. 32 ∷ distance_text distance) (take l.distance-index l.distances))
+      l.text
+      l.end;
   end : l.end ≤ l.at + 25 * l.distance-index;
 }

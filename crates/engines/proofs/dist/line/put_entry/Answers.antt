@@ -1,4 +1,5 @@
--- An entry leaves room for its place and takes no more than 24 bytes, since a distance has ten digits at most.
+-- An entry leaves room for its place and takes no more than 24 bytes, since a distance has ten
+-- digits at most.
 use Rattle.std.proofs.Common.{arith}
 use Rattle.metric.proofs.Decimals.{length-decimal_32}
 use Rattle.engines.proofs.dist.line.put_entry.Goals as goal

@@ -8,6 +8,7 @@ use Rattle.engines.proofs.dist.line.put_others.Given as goal
 -- the entries so far are put, each after a blank
 abbrev pub invariant-entries : goal.invariant-entries
 invariant-entries l = record {
-  text : Puts l.fn.text l.at (flat_map (λ near. 32 ∷ entry_text true near) (take l.near-index l.nears)) l.text l.end;
+  text : Puts l.fn.text l.at
+      (flat_map (λ near. 32 ∷ entry_text true near) (take l.near-index l.nears)) l.text l.end;
   end : l.end ≤ l.at + 25 * l.near-index;
 }

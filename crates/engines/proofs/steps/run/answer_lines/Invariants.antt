@@ -6,7 +6,8 @@ use Rattle.engines.proofs.steps.run.answer_lines.Given as goal
 
 abbrev pub invariant-lines : goal.invariant-lines
 invariant-lines g l = record {
-  heard : IsHeard l.fn.world (lines_of l.fn.lines) (lines_of l.rest) (g.W.Sink.held l.fn.writer) (g.W.Sink.held l.writer) l.world;
+  heard : IsHeard l.fn.world (lines_of l.fn.lines) (lines_of l.rest) (g.W.Sink.held l.fn.writer)
+      (g.W.Sink.held l.writer) l.world;
   none_failed : g.W.Sink.failed_writes l.writer ≡ g.W.Sink.failed_writes l.fn.writer;
 }
 

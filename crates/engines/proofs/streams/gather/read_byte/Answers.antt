@@ -4,4 +4,7 @@ use Rattle.engines.proofs.Gathering.{Takes-byte}
 use Rattle.engines.proofs.streams.gather.read_byte.Goals as goal
 
 pub returns-in_err-push-in-Ok-Some-clause-taken : goal.returns-in_err-push-in-Ok-Some-clause-taken
-returns-in_err-push-in-Ok-Some-clause-taken g c = (c.in-Ok-Some.byte ∷ [], Takes-byte _ _ _ (rw c.in-Ok-Some.field-0-is at c.in-Ok-Some.ensures.byte))
+returns-in_err-push-in-Ok-Some-clause-taken g c = (
+  c.in-Ok-Some.byte ∷ [],
+  Takes-byte _ _ _ (rw c.in-Ok-Some.field-0-is at c.in-Ok-Some.ensures.byte),
+)

@@ -1,4 +1,5 @@
--- Another byte joins those that were gathered; after the last turn they are as many as were asked for, and at the reader's end fewer.
+-- Another byte joins those that were gathered; after the last turn they are as many as were asked
+-- for, and at the reader's end fewer.
 use Rattle.std.proofs.Common.{◌≡◌, ◌∙◌, ℕ, arith, rules, subst}
 use Rattle.engines.specs.streams.Passing.{PutsCount}
 use Rattle.engines.proofs.Gathering.{Gathers-both, taken_behind}
@@ -6,7 +7,8 @@ use Rattle.engines.proofs.Requests.{PutsCount-more, ended_fewer}
 use Rattle.engines.proofs.streams.gather.read_count.Goals as goal
 
 pub returns-in_err-read_byte-clause-taken : goal.returns-in_err-read_byte-clause-taken
-returns-in_err-read_byte-clause-taken g c = taken_behind _ _ _ _ _ c.bytes.invariant.gathered c.read_byte.ensures.taken
+returns-in_err-read_byte-clause-taken g c =
+    taken_behind _ _ _ _ _ c.bytes.invariant.gathered c.read_byte.ensures.taken
 
 pub bytes-preserved : goal.bytes-preserved
 bytes-preserved g c = record {
@@ -21,8 +23,10 @@ returns-clause-count g c =
     let first = c.bytes-test.false in
     let second = c.bytes.auto.counter-end in
     let all : c.bytes.counter ≡ c.args.count = omega (arith, first, second) in
-    subst (λ (n : ℕ). PutsCount n c.args.bytes.now.items c.bytes.bytes.items) all c.bytes.invariant.count
+    subst (λ (n : ℕ). PutsCount n c.args.bytes.now.items c.bytes.bytes.items) all
+    c.bytes.invariant.count
 
 pub returns-in_err-read_byte-clause-ended : goal.returns-in_err-read_byte-clause-ended
 returns-in_err-read_byte-clause-ended g c = λ ended.
-    ended_fewer c.args.count c.bytes.counter _ _ _ _ _ _ c.bytes-test.true c.bytes.invariant.gathered c.bytes.invariant.count (c.read_byte.ensures.ended (search rules))
+    ended_fewer c.args.count c.bytes.counter _ _ _ _ _ _ c.bytes-test.true
+    c.bytes.invariant.gathered c.bytes.invariant.count (c.read_byte.ensures.ended (search rules))

@@ -6,7 +6,8 @@ use Rattle.engines.proofs.streams.gather.read_count.Given as goal
 -- what was read so far stands in the buffer, a byte a turn, and no read has failed
 abbrev pub invariant-bytes : goal.invariant-bytes
 invariant-bytes g l = record {
-  gathered : Gathers (g.R.Source.rest l.fn.reader) l.fn.bytes.items l.bytes.items (g.R.Source.rest l.reader);
+  gathered : Gathers (g.R.Source.rest l.fn.reader) l.fn.bytes.items l.bytes.items
+      (g.R.Source.rest l.reader);
   none_failed : g.R.Source.failed_reads l.reader ≡ g.R.Source.failed_reads l.fn.reader;
   count : PutsCount l.counter l.fn.bytes.items l.bytes.items;
   written : g.R.Source.written l.reader ≡ g.R.Source.written l.fn.reader;

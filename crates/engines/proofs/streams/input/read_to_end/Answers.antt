@@ -8,11 +8,13 @@ pub turns-preserved : goal.turns-preserved
 turns-preserved g c =
     let room : is_ok c.extend_from_slice.result ≡ true = search rules in
     let more : vec_len c.extend_from_slice.new.self ≡ vec_len c.turns.bytes + c.in-Ok.count =
-    rw (c.extend_from_slice.ensures.len, room, length-take-le _ _ c.in-Ok.ensures.taken.fits) refl in
+    rw (c.extend_from_slice.ensures.len, room, length-take-le _ _ c.in-Ok.ensures.taken.fits) refl
+    in
     let some = c.in-Ok.count-test.1 in
     let many = c.turns.invariant.as_many in
     record {
-      taken = rw (c.extend_from_slice.ensures.items, room) (Takes-behind _ _ _ _ _ c.turns.invariant.taken c.in-Ok.ensures.taken.taken);
+      taken = rw (c.extend_from_slice.ensures.items, room)
+          (Takes-behind _ _ _ _ _ c.turns.invariant.taken c.in-Ok.ensures.taken.taken);
       none_failed = c.in-Ok.ensures.counts ∙ c.turns.invariant.none_failed;
       as_many = (omega arith);
     }

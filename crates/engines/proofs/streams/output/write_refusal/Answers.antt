@@ -8,7 +8,12 @@ use Rattle.engines.proofs.streams.output.write_refusal.Goals as goal
 
 pub returns-in_err-flush-clause-front : goal.returns-in_err-flush-clause-front
 returns-in_err-flush-clause-front g c =
-    let p = err_from_is_err_and c.from_residual-in_err-flush.result c.from_residual-in_err-flush.ensures.1 in
-    let text : refusal_text c.args.refusal ≡ c.as_bytes.result.now ++ name_text c.name_behind.result =
-    c.name_behind.ensures ∙ ap (λ t. t ++ name_text c.name_behind.result) (sym (c.as_bytes.ensures.value ∙ c.title.ensures)) in
-    rw (p.1, c.flush.ensures.held, text) (AppendsFront-whole _ _ _ c.in_ok-write_words.ensures.whole)
+    let p = err_from_is_err_and c.from_residual-in_err-flush.result
+    c.from_residual-in_err-flush.ensures.1 in
+    let text : refusal_text c.args.refusal ≡ c.as_bytes.result.now
+    ++ name_text c.name_behind.result =
+    c.name_behind.ensures
+    ∙ ap (λ t. t ++ name_text c.name_behind.result)
+    (sym (c.as_bytes.ensures.value ∙ c.title.ensures)) in
+    rw (p.1, c.flush.ensures.held, text)
+    (AppendsFront-whole _ _ _ c.in_ok-write_words.ensures.whole)

@@ -9,5 +9,8 @@ returns-then-self g c =
     let across : c.abs_diff-dx.result ≡ unsigned_abs (pos c.args.x -ℤ inside.x) = search rules in
     let down : c.abs_diff-dy.result ≡ unsigned_abs (pos c.args.y -ℤ inside.y) = search rules in
     rw (← c.self.view_is)
-    (IsMeasured-kept g.M.Metric.distance c.args.x c.args.y inside.x inside.y c.abs_diff-dx.result c.abs_diff-dy.result c.of-dist.result c.self.invariant (λ (same : inside.x ≡ negsuc 1). c.if-self.true (rw same refl))
-    (across ∙ apart_is c.args.x inside.x) (down ∙ apart_is c.args.y inside.y) (search rules) (search rules) c.of-dist.ensures)
+    (IsMeasured-kept g.M.Metric.distance c.args.x c.args.y inside.x inside.y c.abs_diff-dx.result
+    c.abs_diff-dy.result c.of-dist.result c.self.invariant
+    (λ (same : inside.x ≡ negsuc 1). c.if-self.true (rw same refl))
+    (across ∙ apart_is c.args.x inside.x) (down ∙ apart_is c.args.y inside.y) (search rules)
+    (search rules) c.of-dist.ensures)

@@ -14,6 +14,9 @@ returns g c =
     let width = rw (← c.self.view_is) at c.requires.width in
     let len = rw (← c.self.view_is) at c.line.ensures.len in
     rw (← c.self.view_is)
-    (line_told g.M.Metric.distance table c.args.y _ c.fill_line.new.nears (AreRows-strips inside.width inside.y0 inside.y1 inside.height strips c.self.invariant) (rw (← c.self.view_is) at c.requires.from) (rw (← c.self.view_is) at c.requires.to)
+    (line_told g.M.Metric.distance table c.args.y _ c.fill_line.new.nears
+    (AreRows-strips inside.width inside.y0 inside.y1 inside.height strips c.self.invariant)
+    (rw (← c.self.view_is) at c.requires.from) (rw (← c.self.view_is) at c.requires.to)
     (c.fill_line.auto.nears ∙ width) (rw (← c.self.view_is) at c.line.ensures.line)
-    (λ (x : ℕ) (column : x < inside.width). c.fill_line.ensures.seen x (omega (arith, column, len))))
+    (λ (x : ℕ) (column : x < inside.width). c.fill_line.ensures.seen x
+    (omega (arith, column, len))))

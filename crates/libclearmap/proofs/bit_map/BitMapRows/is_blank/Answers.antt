@@ -1,5 +1,6 @@
 -- A word of the row is 0 where the whole word that holds it is.
-use Rattle.std.proofs.Common.{◌≡◌, ◌+◌, ◌*◌, ◌≤◌, ℕ, Bool, true, false, get_or, length, if◌then◌else◌, refl, sym, ap, ◌∙◌, arith}
+use Rattle.std.proofs.Common.{◌≡◌, ◌+◌, ◌*◌, ◌≤◌, ℕ, Bool, true, false, get_or, length}
+use Rattle.std.proofs.Common.{if◌then◌else◌, refl, sym, ap, ◌∙◌, arith}
 use Rattle.std.specs.Int.{bit_at}
 use Rattle.std.proofs.lemmas.Nat.Bits.{bit_at-zero}
 use Rattle.libclearmap.specs.Layouts.{is_in_band}
@@ -22,12 +23,15 @@ returns-clause-blank c = λ yes k within.
       arith,
       row,
       across,
-      part_within map.width map.height c.across.result map.stride (length words) c.args.y 0 c.across.result (rw across c.args.self.now.shape) c.requires (omega arith),
+      part_within map.width map.height c.across.result map.stride
+          (length words) c.args.y 0 c.across.result (rw across c.args.self.now.shape) c.requires
+          (omega arith),
     ) in
     let part = part_length start c.across.result words inside in
     let zero = part_read start c.across.result k words (omega (arith, across)) in
     let stored : get_or words (c.args.y * map.stride + k) 0 ≡ 0 =
-    ap (λ (n : ℕ). get_or words (n + k) 0) (sym row) ∙ (sym zero ∙ c.is_blank.ensures yes k (rw part (omega (arith, across)))) in
+    ap (λ (n : ℕ). get_or words (n + k) 0) (sym row)
+    ∙ (sym zero ∙ c.is_blank.ensures yes k (rw part (omega (arith, across)))) in
     sym (word_in_bits map words c.args.y k 0 within c.requires (omega arith)
     (λ i below bit. ap (λ (n : ℕ). bit_at n i) (sym stored)) (λ i past bit. bit_at-zero i))
     ∙ neither (is_in_band map.bands c.args.y)

@@ -1,7 +1,9 @@
--- The one step of a checkpoint is safe: NOW has room for it, and what is kept tells the log with its entry.
+-- The one step of a checkpoint is safe: NOW has room for it, and what is kept tells the log with
+-- its entry.
 use Rattle.std.proofs.Common.{ap, arith, refl}
 use Rattle.map_core.specs.declared.ledger.Ledger.{Ledger}
-use Rattle.map_core.proofs.steps.CommitWorld.{last_known, last_does, consistent_commit, place_in_hand, reply_checkpoint}
+use Rattle.map_core.proofs.steps.CommitWorld.{last_known, last_does, consistent_commit}
+use Rattle.map_core.proofs.steps.CommitWorld.{place_in_hand, reply_checkpoint}
 use Rattle.map_core.proofs.logs.JudgeLemmas.{balanced_ledger}
 use Rattle.map_core.proofs.logs.LedgerLemmas.{ledger_checkpoint, now_of_ledger}
 use Rattle.map_core.proofs.logs.SummaryDraw.{summary_checkpoint}
@@ -10,31 +12,53 @@ use Rattle.map_core.proofs.world.World.checkpoint.Goals as goal
 
 pub enter_checkpoint-reply-requires : goal.enter_checkpoint-reply-requires
 enter_checkpoint-reply-requires c =
-    place_in_hand _ _ _ _ _ _ c.self.invariant _ _ _ refl (last_known c.args.self.now _ _ c.self.inside.hand _ _ c.self.view_is refl c.requires).0
+    place_in_hand _ _ _ _ _ _ c.self.invariant _ _ _ refl
+    (last_known c.args.self.now _ _ c.self.inside.hand _ _ c.self.view_is refl c.requires).0
 
 pub commit-requires-clause-now : goal.commit-requires-clause-now
 commit-requires-clause-now c =
     let entered = c.enter_checkpoint-reply.ensures.entered in
-    let place = place_in_hand _ _ _ _ _ _ c.self.invariant _ _ _ refl (last_known c.args.self.now _ _ c.self.inside.hand _ _ c.self.view_is refl c.requires).0 in
-    now_room_same _ _ (balanced_ledger _ _ _ _ _ _ c.self.invariant) place (ap (λ (l : Ledger). l.places) entered) (ap (λ (l : Ledger). l.newest) entered) (ap (λ (l : Ledger). l.slot) entered)
+    let place = place_in_hand _ _ _ _ _ _ c.self.invariant _ _ _ refl
+    (last_known c.args.self.now _ _ c.self.inside.hand _ _ c.self.view_is refl c.requires).0 in
+    now_room_same _ _ (balanced_ledger _ _ _ _ _ _ c.self.invariant) place
+    (ap (λ (l : Ledger). l.places) entered) (ap (λ (l : Ledger). l.newest) entered)
+    (ap (λ (l : Ledger). l.slot) entered)
 
 pub index_mut-requires : goal.index_mut-requires
-index_mut-requires c = omega (arith, now_word_there _ _ _ _ _ _ c.self.invariant, c.self.inside.words.ok)
+index_mut-requires c =
+    omega (arith, now_word_there _ _ _ _ _ _ c.self.invariant, c.self.inside.words.ok)
 
 pub invariant_of-self : goal.invariant_of-self
 invariant_of-self c =
-    let known = last_known c.args.self.now _ _ c.self.inside.hand _ _ c.self.view_is refl c.requires in
-    let entered = ledger_checkpoint _ _ _ c.enter_checkpoint-reply.new.self c.enter_checkpoint-reply.result c.self.invariant.summary.ledger_is c.enter_checkpoint-reply.ensures.entered in
-    let does = last_does _ _ _ _ _ _ _ _ _ _ _ _ _ c.commit.new.now c.self.invariant known (reply_checkpoint _ _ _ _ _ c.self.invariant.summary.ledger_is c.enter_checkpoint-reply.ensures.reply) (now_of_ledger _ _ _ _ entered c.commit.ensures.now) in
+    let known = last_known c.args.self.now _ _ c.self.inside.hand _ _ c.self.view_is refl c.requires
+    in
+    let entered = ledger_checkpoint _ _ _ c.enter_checkpoint-reply.new.self
+    c.enter_checkpoint-reply.result c.self.invariant.summary.ledger_is
+    c.enter_checkpoint-reply.ensures.entered in
+    let does = last_does _ _ _ _ _ _ _ _ _ _ _ _ _ c.commit.new.now c.self.invariant known
+    (reply_checkpoint _ _ _ _ _ c.self.invariant.summary.ledger_is
+    c.enter_checkpoint-reply.ensures.reply) (now_of_ledger _ _ _ _ entered c.commit.ensures.now)
+    in
     rw (c.commit.ensures.log)
-    (consistent_commit _ _ _ _ _ _ c.self.inside.done _ _ _ c.self.inside.scanned.items _ _ _ _ _ _ _ _ c.self.invariant does
+    (consistent_commit _ _ _ _ _ _ c.self.inside.done _ _ _ c.self.inside.scanned.items _ _ _ _ _ _
+    _ _ c.self.invariant does
     (summary_checkpoint _ _ _ _ _ _ c.self.invariant.summary entered)
     (omega arith) (omega arith) (omega arith) c.self.invariant.roomy.scratch)
 
 pub returns : goal.returns
 returns c =
-    let known = last_known c.args.self.now _ _ c.self.inside.hand _ _ c.self.view_is refl c.requires in
-    let entered = ledger_checkpoint _ _ _ c.enter_checkpoint-reply.new.self c.enter_checkpoint-reply.result c.self.invariant.summary.ledger_is c.enter_checkpoint-reply.ensures.entered in
-    rw (← c.self.view_is, ap (λ (l : Ledger). l.setting) c.enter_checkpoint-reply.ensures.entered, c.commit.ensures.log, c.commit.ensures.reply)
+    let known = last_known c.args.self.now _ _ c.self.inside.hand _ _ c.self.view_is refl c.requires
+    in
+    let entered = ledger_checkpoint _ _ _ c.enter_checkpoint-reply.new.self
+    c.enter_checkpoint-reply.result c.self.invariant.summary.ledger_is
+    c.enter_checkpoint-reply.ensures.entered in
+    rw (
+      ← c.self.view_is,
+      ap (λ (l : Ledger). l.setting) c.enter_checkpoint-reply.ensures.entered,
+      c.commit.ensures.log,
+      c.commit.ensures.reply,
+    )
     (safe_done _ _ _ c.self.invariant.whole
-    (last_does _ _ _ _ _ _ _ _ _ _ _ _ _ c.commit.new.now c.self.invariant known (reply_checkpoint _ _ _ _ _ c.self.invariant.summary.ledger_is c.enter_checkpoint-reply.ensures.reply) (now_of_ledger _ _ _ _ entered c.commit.ensures.now)))
+    (last_does _ _ _ _ _ _ _ _ _ _ _ _ _ c.commit.new.now c.self.invariant known
+    (reply_checkpoint _ _ _ _ _ c.self.invariant.summary.ledger_is
+    c.enter_checkpoint-reply.ensures.reply) (now_of_ledger _ _ _ _ entered c.commit.ensures.now)))

@@ -1,7 +1,9 @@
--- The last step of a revert is safe: its blocks go back, and what is kept tells the log with its entry.
+-- The last step of a revert is safe: its blocks go back, and what is kept tells the log with its
+-- entry.
 use Rattle.std.proofs.Common.{ap, arith, refl, sym, ◌∙◌}
 use Rattle.map_core.specs.declared.ledger.Ledger.{Ledger}
-use Rattle.map_core.proofs.steps.CommitWorld.{last_known, last_does, consistent_commit, room_back, published_of_map, place_in_hand, reply_revert}
+use Rattle.map_core.proofs.steps.CommitWorld.{last_known, last_does, consistent_commit, room_back}
+use Rattle.map_core.proofs.steps.CommitWorld.{published_of_map, place_in_hand, reply_revert}
 use Rattle.map_core.proofs.accounts.GiveBack.{cleared_back}
 use Rattle.map_core.proofs.logs.JudgeLemmas.{draft_of_map, balanced_ledger}
 use Rattle.map_core.proofs.logs.LedgerLemmas.{ledger_revert, now_of_ledger}
@@ -10,40 +12,66 @@ use Rattle.map_core.proofs.steps.WorldLemmas.{safe_done, now_word_there, now_roo
 use Rattle.map_core.proofs.world.World.revert.Goals as goal
 
 pub copy_from-requires-clause-width : goal.copy_from-requires-clause-width
-copy_from-requires-clause-width c = (draft_of_map _ _ _ _ _ _ c.self.invariant).width_is ∙ sym (published_of_map _ _ _ _ _ _ c.self.invariant).width_is
+copy_from-requires-clause-width c =
+    (draft_of_map _ _ _ _ _ _ c.self.invariant).width_is
+    ∙ sym (published_of_map _ _ _ _ _ _ c.self.invariant).width_is
 
 pub copy_from-requires-clause-height : goal.copy_from-requires-clause-height
-copy_from-requires-clause-height c = (draft_of_map _ _ _ _ _ _ c.self.invariant).height_is ∙ sym (published_of_map _ _ _ _ _ _ c.self.invariant).height_is
+copy_from-requires-clause-height c =
+    (draft_of_map _ _ _ _ _ _ c.self.invariant).height_is
+    ∙ sym (published_of_map _ _ _ _ _ _ c.self.invariant).height_is
 
 pub give_back_own-requires : goal.give_back_own-requires
 give_back_own-requires c = rw c.as_mut_slice.ensures.value (room_back _ _ _ _ _ _ c.self.invariant)
 
 pub enter_revert-reply-requires : goal.enter_revert-reply-requires
 enter_revert-reply-requires c =
-    place_in_hand _ _ _ _ _ _ c.self.invariant _ _ _ refl (last_known c.args.self.now _ _ c.self.inside.hand _ _ c.self.view_is refl c.requires).0
+    place_in_hand _ _ _ _ _ _ c.self.invariant _ _ _ refl
+    (last_known c.args.self.now _ _ c.self.inside.hand _ _ c.self.view_is refl c.requires).0
 
 pub index_mut-requires : goal.index_mut-requires
-index_mut-requires c = omega (arith, now_word_there _ _ _ _ _ _ c.self.invariant, c.self.inside.words.ok)
+index_mut-requires c =
+    omega (arith, now_word_there _ _ _ _ _ _ c.self.invariant, c.self.inside.words.ok)
 
 pub invariant_of-self : goal.invariant_of-self
 invariant_of-self c =
-    let known = last_known c.args.self.now _ _ c.self.inside.hand _ _ c.self.view_is refl c.requires in
-    let entered = ledger_revert _ _ _ c.enter_revert-reply.new.self c.enter_revert-reply.result c.self.invariant.summary.ledger_is c.enter_revert-reply.ensures.entered in
-    let does = last_does _ _ _ _ _ _ _ _ _ _ _ _ _ c.commit.new.now c.self.invariant known (reply_revert _ _ _ _ _ c.self.invariant.summary.ledger_is c.enter_revert-reply.ensures.reply) (now_of_ledger _ _ _ _ entered c.commit.ensures.now) in
+    let known = last_known c.args.self.now _ _ c.self.inside.hand _ _ c.self.view_is refl c.requires
+    in
+    let entered = ledger_revert _ _ _ c.enter_revert-reply.new.self c.enter_revert-reply.result
+    c.self.invariant.summary.ledger_is c.enter_revert-reply.ensures.entered in
+    let does = last_does _ _ _ _ _ _ _ _ _ _ _ _ _ c.commit.new.now c.self.invariant known
+    (reply_revert _ _ _ _ _ c.self.invariant.summary.ledger_is c.enter_revert-reply.ensures.reply)
+    (now_of_ledger _ _ _ _ entered c.commit.ensures.now) in
     rw (c.commit.ensures.log)
-    (consistent_commit _ _ _ _ _ _ c.self.inside.done _ _ _ c.self.inside.scanned.items _ _ _ _ _ _ _ _ c.self.invariant does
+    (consistent_commit _ _ _ _ _ _ c.self.inside.done _ _ _ c.self.inside.scanned.items _ _ _ _ _ _
+    _ _ c.self.invariant does
     (summary_revert _ _ _ _ _ _ _ _ _ c.self.invariant.summary entered c.copy_from.ensures
-    (cleared_back _ _ _ _ _ c.give_back_own.ensures.own c.as_mut_slice.ensures.value (omega (arith, c.self.inside.own.ok)))
+    (cleared_back _ _ _ _ _ c.give_back_own.ensures.own c.as_mut_slice.ensures.value
+    (omega (arith, c.self.inside.own.ok)))
     (rw (← c.as_mut_slice.ensures.value) c.give_back_own.ensures.free))
-    (omega arith) (omega (arith, c.give_back_own.ensures.capacity)) (omega arith) c.self.invariant.roomy.scratch)
+    (omega arith) (omega (arith, c.give_back_own.ensures.capacity))
+    (omega arith) c.self.invariant.roomy.scratch)
 
 pub returns : goal.returns
 returns c =
-    let known = last_known c.args.self.now _ _ c.self.inside.hand _ _ c.self.view_is refl c.requires in
-    let entered = ledger_revert _ _ _ c.enter_revert-reply.new.self c.enter_revert-reply.result c.self.invariant.summary.ledger_is c.enter_revert-reply.ensures.entered in
-    rw (← c.self.view_is, ap (λ (l : Ledger). l.setting) c.enter_revert-reply.ensures.entered, c.commit.ensures.log, c.commit.ensures.reply)
+    let known = last_known c.args.self.now _ _ c.self.inside.hand _ _ c.self.view_is refl c.requires
+    in
+    let entered = ledger_revert _ _ _ c.enter_revert-reply.new.self c.enter_revert-reply.result
+    c.self.invariant.summary.ledger_is c.enter_revert-reply.ensures.entered in
+    rw (
+      ← c.self.view_is,
+      ap (λ (l : Ledger). l.setting) c.enter_revert-reply.ensures.entered,
+      c.commit.ensures.log,
+      c.commit.ensures.reply,
+    )
     (safe_done _ _ _ c.self.invariant.whole
-    (last_does _ _ _ _ _ _ _ _ _ _ _ _ _ c.commit.new.now c.self.invariant known (reply_revert _ _ _ _ _ c.self.invariant.summary.ledger_is c.enter_revert-reply.ensures.reply) (now_of_ledger _ _ _ _ entered c.commit.ensures.now)))
+    (last_does _ _ _ _ _ _ _ _ _ _ _ _ _ c.commit.new.now c.self.invariant known
+    (reply_revert _ _ _ _ _ c.self.invariant.summary.ledger_is c.enter_revert-reply.ensures.reply)
+    (now_of_ledger _ _ _ _ entered c.commit.ensures.now)))
 
 pub commit-requires-clause-now : goal.commit-requires-clause-now
-commit-requires-clause-now c = now_room _ _ (balanced_ledger _ _ _ _ _ _ c.self.invariant) (place_in_hand _ _ _ _ _ _ c.self.invariant _ _ _ refl (last_known c.args.self.now _ _ c.self.inside.hand _ _ c.self.view_is refl c.requires).0) c.enter_revert-reply.ensures.entered
+commit-requires-clause-now c =
+    now_room _ _ (balanced_ledger _ _ _ _ _ _ c.self.invariant)
+    (place_in_hand _ _ _ _ _ _ c.self.invariant _ _ _ refl
+    (last_known c.args.self.now _ _ c.self.inside.hand _ _ c.self.view_is refl c.requires).0)
+    c.enter_revert-reply.ensures.entered

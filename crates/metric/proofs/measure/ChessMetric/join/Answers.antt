@@ -5,5 +5,6 @@ use Rattle.metric.proofs.measure.ChessMetric.join.Goals as goal
 
 pub returns : goal.returns
 returns c i within =
-    chosen_at ltb c.args.parts c.args.reach c.args.reach c.args.parts i c.fits-parts.0 c.fits-reach.0 c.fits-reach.0 c.fits-parts.0 within
+    chosen_at ltb c.args.parts c.args.reach c.args.reach c.args.parts i c.fits-parts.0
+    c.fits-reach.0 c.fits-reach.0 c.fits-parts.0 within
     ∙ larger_by_test (get_or c.args.parts i 0) (get_or c.args.reach i 0)

@@ -4,7 +4,8 @@ use Rattle.pbm.proofs.Following.{Follows-nothing, Follows-read}
 use Rattle.pbm.proofs.window.Window.fill.Goals as goal
 
 pub turns-init : goal.turns-init
-turns-init g c = record { open_still = c.requires.«open»; reads = Follows-nothing _ _; none_failed = refl }
+turns-init g c =
+    record { open_still = c.requires.«open»; reads = Follows-nothing _ _; none_failed = refl }
 
 pub turns-preserved : goal.turns-preserved
 turns-preserved g c = record {

@@ -6,7 +6,8 @@ use Rattle.pbm.proofs.window.Window.next_word.Given as goal
 abbrev pub invariant-turns : goal.invariant-turns
 invariant-turns g l = record {
   open_still : IsOpen l.self (g.R.Source.rest l.reader);
-  reads : Follows (g.R.Source.rest l.fn.reader) (unread l.fn.self) (g.R.Source.rest l.reader) (unread l.self) (λ all left. all ≡ left);
+  reads : Follows (g.R.Source.rest l.fn.reader) (unread l.fn.self) (g.R.Source.rest l.reader)
+      (unread l.self) (λ all left. all ≡ left);
   none_failed : g.R.Source.failed_reads l.reader ≡ g.R.Source.failed_reads l.fn.reader;
 }
 

@@ -10,18 +10,25 @@ use Rattle.proto.proofs.serve.dump.put_dump.Goals as goal
 pub returns-in_err-say : goal.returns-in_err-say
 returns-in_err-say g c =
     let p = err_from_is_err_and c.from_residual.result c.from_residual.ensures.1 in
-    rw (p.1) (failed_first _ _ (reply_line c.args.answer.now) (plain_text c.args.bitmap.now) c.in_err-say.ensures)
+    rw (p.1) (failed_first _ _ (reply_line c.args.answer.now)
+    (plain_text c.args.bitmap.now) c.in_err-say.ensures)
 
 pub returns-in_err-put : goal.returns-in_err-put
 unfolding plain_text
 returns-in_err-put g c =
-    let p = err_from_is_err_and c.from_residual-in_err-put.result c.from_residual-in_err-put.ensures.1 in
+    let p = err_from_is_err_and c.from_residual-in_err-put.result
+    c.from_residual-in_err-put.ensures.1 in
     let front = rw (c.as_slice.ensures.value, c.requires.first) at c.in_err-put.ensures in
-    rw (p.1) (failed_on _ _ _ (reply_line c.args.answer.now) (plain_text c.args.bitmap.now) c.in_ok-say.ensures (failed_first _ _ (front_text Plain c.args.bitmap.now) (rows_text c.args.bitmap.now c.args.bitmap.now.height) front))
+    rw (p.1) (failed_on _ _ _ (reply_line c.args.answer.now)
+    (plain_text c.args.bitmap.now) c.in_ok-say.ensures
+    (failed_first _ _ (front_text Plain c.args.bitmap.now)
+    (rows_text c.args.bitmap.now c.args.bitmap.now.height) front))
 
 pub returns : goal.returns
 unfolding plain_text
 returns g c =
     let front = rw (c.as_slice.ensures.value, c.requires.first) at c.in_ok-put.ensures in
-    put_on c.put_rows.result _ _ _ (reply_line c.args.answer.now) (plain_text c.args.bitmap.now) c.in_ok-say.ensures
-    (put_on c.put_rows.result _ _ _ (front_text Plain c.args.bitmap.now) (rows_text c.args.bitmap.now c.args.bitmap.now.height) front c.put_rows.ensures)
+    put_on c.put_rows.result _ _ _ (reply_line c.args.answer.now)
+    (plain_text c.args.bitmap.now) c.in_ok-say.ensures
+    (put_on c.put_rows.result _ _ _ (front_text Plain c.args.bitmap.now)
+    (rows_text c.args.bitmap.now c.args.bitmap.now.height) front c.put_rows.ensures)

@@ -10,7 +10,9 @@ invariant-pieces g l = record {
   side : l.height ≡ l.bitmap.height;
   rows : l.y ≤ l.bitmap.height;
   room : 65536 ≤ vec_capacity l.piece;
-  written : HasWritten (g.S.Stream.wire l.fn.stream) (flat_map (plain_digit l.bitmap) (range_with_len 0 (l.y * l.bitmap.width))) (g.S.Stream.wire l.stream);
+  written : HasWritten (g.S.Stream.wire l.fn.stream)
+      (flat_map (plain_digit l.bitmap) (range_with_len 0 (l.y * l.bitmap.width)))
+      (g.S.Stream.wire l.stream);
 }
 
 abbrev pub decreases-pieces : goal.decreases-pieces

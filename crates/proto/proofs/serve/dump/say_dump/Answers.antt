@@ -7,7 +7,13 @@ use Rattle.proto.proofs.Wires.{put_alone}
 use Rattle.proto.proofs.serve.dump.say_dump.Goals as goal
 
 pub returns-in-Ok : goal.returns-in-Ok
-returns-in-Ok g c = record { answer = answers.Dumped c.plain_length.result; body = plain_text c.args.bitmap.now; is_dump = (refl, c.plain_length.ensures); put = c.put_dump.ensures }
+returns-in-Ok g c =
+    record {
+      answer = answers.Dumped c.plain_length.result;
+      body = plain_text c.args.bitmap.now;
+      is_dump = (refl, c.plain_length.ensures);
+      put = c.put_dump.ensures;
+    }
 
 pub returns-in-Err : goal.returns-in-Err
 returns-in-Err g c = record {

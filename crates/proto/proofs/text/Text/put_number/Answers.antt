@@ -7,4 +7,5 @@ pub push_decimal-requires : goal.push_decimal-requires
 push_decimal-requires c = let few = length-decimal_32 c.args.number (omega arith) in grind arith
 
 pub returns-clause-few : goal.returns-clause-few
-returns-clause-few c = let few = length-decimal_32 c.args.number (omega arith) in grind (arith, length-append)
+returns-clause-few c = let few = length-decimal_32 c.args.number (omega arith) in
+    grind (arith, length-append)

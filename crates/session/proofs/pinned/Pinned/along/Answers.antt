@@ -8,8 +8,12 @@ use Rattle.session.proofs.pinned.Pinned.along.Goals as goal
 
 pub returns-then-is_read-clause-least : goal.returns-then-is_read-clause-least
 returns-then-is_read-clause-least g c =
-    asked_so (λ cells edge. IfOk c.along.result (IsLeastOf g.M.Metric.distance (IsBlocked cells edge) (cells_of_path c.args.points.now))) _ _ _ _ c.bitmap.ensures.bitmap c.edge-edge.ensures c.along.ensures.least
+    asked_so (λ cells edge. IfOk c.along.result
+    (IsLeastOf g.M.Metric.distance (IsBlocked cells edge) (cells_of_path c.args.points.now))) _ _
+    _ _ c.bitmap.ensures.bitmap c.edge-edge.ensures c.along.ensures.least
 
 pub returns-else-is_read-clause-least : goal.returns-else-is_read-clause-least
 returns-else-is_read-clause-least g c =
-    asked_so (λ cells edge. IfOk c.along_rows.result (IsLeastOf g.M.Metric.distance (IsBlocked cells edge) (cells_of_path c.args.points.now))) _ _ _ _ refl c.edge-edge.ensures c.along_rows.ensures.least
+    asked_so (λ cells edge. IfOk c.along_rows.result
+    (IsLeastOf g.M.Metric.distance (IsBlocked cells edge) (cells_of_path c.args.points.now))) _ _
+    _ _ refl c.edge-edge.ensures c.along_rows.ensures.least

@@ -15,4 +15,9 @@ invariant_of-self g c =
 
 pub returns-clause-applied : goal.returns-clause-applied
 returns-clause-applied g c =
-    rw (← c.self.view_is) record { applied = c.apply.ensures.applied; version = refl; bitmap = bitmap_stays _ _ c.apply.new.seat _ _ _ c.self.invariant c.apply.ensures.applied.grows }
+    rw (← c.self.view_is) record {
+      applied = c.apply.ensures.applied;
+      version = refl;
+      bitmap = bitmap_stays _ _ c.apply.new.seat _ _ _ c.self.invariant
+          c.apply.ensures.applied.grows;
+    }

@@ -7,8 +7,14 @@ use Rattle.session.proofs.pinned.Pinned.least_in.Goals as goal
 
 pub returns-then-is_read-clause-least : goal.returns-then-is_read-clause-least
 returns-then-is_read-clause-least g c =
-    asked_so (λ cells edge. IfOk c.least_in.result (IsLeastOf g.M.Metric.distance (IsBlocked cells edge) (cells_of_rect c.args.rect.x0 c.args.rect.y0 c.args.rect.x1 c.args.rect.y1))) _ _ _ _ c.bitmap.ensures.bitmap c.edge-edge.ensures c.least_in.ensures.least
+    asked_so (λ cells edge. IfOk c.least_in.result
+    (IsLeastOf g.M.Metric.distance (IsBlocked cells edge)
+    (cells_of_rect c.args.rect.x0 c.args.rect.y0 c.args.rect.x1 c.args.rect.y1))) _ _ _ _
+    c.bitmap.ensures.bitmap c.edge-edge.ensures c.least_in.ensures.least
 
 pub returns-else-is_read-clause-least : goal.returns-else-is_read-clause-least
 returns-else-is_read-clause-least g c =
-    asked_so (λ cells edge. IfOk c.least_in_rows.result (IsLeastOf g.M.Metric.distance (IsBlocked cells edge) (cells_of_rect c.args.rect.x0 c.args.rect.y0 c.args.rect.x1 c.args.rect.y1))) _ _ _ _ refl c.edge-edge.ensures c.least_in_rows.ensures.least
+    asked_so (λ cells edge. IfOk c.least_in_rows.result
+    (IsLeastOf g.M.Metric.distance (IsBlocked cells edge)
+    (cells_of_rect c.args.rect.x0 c.args.rect.y0 c.args.rect.x1 c.args.rect.y1))) _ _ _ _ refl
+    c.edge-edge.ensures c.least_in_rows.ensures.least

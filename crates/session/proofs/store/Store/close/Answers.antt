@@ -4,5 +4,7 @@ use Rattle.session.proofs.store.Store.close.Goals as goal
 
 pub returns : goal.returns
 returns g c =
-    handed_out g.Id.StoreName.store _ _ c.into_inner.result.log c.close-closing.result.2.items c.args.sessions.items _ c.close-closing.ensures.closing c.give_up.ensures.counts c.give_up.ensures.sessions
+    handed_out g.Id.StoreName.store _ _ c.into_inner.result.log c.close-closing.result.2.items
+    c.args.sessions.items _ c.close-closing.ensures.closing c.give_up.ensures.counts
+    c.give_up.ensures.sessions
     c.end.ensures.legal c.end.ensures.made c.close-closing.ensures.base c.close-closing.ensures.log

@@ -1,4 +1,5 @@
--- The last load tells that each caller was a reader that was dealt, so that the counts of all readers add up.
+-- The last load tells that each caller was a reader that was dealt, so that the counts of all
+-- readers add up.
 use Rattle.std.proofs.Common.{ap, sym, ◌∙◌}
 use Rattle.map_core.proofs.shared_words.PlaceLemmas.{now-within}
 use Rattle.shelf.specs.Roles.{keeper_in}
@@ -11,10 +12,16 @@ pub load-requires : goal.load-requires
 load-requires g c =
     let of = c.self.invariant.0 in
     let role = ap (λ m. m.0) c.self.invariant.1 in
-    rw c.deref.ensures (at_own _ _ _ _ _ of, within_own _ _ _ _ _ _ of (now-within _), rw of.basis_is (ends_it g.Id.StoreName.store.base _ _ _ (keeper_in c.self.inside.seat.me.0) role))
+    rw c.deref.ensures (
+      at_own _ _ _ _ _ of,
+      within_own _ _ _ _ _ _ of (now-within _),
+      rw of.basis_is (ends_it g.Id.StoreName.store.base _ _ _
+          (keeper_in c.self.inside.seat.me.0) role),
+    )
 
 pub returns-clause-made : goal.returns-clause-made
 returns-clause-made g c =
     let k = keeper_in c.self.inside.seat.me.0 in
     let told = c.load.ensures.2 k (ap (λ m. m.0) c.self.invariant.1) in
-    rw (← c.self.view_is) (λ all. closed_sum k c.self.invariant.2 told.1.callers (all ∙ sym c.self.invariant.3))
+    rw (← c.self.view_is) (λ all. closed_sum k c.self.invariant.2 told.1.callers
+    (all ∙ sym c.self.invariant.3))

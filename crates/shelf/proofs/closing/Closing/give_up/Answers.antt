@@ -8,4 +8,8 @@ pub give_up_on-requires-clause-table : goal.give_up_on-requires-clause-table
 give_up_on-requires-clause-table g c =
     let of = c.self.invariant.0 in
     let its = c.reader.invariant.0 in
-    rw c.deref.ensures (at_own _ _ _ _ _ of, its.seat_is ∙ sym of.table_is, within_own _ _ _ _ _ _ of (now-within _))
+    rw c.deref.ensures (
+      at_own _ _ _ _ _ of,
+      its.seat_is ∙ sym of.table_is,
+      within_own _ _ _ _ _ _ of (now-within _),
+    )

@@ -11,7 +11,8 @@ pub invariant_of-result : goal.invariant_of-result
 invariant_of-result g c =
     let inside = c.self.inside in
     let named = c.self.view_is ∙ c.requires in
-    let is = λ (s : StoreId). IsOf s (arc_value inside.words).shared.table_id (arc_value inside.words).shared.key inside.seat.table_id inside.plan in
+    let is = λ (s : StoreId). IsOf s (arc_value inside.words).shared.table_id
+    (arc_value inside.words).shared.key inside.seat.table_id inside.plan in
     let now = ap (λ m. keeper_in m.0) c.self.invariant.1 in (
       subst is named c.self.invariant.0,
       c.self.invariant.1 ∙ ap (λ k. (keeping k, [])) (sym now),

@@ -13,11 +13,13 @@ pub invariant_of-result : goal.invariant_of-result
 invariant_of-result g c =
     let inside = c.self.inside in
     let named = ap (λ (n : Newcomer). n.store) c.self.view_is ∙ c.requires in
-    let is = λ (s : StoreId). IsOf s (arc_value inside.words).shared.table_id (arc_value inside.words).shared.key inside.seat.table_id inside.plan in
+    let is = λ (s : StoreId). IsOf s (arc_value inside.words).shared.table_id
+    (arc_value inside.words).shared.key inside.seat.table_id inside.plan in
     let now = ap reader_on c.self.invariant.1 in (
       subst is named c.self.invariant.0,
       c.self.invariant.1 ∙ ap (λ (x : ReaderView). reading x ∷ []) (sym now),
-      rw now (reader_fresh g.Id.StoreName.store.base _ (subst (λ (s : StoreId). inside.number < readers_of s) named c.self.invariant.2)),
+      rw now (reader_fresh g.Id.StoreName.store.base _
+          (subst (λ (s : StoreId). inside.number < readers_of s) named c.self.invariant.2)),
     )
 
 pub returns-clause-ready : goal.returns-clause-ready

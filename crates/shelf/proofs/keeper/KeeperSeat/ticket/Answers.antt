@@ -13,5 +13,6 @@ split_seat-requires g c =
     rw c.deref.ensures (
       at_own _ _ _ _ _ of,
       within_own _ _ _ _ _ _ of (now-within _),
-      rw (of.basis_is, role) (cuts_ticket g.Id.StoreName.store.base _ (keeper_in c.self.inside.seat.me.0)),
+      rw (of.basis_is, role) (cuts_ticket g.Id.StoreName.store.base _
+          (keeper_in c.self.inside.seat.me.0)),
     )

@@ -10,15 +10,19 @@ use Rattle.shelf.proofs.opened.Opening.of.Goals as goal
 pub of_words-requires : goal.of_words-requires
 of_words-requires c =
     let z : Base = record { setting = c.args.setting; opening = c.args.map.now } in
-    rw (c.of.ensures, c.as_slice.ensures.value) (rule_at_first z _ (fits_ready c.args.setting c.args.map.now c.of-plan.ensures.bitmap c.requires) (c.in_ok-list.ensures {u = tt}).words)
+    rw (c.of.ensures, c.as_slice.ensures.value)
+    (rule_at_first z _ (fits_ready c.args.setting c.args.map.now c.of-plan.ensures.bitmap
+    c.requires) (c.in_ok-list.ensures {u = tt}).words)
 
 pub deal_all-requires-clause-of : goal.deal_all-requires-clause-of
 deal_all-requires-clause-of c =
     let z : Base = record { setting = c.args.setting; opening = c.args.map.now } in
     let made = c.in_ok-table.ensures in
     let shared = c.in_ok-words.ensures.ok in
-    let told = ap base_of (ap (λ t. t.shared.key) shared ∙ made.5) ∙ ap (λ b. record { setting = c.args.setting; opening = b }) c.of.ensures in
-    is_of_new _ _ _ _ z _ (ap (λ t. t.shared.table_id) shared ∙ sym made.2) told (ap (λ t. t.shared.table_id.words) shared ∙ (made.0 ∙ ap length c.as_slice.ensures.value))
+    let told = ap base_of (ap (λ t. t.shared.key) shared ∙ made.5)
+    ∙ ap (λ b. record { setting = c.args.setting; opening = b }) c.of.ensures in
+    is_of_new _ _ _ _ z _ (ap (λ t. t.shared.table_id) shared ∙ sym made.2) told
+    (ap (λ t. t.shared.table_id.words) shared ∙ (made.0 ∙ ap length c.as_slice.ensures.value))
     (c.in_ok-list.ensures {u = tt}).words
     (fits_ready c.args.setting c.args.map.now c.of-plan.ensures.bitmap c.requires)
     c.of-plan.ensures.plan
@@ -29,8 +33,11 @@ invariant_of-result c =
     let made = c.in_ok-table.ensures in
     let shared = c.in_ok-words.ensures.ok in
     let dealt = c.in_ok-readers.ensures {u = tt} in
-    let told = ap base_of (ap (λ t. t.shared.key) shared ∙ made.5) ∙ ap (λ b. record { setting = c.args.setting; opening = b }) c.of.ensures in (
-      is_of_new _ _ _ _ z _ (ap (λ t. t.shared.table_id) shared ∙ (sym made.2 ∙ sym dealt.table)) told (ap (λ t. t.shared.table_id.words) shared ∙ (made.0 ∙ ap length c.as_slice.ensures.value))
+    let told = ap base_of (ap (λ t. t.shared.key) shared ∙ made.5)
+    ∙ ap (λ b. record { setting = c.args.setting; opening = b }) c.of.ensures in (
+      is_of_new _ _ _ _ z _ (ap (λ t. t.shared.table_id) shared ∙ (sym made.2 ∙ sym dealt.table))
+          told (ap (λ t. t.shared.table_id.words) shared
+          ∙ (made.0 ∙ ap length c.as_slice.ensures.value))
           (c.in_ok-list.ensures {u = tt}).words
           (fits_ready c.args.setting c.args.map.now c.of-plan.ensures.bitmap c.requires)
           c.of-plan.ensures.plan,

@@ -11,11 +11,14 @@ store-requires g c =
     let of = c.self.invariant.0 in
     let says = c.self.invariant.2 in
     let x = reader_on c.self.inside.seat.views in
-    let role = its_role _ _ _ c.into_seat-seat.ensures.2 (ap (λ b. b.views) c.replace.ensures.value ∙ c.self.invariant.1) in
-    let at = c.into_seat-seat.ensures.0 ∙ (ap (λ b. b.table_id) c.replace.ensures.value ∙ at_own _ _ _ _ _ of) in
+    let role = its_role _ _ _ c.into_seat-seat.ensures.2
+    (ap (λ b. b.views) c.replace.ensures.value ∙ c.self.invariant.1) in
+    let at = c.into_seat-seat.ensures.0
+    ∙ (ap (λ b. b.table_id) c.replace.ensures.value ∙ at_own _ _ _ _ _ of) in
     let quiet = ap (λ v. v.announced) c.self.view_is ∙ c.requires in
     rw (c.deref.ensures, c.pin_at-place.ensures, says.number_is) (
       at,
       within_own _ _ _ _ _ _ of (pin-within g.Id.StoreName.store.base x.number says.below),
-      rw of.basis_is (announces_it g.Id.StoreName.store.base _ _ _ _ x role quiet (announced_word g.Id.StoreName.store.base x _ _ c.from.ensures says.version_is)),
+      rw of.basis_is (announces_it g.Id.StoreName.store.base _ _ _ _ x role quiet
+          (announced_word g.Id.StoreName.store.base x _ _ c.from.ensures says.version_is)),
     )

@@ -11,8 +11,10 @@ load-word-requires g c =
     let of = c.self.invariant.0 in
     let x = reader_on c.self.inside.seat.views in
     let z = g.Id.StoreName.store.base in
-    let role = its_role _ _ _ c.into_seat-seat.ensures.2 (ap (λ b. b.views) c.replace.ensures.value ∙ c.self.invariant.1) in
-    let at = c.into_seat-seat.ensures.0 ∙ (ap (λ b. b.table_id) c.replace.ensures.value ∙ at_own _ _ _ _ _ of) in
+    let role = its_role _ _ _ c.into_seat-seat.ensures.2
+    (ap (λ b. b.views) c.replace.ensures.value ∙ c.self.invariant.1) in
+    let at = c.into_seat-seat.ensures.0
+    ∙ (ap (λ b. b.table_id) c.replace.ensures.value ∙ at_own _ _ _ _ _ of) in
     rw (c.deref.ensures, c.tile_at-place.ensures z of.plan_is, c.from.ensures) (
       at,
       within_own _ _ _ _ _ _ of (tile-within z _ _ c.requires.block c.requires.row),

@@ -4,4 +4,5 @@ use Rattle.engines.proofs.PuttingLemmas.{Puts-more, decimal_quads}
 use Rattle.engines.proofs.dist.decimals.Decimals.put_eight.Goals as goal
 
 pub returns : goal.returns
-returns c = rw (decimal_quads c.args.number (omega arith) (omega arith)) (Puts-more _ _ _ _ _ _ _ _ c.put_short-next.ensures c.put_padded.ensures)
+returns c = rw (decimal_quads c.args.number (omega arith) (omega arith))
+    (Puts-more _ _ _ _ _ _ _ _ c.put_short-next.ensures c.put_padded.ensures)

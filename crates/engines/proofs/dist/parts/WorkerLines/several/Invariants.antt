@@ -3,7 +3,8 @@ use Rattle.std.proofs.Common.{◌≡◌, ◌≤◌, All, vec_len, vec_capacity}
 use Rattle.engines.specs.dist.Parts.{IsShare}
 use Rattle.engines.proofs.dist.parts.WorkerLines.several.Given as goal
 
--- Each place so far has room for its rows, there are as many as turns, and there is room for the rest.
+-- Each place so far has room for its rows, there are as many as turns, and there is room for the
+-- rest.
 abbrev pub invariant-parts : goal.invariant-parts
 invariant-parts l = record {
   each : All (IsShare l.nearest l.width l.rows) l.parts.items;

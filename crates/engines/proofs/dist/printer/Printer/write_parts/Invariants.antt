@@ -7,6 +7,8 @@ use Rattle.engines.proofs.dist.printer.Printer.write_parts.Given as goal
 -- the parts so far are written, and no write has failed
 abbrev pub invariant-parts : goal.invariant-parts
 invariant-parts g l = record {
-  written : Appends (g.W.Sink.held l.fn.writer) (parts_text l.self.nearest l.self.table l.self.rows l.from l.part-index) (g.W.Sink.held l.writer);
+  written : Appends (g.W.Sink.held l.fn.writer)
+      (parts_text l.self.nearest l.self.table l.self.rows l.from l.part-index)
+      (g.W.Sink.held l.writer);
   none_failed : g.W.Sink.failed_writes l.writer ≡ g.W.Sink.failed_writes l.fn.writer;
 }

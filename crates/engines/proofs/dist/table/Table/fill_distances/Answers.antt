@@ -11,4 +11,6 @@ returns g c =
     let distance = g.M.Metric.distance in
     rw (← c.self.view_is)
     (AreDistances-measured distance _ _ all.below
-    (subst (λ (nears : List (Option Near)). AreMeasured distance nears c.fill_distances.new.distances) (row_of_table _ c.args.y _ _ _ all.from all.across) c.fill_distances.ensures))
+    (subst (λ (nears : List (Option Near)). AreMeasured distance nears
+    c.fill_distances.new.distances) (row_of_table _ c.args.y _ _ _ all.from all.across)
+    c.fill_distances.ensures))

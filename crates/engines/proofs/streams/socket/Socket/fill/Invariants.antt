@@ -3,4 +3,5 @@ use Rattle.std.proofs.Common.{◌≡◌}
 use Rattle.engines.proofs.streams.socket.Socket.fill.Given as goal
 
 abbrev pub invariant-reads : goal.invariant-reads
-invariant-reads l = (l.self-inside.failed_reads ≡ l.initial.self-inside.failed_reads) × (l.self-inside.failed_writes ≡ l.initial.self-inside.failed_writes)
+invariant-reads l = (l.self-inside.failed_reads ≡ l.initial.self-inside.failed_reads)
+    × (l.self-inside.failed_writes ≡ l.initial.self-inside.failed_writes)

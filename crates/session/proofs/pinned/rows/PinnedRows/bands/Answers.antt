@@ -10,4 +10,8 @@ returns-in-Whole g c =
     rw (← c.self.view_is, ← c.self.invariant.bitmap_is (rw c.in-Whole.is refl)) c.bands.ensures
 
 pub returns-in-Words : goal.returns-in-Words
-returns-in-Words g c = rw (← c.self.view_is) (IsBanded-all (bitmap_pinned g.Id.StoreName.store record { seat = c.self.inside.seat; version = c.self.inside.version }) c.self.invariant.of_map.bitmap)
+returns-in-Words g c =
+    rw (← c.self.view_is)
+    (IsBanded-all (bitmap_pinned g.Id.StoreName.store
+    record { seat = c.self.inside.seat; version = c.self.inside.version })
+    c.self.invariant.of_map.bitmap)

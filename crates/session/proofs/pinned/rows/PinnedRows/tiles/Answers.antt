@@ -6,7 +6,12 @@ use Rattle.session.proofs.pinned.rows.PinnedRows.tiles.Goals as goal
 
 pub returns-in-Whole : goal.returns-in-Whole
 returns-in-Whole g c =
-    rw (← c.self.view_is, ← c.self.invariant.bitmap_is (rw c.in-Whole.is refl)) c.marked_tiles.ensures
+    rw (← c.self.view_is, ← c.self.invariant.bitmap_is (rw c.in-Whole.is refl))
+    c.marked_tiles.ensures
 
 pub returns-in-Words : goal.returns-in-Words
-returns-in-Words g c = rw (← c.self.view_is) (IsTiled-all (bitmap_pinned g.Id.StoreName.store record { seat = c.self.inside.seat; version = c.self.inside.version }) c.args.band c.self.invariant.of_map.bitmap)
+returns-in-Words g c =
+    rw (← c.self.view_is)
+    (IsTiled-all (bitmap_pinned g.Id.StoreName.store
+    record { seat = c.self.inside.seat; version = c.self.inside.version }) c.args.band
+    c.self.invariant.of_map.bitmap)

@@ -6,11 +6,14 @@ use Rattle.session.proofs.pinned.rows.PinnedRows.word.Goals as goal
 
 pub returns-in-Whole-clause-word : goal.returns-in-Whole-clause-word
 returns-in-Whole-clause-word g c =
-    let read = c.self.invariant.bitmap_is (rw c.in-Whole.is refl) ∙ ap (bitmap_pinned g.Id.StoreName.store) c.self.view_is in
+    let read = c.self.invariant.bitmap_is (rw c.in-Whole.is refl)
+    ∙ ap (bitmap_pinned g.Id.StoreName.store) c.self.view_is in
     let row = rw read at c.row_words.ensures in
-    row_word_read _ c.args.y c.args.index _ c.row_words.result.now row c.requires.index (omega arith) refl
+    row_word_read _ c.args.y c.args.index _ c.row_words.result.now row c.requires.index
+    (omega arith) refl
 
 pub returns-in-Words-eq0-clause-word : goal.returns-in-Words-eq0-clause-word
 returns-in-Words-eq0-clause-word g c =
     let row = rw (c.bitmap.ensures.bitmap) at c.row_words-in-Words-eq0.ensures in
-    row_word_read _ c.args.y c.args.index _ c.row_words-in-Words-eq0.result.now row c.requires.index (omega arith) refl
+    row_word_read _ c.args.y c.args.index _ c.row_words-in-Words-eq0.result.now row c.requires.index
+    (omega arith) refl
