@@ -47,13 +47,15 @@ def clause_end(text, start):
 
 def head_of(lines, number):
     """A function's head with its contract: up to the line that opens its body, or ends it."""
-    taken = []
+    taken, depth = [], 0
     for line in lines[number:]:
         taken.append(line)
-        if line.strip() in ("{", "{}", "}") or line.rstrip().endswith(";"):
+        if depth == 0 and (line.strip() in ("{", "{}", "}") or line.rstrip().endswith(";")):
             break
-        if line.rstrip().endswith("{") and "ensures" not in line and "requires" not in line:
+        opens = line.rstrip().endswith("{") and "ensures" not in line and "requires" not in line
+        if depth == 0 and opens:
             break
+        depth += line.count("{") - line.count("}")
     return "\n".join(taken)
 
 

@@ -76,7 +76,8 @@ fn draw<Id: StoreName, R: Wait>(
     painter.publish(&mut store.lock(rt))
 }
 
-/// The tightest cell of a path on the newest version. The session goes in and comes back on every way out. No lock is taken.
+/// The tightest cell of a path on the newest version. Returns the session in any case, and takes no
+/// lock.
 fn plan<Id: StoreName>(
     alloc: Global,
     planner: Session<Id>,
