@@ -24,7 +24,7 @@ namespace clearmap {
 /// upwards, and the map's rows the other way round.
 ///
 /// A pose hits an obstacle if the inside of the polygon meets an obstacle's square: touching it
-/// from outside isn't a hit. aaround the map, all cells are free with Edge::open, and obstacles
+/// from outside isn't a hit. Around the map all cells are free with Edge::open, and obstacles
 /// with Edge::wall. So each pose has an answer, on the map or off it.
 ///
 /// The answer is exact for the polygon whose corners lie on whole steps of 1/65536 of a cell: the
