@@ -28,8 +28,8 @@ import bench
 from program import HERE, ROOT, build
 
 SEARCH = (
-    "bit band row rows tiles words search nearest found frame border bound segment strip part lines "
-    "area walk"
+    "bit band row rows tiles words far_columns far_bands search nearest found frame border bound "
+    "segment strip part lines area walk"
 ).split()
 LOOPS = [
     "metric/src/limits",

@@ -1,17 +1,18 @@
 -- The rows that a search passes over, by their bands.
-use Rattle.std.proofs.Common.{◌≡◌, ℕ, ◌+◌, ◌-◌, ◌*◌, ◌<◌, inl, inr, Bool, true, false, not, cond}
-use Rattle.std.proofs.Common.{Option, refl, sym, ◌∙◌, arith}
+use Rattle.std.proofs.Common.{◌≡◌, ℕ, ◌+◌, ◌-◌, ◌*◌, ◌/◌, ◌<◌, inl, inr, Bool, true, false, not}
+use Rattle.std.proofs.Common.{cond, get_or, Option, refl, sym, ◌∙◌, arith}
 use Rattle.std.proofs.lemmas.Bool.{cases_lt}
 use Rattle.std.proofs.lemmas.Nat.Bits.{bit_at-zero}
 use Rattle.metric.specs.declared.rect.Rect.{Rect}
 use Rattle.bits.specs.Bands.{IsBanded}
 use Rattle.bits.specs.Cells.{Cells, has, IsBitmap, IsObstacle}
 use Rattle.bits.specs.Tiles.{word_where}
+use Rattle.bits.specs.Words.{words_across}
 use Rattle.bits.proofs.TileLemmas.{bit_at-word_where, word_where-lt}
 use Rattle.std.proofs.lemmas.Nat.Bits.{same_from_bits_below}
 use Rattle.clearance.specs.Bands.{IsMarkedRow, IsNextGap}
 use Rattle.clearance.specs.Nearest.{IsNearAmong, IsWithin}
-use Rattle.clearance.specs.Rows.{IsBlankRow}
+use Rattle.clearance.specs.Rows.{IsBlankRow, words_of_row}
 use Rattle.clearance.specs.Search.{IsLeastWithin, row_gap}
 use Rattle.clearance.specs.declared.found.Found.{Found}
 use Rattle.clearance.proofs.NearestSearches.{IsNearAmong-same}
@@ -29,15 +30,22 @@ pub not_true : (value : Bool) → not value ≡ true → value ≡ false
 not_true true is = absurd (cc)
 not_true false is = refl
 
--- a row without an obstacle is blank
-pub IsBlankRow-none : (cells : Cells) (y : ℕ) → ((x : ℕ) → IsObstacle cells x y → ⊥)
-    → IsBlankRow cells y
-IsBlankRow-none cells y none = λ k within.
+-- a word of a row without an obstacle in its columns is 0
+pub word_none : (cells : Cells) (y k : ℕ) → k < words_across cells.width
+    → ((x : ℕ) → IsObstacle cells x y → x / 64 ≡ k → ⊥) → get_or (words_of_row cells y) k 0 ≡ 0
+word_none cells y k within none =
     word_in_row cells y k within
     ∙ same_from_bits_below 64 (word_where (λ i. has cells (64 * k + i) y) 64) 0
     (word_where-lt (λ i. has cells (64 * k + i) y) 64) (omega arith)
     (λ i bit. bit_at-word_where (λ j. has cells (64 * k + j) y) 64 i bit
-    ∙ (no_obstacle (has cells (64 * k + i) y) (none (64 * k + i)) ∙ sym (bit_at-zero i)))
+    ∙ (no_obstacle (has cells (64 * k + i) y)
+    (λ obstacle. none (64 * k + i) obstacle (omega arith)) ∙ sym (bit_at-zero i)))
+
+-- a row without an obstacle is blank
+pub IsBlankRow-none : (cells : Cells) (y : ℕ) → ((x : ℕ) → IsObstacle cells x y → ⊥)
+    → IsBlankRow cells y
+IsBlankRow-none cells y none =
+    λ k within. word_none cells y k within (λ x obstacle here. none x obstacle)
 
 -- the rows that may have an obstacle are skipped by no gap that the bands give
 pub IsNextGap-banded : (cells : Cells) (bands top bottom gap next : ℕ) → IsBanded cells bands

@@ -1,5 +1,6 @@
 mod BandRows
 mod Bits
+mod FarColumns
 mod Firsts
 mod FrameLemmas
 mod Borders

@@ -8,7 +8,8 @@ use Rattle.metric.specs.Distance.{Grows}
 use Rattle.metric.proofs.Growing.{of_grows}
 use Rattle.bits.specs.Bands.{IsBanded, IsTiled}
 use Rattle.bits.specs.Cells.{Cells, IsBitmap, IsObstacle}
-use Rattle.clearance.specs.Bands.{AreTilesFar, IsMarkedRow, IsNextGap, IsThinned}
+use Rattle.clearance.specs.Bands.{AreTilesFar, IsBandFar, IsBandFarIn, IsMarkedRow, IsNextGap}
+use Rattle.clearance.specs.Bands.{IsThinned}
 use Rattle.clearance.specs.Rows.{IsFar}
 use Rattle.clearance.specs.Search.{IsLeastWithin, column_gap, rect_distance, row_gap}
 use Rattle.clearance.proofs.Searches.{IsFar-greater, IsFar-lower, obstacle_within}
@@ -47,21 +48,54 @@ AreTilesFar-both distance grows stays rect gap least tiles next after none_right
       ]
     ]
 
--- a band whose tiles are far may be left out
-pub IsThinned-without : (distance : ℕ → ℕ → ℕ) (cells : Cells) (rect : Rect)
-    (gap least bands left tiles band : ℕ) → IsBitmap cells → IsTiled cells band tiles
+-- a band whose tiles are far is far
+pub IsBandFar-tiles : (distance : ℕ → ℕ → ℕ) (cells : Cells) (rect : Rect)
+    (gap least tiles band : ℕ) → IsBitmap cells → IsTiled cells band tiles
     → AreTilesFar distance rect gap least tiles
-    → ((i : ℕ) → i < 64 → (i ≡ band → ⊥) → bit_at left i ≡ bit_at bands i)
-    → IsThinned distance cells rect gap least bands left
-IsThinned-without distance cells rect gap least bands left tiles band bitmap tiled far kept =
-    λ a b obstacle away marked.
+    → IsBandFar distance cells rect gap least band
+IsBandFar-tiles distance cells rect gap least tiles band bitmap tiled far =
+    λ a b obstacle here away.
     let last = obstacle_within cells bitmap a b obstacle in
     let column = last.2 in
     let row = last.3 in
+    far a b (omega arith) (omega arith) (tiled a b obstacle here) away
+
+-- so is one that is far on both sides
+pub IsBandFar-both : (distance : ℕ → ℕ → ℕ) (cells : Cells) (rect : Rect) (gap least band : ℕ)
+    → IsBandFarIn distance cells rect gap least band (λ a. rect.x0 ≤ a)
+    → IsBandFarIn distance cells rect gap least band (λ a. a < rect.x0)
+    → IsBandFar distance cells rect gap least band
+IsBandFar-both distance cells rect gap least band right left =
+    λ a b obstacle here away. elim (cases_lt a rect.x0) [
+      | inl before ↦ left a b obstacle here before away
+      | inr from ↦ right a b obstacle here from away
+    ]
+
+-- a band is far from a gap on, where it is so from as many rows on as it lies outside of the
+-- rectangle
+pub IsBandFar-away : (distance : ℕ → ℕ → ℕ) (cells : Cells) (rect : Rect) (gap away least band : ℕ)
+    → ((b : ℕ) → b / 64 ≡ band → gap ≤ row_gap rect b → away ≤ row_gap rect b)
+    → IsBandFar distance cells rect away least band → IsBandFar distance cells rect gap least band
+IsBandFar-away distance cells rect gap away least band apart far =
+    λ a b obstacle here beyond. far a b obstacle here (apart b here beyond)
+
+-- a band that is far may be left out
+pub IsThinned-without : (distance : ℕ → ℕ → ℕ) (cells : Cells) (rect : Rect)
+    (gap least bands left band : ℕ) → IsBitmap cells → IsBandFar distance cells rect gap least band
+    → ((i : ℕ) → i < 64 → (i ≡ band → ⊥) → bit_at left i ≡ bit_at bands i)
+    → IsThinned distance cells rect gap least bands left
+IsThinned-without distance cells rect gap least bands left band bitmap far kept =
+    λ a b obstacle away marked.
+    let row = (obstacle_within cells bitmap a b obstacle).3 in
     elim (cases_eq (b / 64) band) [
-      | inl here ↦ inr (far a b (omega arith) (omega arith) (tiled a b obstacle here) away)
+      | inl here ↦ inr (far a b obstacle here away)
       | inr other ↦ let same = kept (b / 64) (omega arith) other in inl (omega arith)
     ]
+
+-- nothing is left out
+pub IsThinned-same : (distance : ℕ → ℕ → ℕ) (cells : Cells) (rect : Rect) (gap least bands : ℕ)
+    → IsThinned distance cells rect gap least bands bands
+IsThinned-same distance cells rect gap least bands = λ a b obstacle away marked. inl marked
 
 -- what is left after two bands are left out
 pub IsThinned-more : (distance : ℕ → ℕ → ℕ) (cells : Cells) (rect : Rect)

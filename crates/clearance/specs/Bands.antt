@@ -28,6 +28,25 @@ AreTilesFar distance rect gap least tiles =
     (a b : ℕ) → a < 4096 → b < 4096 → bit_at tiles (a / 64) ≡ 1 → gap ≤ row_gap rect b
     → IsFar (rect_distance distance rect a b) least
 
+-- cells of columns that pass a test, at least `gap` rows outside a rectangle, are no nearer than
+-- the least
+abbrev pub AreColumnsFar : (ℕ → ℕ → ℕ) → Rect → ℕ → ℕ → (ℕ → Type 0) → Type 0
+AreColumnsFar distance rect gap least IsColumn =
+    (a b : ℕ) → a < 4096 → b < 4096 → IsColumn a → gap ≤ row_gap rect b
+    → IsFar (rect_distance distance rect a b) least
+
+-- a band's obstacles in such columns, at least `gap` rows outside, are no nearer than the least
+abbrev pub IsBandFarIn : (ℕ → ℕ → ℕ) → Cells → Rect → ℕ → ℕ → ℕ → (ℕ → Type 0) → Type 0
+IsBandFarIn distance cells rect gap least band IsColumn =
+    (a b : ℕ) → IsObstacle cells a b → b / 64 ≡ band → IsColumn a → gap ≤ row_gap rect b
+    → IsFar (rect_distance distance rect a b) least
+
+-- a band's obstacles at least `gap` rows outside a rectangle are no nearer than the least
+abbrev pub IsBandFar : (ℕ → ℕ → ℕ) → Cells → Rect → ℕ → ℕ → ℕ → Type 0
+IsBandFar distance cells rect gap least band =
+    (a b : ℕ) → IsObstacle cells a b → b / 64 ≡ band → gap ≤ row_gap rect b
+    → IsFar (rect_distance distance rect a b) least
+
 -- bands left out have no obstacle nearer than the least, at least `gap` rows outside a rectangle
 abbrev pub IsThinned : (ℕ → ℕ → ℕ) → Cells → Rect → ℕ → ℕ → ℕ → ℕ → Type 0
 IsThinned distance cells rect gap least bands left =

@@ -1,6 +1,6 @@
 //! The lowest and the highest bit of a word.
 
-ghost use Rattle.std.specs.Prelude.{◌≡◌, ◌≢◌, ℕ, ◌<◌, ◌≤◌};
+ghost use Rattle.std.specs.Prelude.{◌≡◌, ◌≢◌, ℕ, ◌+◌, ◌<◌, ◌≤◌};
 ghost use Rattle.std.specs.Int.{bit_at};
 
 /// The index of the lowest bit that is 1.
@@ -52,6 +52,27 @@ pub fn bits_through(word: u64, place: u16) -> u64
     } else {
         word
     }
+}
+
+/// Clears the bits from `place` on; none if `place` is 64 or more.
+pub fn bits_before(word: u64, place: u16) -> u64
+    ensures { (i : ℕ) → i < place → i < 64 → bit_at result i ≡ bit_at word i }
+{
+    if place < 64 {
+        bits_below(word, place)
+    } else {
+        word
+    }
+}
+
+/// One more than the index of the highest bit up to `last` that is 1; 0 if there is none.
+pub fn after_last_bit(word: u64, last: u16) -> u16
+    requires { last < 64 }
+    ensures few { result ≤ last + 1 }
+    ensures none { (i : ℕ) → result ≤ i → i ≤ last → bit_at word i ≡ 1 → ⊥ }
+{
+    let kept = bits_through(word, last);
+    if kept == 0 { 0 } else { highest_bit(kept) + 1 }
 }
 
 /// Clears the bit `place` of the word.

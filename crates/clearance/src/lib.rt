@@ -10,6 +10,8 @@ mod band;
 mod bit;
 mod border;
 mod bound;
+mod far_bands;
+mod far_columns;
 mod found;
 mod frame;
 mod lines;

@@ -3,12 +3,12 @@
 ghost use Rattle.clearance.specs.Strips.{IsStripIn};
 
 use crate::band::{are_blank_bands, first_gap, next_gap};
+use crate::far_bands::near_bands;
 use crate::part::Part;
 use crate::rows::Rows;
 use crate::search::lowered;
 use crate::segment::step_towards;
 use crate::strip::Strip;
-use crate::tiles::near_bands;
 use metric::{Edge, LAST_FRAMED, Metric, Rect};
 
 /// The lines of a strip from one on, and the limit: an obstacle is near a line if its distance is

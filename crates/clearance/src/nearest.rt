@@ -8,10 +8,11 @@ ghost use Rattle.clearance.specs.Nearest.{IsRowUpTo, IsSeenInRow, IsSought, IsWi
 ghost use Rattle.clearance.specs.Nearest.{IsWithinOrAbove, limit_of};
 
 use crate::band::{first_gap, next_gap};
+use crate::far_bands::near_bands;
 use crate::found::Found;
 use crate::rows::Rows;
-use crate::search::{FAR_GAP, NO_LIMIT, is_passed};
-use crate::tiles::{SearchedRow, has_few_tiles, near_bands};
+use crate::search::{FAR_GAP, NO_LIMIT, is_found_blank, is_passed};
+use crate::tiles::{SearchedRow, has_few_tiles};
 use crate::words::{last_nearer, next_nearer};
 use metric::{Cell, MOST_SIDE, Metric, Rect};
 
@@ -123,7 +124,7 @@ fn with_row<M: Metric, R: Rows>(
     ensures rows { rows.new ≡ rows.old }
 {
     let far = gap >= FAR_GAP;
-    if is_passed(rows, row, gap, far) {
+    if is_passed(rows, row, far) {
         return best;
     }
     if far && has_few_tiles(rows, row) {
@@ -132,6 +133,9 @@ fn with_row<M: Metric, R: Rows>(
             by_tiles: true,
         };
         return with_searched::<M, R>(rows, cell, searched, gap, best);
+    }
+    if is_found_blank(rows, row, gap, far) {
+        return best;
     }
     let searched = SearchedRow {
         y: row,

@@ -7,15 +7,17 @@ ghost use Rattle.clearance.specs.Search.{IsLeastInBits, IsLeastWithin, IsLowered
 ghost use Rattle.clearance.specs.Search.{IsLoweredRight, IsRectIn};
 
 use crate::band::{are_blank_bands, first_gap, is_in_blank_band, next_gap};
+use crate::far_bands::near_bands;
 use crate::rows::Rows;
-use crate::tiles::{SearchedRow, has_few_tiles, near_bands};
+use crate::tiles::{SearchedRow, has_few_tiles};
 use crate::words::{last_nearer, next_nearer};
 use metric::{LAST_FRAMED, Metric, Rect};
 
 /// A limit above every distance.
 pub const NO_LIMIT: u64 = 1 << 32;
 
-/// From this many rows away on, a row is first searched as a whole: obstacles are rare there.
+/// From this many rows away on, a row with many tiles that may have an obstacle is first searched
+/// as a whole: obstacles are rare there.
 const SPARSE_GAP: u16 = 128;
 
 /// If obstacles may be at least this many rows away, rows in bands known to be blank are skipped:
@@ -113,12 +115,15 @@ pub fn lowered<M: Metric, R: Rows>(rows: &mut R, rect: Rect, y: u16, gap: u16, l
     ensures rows { rows.new ≡ rows.old }
 {
     let far = is_far::<M>(least);
-    if is_passed(rows, y, gap, far) {
+    if is_passed(rows, y, far) {
         return least;
     }
     if far && has_few_tiles(rows, y) {
         let row = SearchedRow { y, by_tiles: true };
         return lowered_by::<M, R>(rows, rect, row, gap, least);
+    }
+    if is_found_blank(rows, y, gap, far) {
+        return least;
     }
     let row = SearchedRow { y, by_tiles: false };
     lowered_by::<M, R>(rows, rect, row, gap, least)
@@ -151,15 +156,24 @@ fn lowered_by<M: Metric, R: Rows>(
     lowered_left::<M, R>(rows, rect, row, gap, right)
 }
 
-/// Whether row `y`, this many rows away, is known to be free, or found to be free by a search of
-/// the whole row. Asked only if an obstacle may be far away.
+/// Whether row `y` is known to be free. Asked only if an obstacle may be far away.
 #[inline(always)]
-pub fn is_passed<R: Rows>(rows: &mut R, y: u16, gap: u16, far: bool) -> bool
+pub fn is_passed<R: Rows>(rows: &R, y: u16, far: bool) -> bool
+    requires { y < (R.cells rows.now).height }
+    ensures { result ≡ true → IsBlankRow (R.cells rows.now) y }
+{
+    far && is_in_blank_band(rows, y)
+}
+
+/// Whether row `y`, `gap` rows away, is searched as a whole and found to be free. Asked only if an
+/// obstacle may be far away and many tiles may have one.
+#[inline(always)]
+pub fn is_found_blank<R: Rows>(rows: &mut R, y: u16, gap: u16, far: bool) -> bool
     requires { y < (R.cells rows.old).height }
     ensures blank { result ≡ true → IsBlankRow (R.cells rows.old) y }
     ensures rows { rows.new ≡ rows.old }
 {
-    far && (is_in_blank_band(rows, y) || gap >= SPARSE_GAP && rows.is_blank(y))
+    far && gap >= SPARSE_GAP && rows.is_blank(y)
 }
 
 /// The least so far, or a lesser distance to an obstacle of the row in the rectangle's columns or

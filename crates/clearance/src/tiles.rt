@@ -1,16 +1,15 @@
 //! Skips tiles of 64 columns in a search, by those of a band that may have an obstacle.
 
-ghost use Rattle.std.specs.Prelude.{◌≡◌, ℕ, ◌<◌, ◌≤◌, true};
+ghost use Rattle.std.specs.Prelude.{◌≡◌, ℕ, ◌<◌, ◌≤◌, true, false};
 ghost use Rattle.std.specs.Int.{bit_at};
-ghost use Rattle.clearance.specs.Bands.{AreTilesFar, IsThinned, IsTiledRow};
+ghost use Rattle.clearance.specs.Bands.{AreTilesFar, IsTiledRow};
 
-use crate::band::STRETCH;
-use crate::bit::{bits_below, bits_from, highest_bit, lowest_bit, without_bit};
+use crate::bit::{bits_below, bits_from, highest_bit, lowest_bit};
 use crate::rows::Rows;
 use metric::{BAND_ROWS, LAST_FRAMED, Metric, Rect, WORD_CELLS};
 
 /// One more than the last tile of a row: no tile.
-const NO_TILE: u16 = WORD_CELLS;
+pub const NO_TILE: u16 = WORD_CELLS;
 
 /// A row, and whether its blank tiles are skipped, or each word is searched.
 #[derive(Clone, Copy, Debug, PartialEq, Eq)]
@@ -41,7 +40,22 @@ pub fn has_few_tiles<R: Rows>(rows: &R, y: u16) -> bool
 {
     let inside = y < rows.height();
     prove!(inside);
-    3 * rows.tiles(y / BAND_ROWS).count_ones() as usize <= rows.across()
+    are_few(rows.tiles(y / BAND_ROWS), rows.across())
+}
+
+/// Whether few of these tiles are marked, for rows of `across` words.
+#[inline(always)]
+pub fn are_few(tiles: u64, across: usize) -> bool {
+    3 * tiles.count_ones() as usize <= across
+}
+
+/// Whether this tile may have an obstacle.
+#[inline(always)]
+pub fn is_marked_tile(tiles: u64, tile: u16) -> bool
+    requires { tile < 64 }
+    ensures { result ≡ false → bit_at tiles tile ≡ 1 → ⊥ }
+{
+    tiles == u64::MAX || (tiles >> tile) & 1 == 1
 }
 
 /// The first tile from `from` on that may have an obstacle; 64 if there is none.
@@ -94,43 +108,4 @@ pub fn are_tiles_far<M: Metric>(tiles: u64, rect: Rect, gap: u16, least: u64) ->
     }
     let after = after_last_tile(tiles, own);
     after == 0 || u64::from(M::of(rect.x0 + 1 - after * WORD_CELLS, gap)) >= least
-}
-
-/// The bands without those of the rows `gap` rows above and below the rectangle, if their tiles are
-/// all at least `least` from it. They are tested at each sixteenth gap.
-#[inline(always)]
-pub fn near_bands<M: Metric, R: Rows>(rows: &R, bands: u64, rect: Rect, gap: u16, least: u64) -> u64
-    requires gap { gap ≤ LAST_FRAMED }
-    ensures { IsThinned M.distance (R.cells rows.now) rect gap least bands result }
-{
-    if gap % STRETCH != 0 {
-        return bands;
-    }
-    let y = rect.y0.saturating_sub(gap);
-    let left = without_far_band::<M, R>(rows, bands, y, rect, gap, least);
-    without_far_band::<M, R>(rows, left, rect.y1 - 1 + gap, rect, gap, least)
-}
-
-/// The bands without that of row `y`, if its tiles are all at least `least` from the rectangle, in
-/// rows at least `gap` rows away.
-fn without_far_band<M: Metric, R: Rows>(
-    rows: &R,
-    bands: u64,
-    y: u16,
-    rect: Rect,
-    gap: u16,
-    least: u64,
-) -> u64
-    requires gap { gap ≤ LAST_FRAMED }
-    ensures { IsThinned M.distance (R.cells rows.now) rect gap least bands result }
-{
-    if rows.height() <= y {
-        return bands;
-    }
-    let band = y / BAND_ROWS;
-    if are_tiles_far::<M>(rows.tiles(band), rect, gap, least) {
-        without_bit(bands, band)
-    } else {
-        bands
-    }
 }

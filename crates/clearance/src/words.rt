@@ -1,13 +1,33 @@
 //! The obstacles of one row, found in its words, which are read one by one.
 
-ghost use Rattle.std.specs.Prelude.{◌≡◌, ◌-◌, ◌<◌, ◌≤◌};
+ghost use Rattle.std.specs.Prelude.{◌≡◌, ◌-◌, ◌<◌, ◌≤◌, slice_index};
 ghost use Rattle.bits.specs.Cells.{IsBitmap};
+ghost use Rattle.bits.specs.Words.{words_across};
+ghost use Rattle.clearance.specs.Bands.{IsTiledRow};
 ghost use Rattle.clearance.specs.Rows.{IsLastNearer, IsNextNearer, IsWhereNearer, words_of_row};
 
 use crate::bit::{bits_below, bits_from, highest_bit, lowest_bit};
 use crate::rows::Rows;
-use crate::tiles::{SearchedRow, after_last_tile, next_tile, tiles_of};
+use crate::tiles::{SearchedRow, after_last_tile, is_marked_tile, next_tile, tiles_of};
 use metric::{LAST_FRAMED, MOST_SIDE, Metric, WORD_CELLS};
+
+/// The row's word `index`; it isn't read if its tile is known to be blank.
+#[inline(always)]
+fn word_of<R: Rows>(rows: &mut R, row: SearchedRow, tiles: u64, index: u16) -> u64
+    requires row { row.y < (R.cells rows.old).height }
+    requires index { index < words_across (R.cells rows.old).width }
+    requires tiles { IsTiledRow (R.cells rows.old) row.y tiles }
+    ensures word { result ≡ slice_index (words_of_row (R.cells rows.old) row.y) index }
+    ensures rows { rows.new ≡ rows.old }
+{
+    let few = usize::from(index) < rows.across();
+    prove!(few);
+    if is_marked_tile(tiles, index) {
+        rows.word(row.y, usize::from(index))
+    } else {
+        0
+    }
+}
 
 /// The first obstacle of the row from column `start` on, if its distance is below `limit`.
 ///
@@ -30,12 +50,12 @@ pub fn next_nearer<M: Metric, R: Rows>(
         limit result }
     ensures rows { rows.new ≡ rows.old }
 {
-    let own = start / WORD_CELLS;
-    let front = bits_from(rows.word(row.y, usize::from(own)), start % WORD_CELLS);
+    let (own, tiles) = (start / WORD_CELLS, tiles_of(rows, row));
+    let front = bits_from(word_of(rows, row, tiles, own), start % WORD_CELLS);
     if front != 0 {
         return right_nearer::<M>(own * WORD_CELLS + lowest_bit(front), edge, gap, limit);
     }
-    let (across, tiles) = (rows.across(), tiles_of(rows, row));
+    let across = rows.across();
     let mut index = next_tile(tiles, own + 1);
     'words: while usize::from(index) < across {
         let first = index * WORD_CELLS;
@@ -86,12 +106,11 @@ pub fn last_nearer<M: Metric, R: Rows>(
         limit result }
     ensures rows { rows.new ≡ rows.old }
 {
-    let own = end / WORD_CELLS;
-    let back = bits_below(rows.word(row.y, usize::from(own)), end % WORD_CELLS);
+    let (own, tiles) = (end / WORD_CELLS, tiles_of(rows, row));
+    let back = bits_below(word_of(rows, row, tiles, own), end % WORD_CELLS);
     if back != 0 {
         return left_nearer::<M>(own * WORD_CELLS + highest_bit(back), edge, gap, limit);
     }
-    let tiles = tiles_of(rows, row);
     let mut after = after_last_tile(tiles, own);
     'words: while 0 < after {
         let index = after - 1;

@@ -38,7 +38,8 @@ gaps-preserved g c =
     ∙ (c.with_row_above-best.ensures.rows ∙ c.gaps.invariant.rows) in
     let sought = rw rows at c.with_row_below-best.ensures.sought in
     let before = rw (c.gaps.invariant.rows) at c.gaps.invariant.sought in
-    let thinned = rw (c.limit_of-in-gaps.ensures.is, rows) at c.near_bands-bands.ensures in
+    let thinned = rw (c.limit_of-in-gaps.ensures.is, rows) at c.near_bands-bands.ensures.thinned in
+    let done = c.near_bands-bands.ensures.rows ∙ rows in
     let few : limit_of best ≤ 2 ^ 32 = rw (c.limit_of-in-gaps.ensures.is) at
     c.limit_of-in-gaps.ensures.few in
     let falls = limit_of-falls g.M.Metric.distance (IsObstacle cells) (IsWithin y gap)
@@ -49,9 +50,9 @@ gaps-preserved g c =
     (omega arith) falls c.gaps.invariant.live thinned in
     let from = c.next_gap-gap.ensures.from in
     record {
-      rows = rows;
+      rows = done;
       few = c.next_gap-gap.ensures.few;
-      sought = rw rows (record {
+      sought = rw done (record {
         bitmap = sought.bitmap;
         inside = sought.inside;
         near = IsNearAmong-live g.M.Metric.distance cells x y

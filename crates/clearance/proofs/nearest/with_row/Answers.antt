@@ -9,8 +9,22 @@ pub returns-then-is_passed-clause-sought : goal.returns-then-is_passed-clause-so
 returns-then-is_passed-clause-sought g c =
     let cells = g.R.Rows.cells c.args.rows.now in
     let sought = c.requires.sought in
-    let blank = c.is_passed.ensures.blank c.if-is_passed.true in
-    rw (c.is_passed.ensures.rows) (record {
+    let blank = c.is_passed.ensures c.if-is_passed.true in
+    record {
+      bitmap = sought.bitmap;
+      inside = sought.inside;
+      near = IsNearAmong-blank _ cells c.args.cell.x c.args.cell.y c.args.row
+          (words_of_row cells c.args.row) c.args.best sought.bitmap (IsRowOf-words cells c.args.row)
+          (λ (k : ℕ) (within : k < length (words_of_row cells c.args.row)).
+          blank k (omega (arith, length-words_of_row cells c.args.row))) sought.near;
+    }
+
+pub returns-then-is_found_blank-clause-sought : goal.returns-then-is_found_blank-clause-sought
+returns-then-is_found_blank-clause-sought g c =
+    let cells = g.R.Rows.cells c.args.rows.now in
+    let sought = c.requires.sought in
+    let blank = c.is_found_blank.ensures.blank c.if-is_found_blank.true in
+    rw (c.is_found_blank.ensures.rows) (record {
       bitmap = sought.bitmap;
       inside = sought.inside;
       near = IsNearAmong-blank _ cells c.args.cell.x c.args.cell.y c.args.row

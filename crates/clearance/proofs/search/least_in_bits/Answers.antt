@@ -46,7 +46,7 @@ gaps-preserved g c =
       c.lowered_below-least.ensures.rows,
       c.lowered_above-least.ensures.rows,
       c.gaps.invariant.rows,
-    ) at c.near_bands-bands.ensures in
+    ) at c.near_bands-bands.ensures.thinned in
     let lower = less_or_same gap rect.y0 c.gaps.least c.lowered_above-least.result
     (λ there. (above.row there).within) above.none in
     let lowest = less_or_same (rect.y1 - 1 + gap + 1) cells.height c.lowered_above-least.result
@@ -57,8 +57,9 @@ gaps-preserved g c =
     (omega arith) c.gaps.invariant.live thinned in
     let from = c.next_gap-gap.ensures.from in
     record {
-      rows = c.lowered_below-least.ensures.rows
-          ∙ (c.lowered_above-least.ensures.rows ∙ c.gaps.invariant.rows);
+      rows = c.near_bands-bands.ensures.rows
+          ∙ (c.lowered_below-least.ensures.rows
+          ∙ (c.lowered_above-least.ensures.rows ∙ c.gaps.invariant.rows));
       some = omega arith;
       few = c.next_gap-gap.ensures.few;
       least = IsLeastWithin-live _ cells rect (gap + 1) c.next_gap-gap.result c.args.limit

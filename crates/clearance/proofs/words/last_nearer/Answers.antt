@@ -23,18 +23,18 @@ words-init g c =
     let words = words_of_row (g.R.Rows.cells c.args.rows.now) c.args.row.y in
     let own = c.args.end / 64 in
     let place = c.args.end % 64 in
-    let kept = λ (i : ℕ) (below : i < place). rw (c.word.ensures.word, c.from.ensures) at
+    let kept = λ (i : ℕ) (below : i < place). rw (c.word_of.ensures.word) at
     (c.bits_below-back.ensures.kept i below) in
     let finish : AreUnmarked words (64 * own + place) c.args.end =
     AreUnmarked-none words (64 * own + place) c.args.end (omega arith) in
     let own_word = unmarked_word_below words c.args.end own place c.bits_below-back.result
     (omega arith) kept c.if-back-ne0.false finish in
     record {
-      rows = c.word.ensures.rows;
+      rows = c.word_of.ensures.rows;
       after = unmarked_tiles_below words c.after_last_tile-after.result own c.args.end
           c.tiles_of-tiles.result (tiled (g.R.Rows.cells c.args.rows.now) c.args.row.y
-          c.tiles_of-tiles.result (rw (c.word.ensures.rows) at c.tiles_of-tiles.ensures))
-          c.after_last_tile-after.ensures.none own_word;
+          c.tiles_of-tiles.result c.tiles_of-tiles.ensures) c.after_last_tile-after.ensures.none
+          own_word;
       few = c.after_last_tile-after.ensures.few;
     }
 
@@ -46,7 +46,7 @@ words-preserved g c =
     let next : 64 * c.words.after ≡ 64 * k + 64 = omega arith in
     let few = c.words.invariant.few in
     let last = c.after_last_tile-after-in-words.ensures.few in
-    let blank = rw (c.word-word.ensures.word, c.words.invariant.rows, c.from-in-words-2.ensures) at
+    let blank = rw (c.word-word.ensures.word, c.words.invariant.rows, c.from-in-words.ensures) at
     c.if-word-ne0.false in
     let after = unmarked_word_below words c.args.end k 64 (get_or words k 0) (omega arith)
     (λ i below. refl) blank (rw next at c.words.invariant.after) in
@@ -54,7 +54,7 @@ words-preserved g c =
       rows = c.word-word.ensures.rows ∙ c.words.invariant.rows;
       after = unmarked_tiles_below words c.after_last_tile-after-in-words.result k c.args.end
           c.tiles_of-tiles.result (tiled (g.R.Rows.cells c.args.rows.now) c.args.row.y
-          c.tiles_of-tiles.result (rw (c.word.ensures.rows) at c.tiles_of-tiles.ensures))
+          c.tiles_of-tiles.result c.tiles_of-tiles.ensures)
           c.after_last_tile-after-in-words.ensures.none after;
       few = omega arith;
     }
@@ -65,7 +65,7 @@ returns-then-back-ne0-clause-last g c =
     let own = c.args.end / 64 in
     let place = c.args.end % 64 in
     let p = c.highest_bit.result in
-    let kept = λ (i : ℕ) (below : i < place). rw (c.word.ensures.word, c.from.ensures) at
+    let kept = λ (i : ℕ) (below : i < place). rw (c.word_of.ensures.word) at
     (c.bits_below-back.ensures.kept i below) in
     IsLastNearer-last _ g.met.M.Metric.stays_nearer words c.args.end c.args.edge c.args.gap
     c.args.limit (own * 64 + p) c.left_nearer.result c.requires.within c.requires.gap
@@ -97,10 +97,10 @@ returns-then-word-ne0-clause-last g c =
     let found = c.highest_bit-then-word-ne0 in
     let next : 64 * c.words.after ≡ 64 * k + 64 = omega arith in
     let after = rw next at c.words.invariant.after in
-    let here = rw (c.word-word.ensures.word, c.words.invariant.rows, c.from-in-words-2.ensures) at
+    let here = rw (c.word-word.ensures.word, c.words.invariant.rows, c.from-in-words.ensures) at
     found.ensures.here in
     let none_above = λ (i : ℕ) (above : found.result < i).
-    rw (c.word-word.ensures.word, c.words.invariant.rows, c.from-in-words-2.ensures) at
+    rw (c.word-word.ensures.word, c.words.invariant.rows, c.from-in-words.ensures) at
     (found.ensures.none_above i above) in
     IsLastNearer-last _ g.met.M.Metric.stays_nearer words c.args.end c.args.edge c.args.gap
     c.args.limit (k * 64 + found.result) c.left_nearer-then-word-ne0.result c.requires.within

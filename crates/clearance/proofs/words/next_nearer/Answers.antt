@@ -24,18 +24,17 @@ words-init g c =
     let words = words_of_row (g.R.Rows.cells c.args.rows.now) c.args.row.y in
     let own = c.args.start / 64 in
     let kept = λ (i : ℕ) (from : c.args.start % 64 ≤ i) (within : i < 64).
-    rw (c.word.ensures.word, c.from.ensures) at (c.bits_from-front.ensures.kept i from within) in
+    rw (c.word_of.ensures.word) at (c.bits_from-front.ensures.kept i from within) in
     let begin : AreUnmarked words c.args.start (64 * own + c.args.start % 64) =
     AreUnmarked-none words c.args.start (64 * own + c.args.start % 64) (omega arith) in
     let before = unmarked_word words c.args.start own
     (c.args.start % 64) c.bits_from-front.result kept c.if-front-ne0.false begin in
     let from = c.next_tile-index.ensures.from in
     record {
-      rows = c.word.ensures.rows;
+      rows = c.word_of.ensures.rows;
       before = unmarked_tiles words c.args.start (own + 1) c.next_tile-index.result
           c.tiles_of-tiles.result (tiled (g.R.Rows.cells c.args.rows.now) c.args.row.y
-          c.tiles_of-tiles.result (rw (c.word.ensures.rows) at c.tiles_of-tiles.ensures))
-          c.next_tile-index.ensures.none before;
+          c.tiles_of-tiles.result c.tiles_of-tiles.ensures) c.next_tile-index.ensures.none before;
       order = omega arith;
       few = c.next_tile-index.ensures.few;
     }
@@ -45,7 +44,7 @@ words-preserved g c =
     let words = words_of_row (g.R.Rows.cells c.args.rows.now) c.args.row.y in
     let whole : 64 * c.words.index + 0 ≡ 64 * c.words.index = omega arith in
     let order = c.words.invariant.order in
-    let blank = rw (c.word-word.ensures.word, c.words.invariant.rows, c.from-in-words-3.ensures) at
+    let blank = rw (c.word-word.ensures.word, c.words.invariant.rows, c.from-in-words-2.ensures) at
     c.if-word-ne0.false in
     let before = unmarked_word words c.args.start c.words.index 0 (get_or words c.words.index 0)
     (λ i from within. refl) blank (rw whole c.words.invariant.before) in
@@ -55,8 +54,7 @@ words-preserved g c =
       before = unmarked_tiles words c.args.start (c.words.index + 1)
           c.next_tile-index-in-words.result c.tiles_of-tiles.result
           (tiled (g.R.Rows.cells c.args.rows.now) c.args.row.y c.tiles_of-tiles.result
-          (rw (c.word.ensures.rows) at c.tiles_of-tiles.ensures))
-          c.next_tile-index-in-words.ensures.none before;
+          c.tiles_of-tiles.ensures) c.next_tile-index-in-words.ensures.none before;
       order = omega arith;
       few = c.next_tile-index-in-words.ensures.few;
     }
@@ -70,7 +68,7 @@ returns-then-front-ne0-clause-next g c =
     let few : length words ≤ 64 = omega
     (arith, length-words_of_row (g.R.Rows.cells c.args.rows.now) c.args.row.y) in
     let kept = λ (i : ℕ) (from : c.args.start % 64 ≤ i) (within : i < 64).
-    rw (c.word.ensures.word, c.from.ensures) at (c.bits_from-front.ensures.kept i from within) in
+    rw (c.word_of.ensures.word) at (c.bits_from-front.ensures.kept i from within) in
     IsNextNearer-first _ g.met.M.Metric.stays_nearer words c.args.start c.args.edge c.args.gap
     c.args.limit (own * 64 + p) c.right_nearer.result few c.requires.gap
     (first_in_word words c.args.start own (c.args.start % 64) c.bits_from-front.result p
@@ -106,10 +104,10 @@ returns-then-word-ne0-clause-next g c =
     let found = c.lowest_bit-then-word-ne0 in
     let whole : 64 * k + 0 ≡ 64 * k = omega arith in
     let order = c.words.invariant.order in
-    let here = rw (c.word-word.ensures.word, c.words.invariant.rows, c.from-in-words-3.ensures) at
+    let here = rw (c.word-word.ensures.word, c.words.invariant.rows, c.from-in-words-2.ensures) at
     found.ensures.here in
     let none_below = λ (i : ℕ) (below : i < found.result).
-    rw (c.word-word.ensures.word, c.words.invariant.rows, c.from-in-words-3.ensures) at
+    rw (c.word-word.ensures.word, c.words.invariant.rows, c.from-in-words-2.ensures) at
     (found.ensures.none_below i below) in
     IsNextNearer-first _ g.met.M.Metric.stays_nearer words c.args.start c.args.edge c.args.gap
     c.args.limit (k * 64 + found.result) c.right_nearer-then-word-ne0.result few c.requires.gap
@@ -120,7 +118,7 @@ returns-then-word-ne0-clause-next g c =
 
 pub returns-clause-next : goal.returns-clause-next
 returns-clause-next g c =
-    let across = rw (c.word.ensures.rows) at c.across-across.ensures.across in
+    let across = rw (c.word_of.ensures.rows) at c.across-across.ensures.across in
     IsNextNearer-none g.M.Metric.distance
     (words_of_row (g.R.Rows.cells c.args.rows.now) c.args.row.y) c.args.start c.args.edge
     c.args.gap c.args.limit (64 * c.words.index)

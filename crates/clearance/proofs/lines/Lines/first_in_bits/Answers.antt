@@ -59,7 +59,7 @@ gaps-preserved g c =
     let from = c.next_gap-gap.ensures.from in
     let beside = rw (c.gaps.invariant.rows) at c.first_beside-next.ensures.found in
     let thinned = rw (c.first_beside-next.ensures.rows, c.gaps.invariant.rows) at
-    c.near_bands-bands.ensures in
+    c.near_bands-bands.ensures.thinned in
     let both = IsFirstAmong-more g.M.Metric.distance cells c.args.self (λ b. row_gap rect b < gap)
     (λ b. row_gap rect b ≡ gap) (λ b. row_gap rect b < gap + 1) c.args.end c.gaps.line line
     c.gaps.invariant.found beside
@@ -70,7 +70,8 @@ gaps-preserved g c =
     (gap + 1) c.args.end c.gaps.line line c.gaps.bands c.near_bands-bands.result
     bitmap c.gaps.invariant.left beside.within both c.gaps.invariant.live thinned in
     record {
-      rows = c.first_beside-next.ensures.rows ∙ c.gaps.invariant.rows;
+      rows = c.near_bands-bands.ensures.rows
+          ∙ (c.first_beside-next.ensures.rows ∙ c.gaps.invariant.rows);
       left = c.rect_left-left-in-gaps.ensures.lines;
       some = omega arith;
       few = c.next_gap-gap.ensures.few;
