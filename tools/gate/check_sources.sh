@@ -1,7 +1,7 @@
 #!/bin/sh
 # Looks for what no contract sees: code that forgets what it should free, by whatever name it was
 # imported (tests may, to leave a session out), and code that reports out of memory though no
-# allocation was refused.
+# allocation was refused. Lines of over 100 columns, too.
 set -u
 cd "$(dirname "$0")/../.." || exit 1
 found=$(find crates -name out -prune -o -path '*_tests' -prune -o -path '*/src/*.rt' -print | xargs grep -nwE 'ManuallyDrop|forget|leak' | grep -vE '^[^:]*:[0-9]+: *//')
@@ -11,4 +11,5 @@ if [ -n "$found" ]; then
     exit 1
 fi
 echo "no code forgets what it holds"
+tools/lint/check_lines.py || exit 1
 exec tools/lint/check_memory.py
