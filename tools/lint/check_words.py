@@ -35,7 +35,7 @@ PLAINER = {
     r"loopback alone": "only on loopback",
     r"nothing where": "none if",
 }
-SCRIPTS = (".py", ".sh", ".cpp", ".hpp", ".c", ".rs", ".rt.in", ".js", ".html", ".bash", ".service", "Makefile", "/run", "clearmap", "_to_pgm", "more_edits")
+SCRIPTS = (".py", ".sh", ".cpp", ".hpp", ".c", ".rs", ".rt.in", ".js", ".html", ".bash", ".service", "Makefile", "/run", "clearmap", "_to_pgm", "more_edits", "try_edits")
 MOST_WORDS = 45
 MOST_PARTS = 2
 VERBS = (
