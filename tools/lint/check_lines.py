@@ -5,8 +5,10 @@ elsewhere.
     tools/lint/check_lines.py
 
 What can't be broken may be longer: a text, an import of one name, a row of a table, a block that is
-run as it stands, an address, a picture, and a line of a proof that `rt fmt` moved two columns to the right.
+run as it stands, an address, a picture, and a line of a proof that `rt fmt` moved two columns to
+the right.
 """
+import ast
 import pathlib
 import re
 import subprocess
@@ -16,6 +18,17 @@ TOP = pathlib.Path(__file__).resolve().parents[2]
 WIDTH = 100
 COMMENT = re.compile(r"\s*(#|//|--|/\*|\* )")
 ONE_NAME = re.compile(r"\s*(pub )?(ghost )?use [^{]*\{[^,]*\};?$")
+
+
+def docstring_lines(text):
+    """The numbers of the lines that are in docstrings of a text in Python."""
+    try:
+        tree = ast.parse(text)
+    except SyntaxError:
+        return set()
+    kinds = (ast.Module, ast.ClassDef, ast.FunctionDef, ast.AsyncFunctionDef)
+    found = [node.body[0] for node in ast.walk(tree) if isinstance(node, kinds) and ast.get_docstring(node)]
+    return {number for node in found for number in range(node.lineno, node.end_lineno + 1)}
 
 
 def is_free(line, suffix):
@@ -42,8 +55,9 @@ def main():
             text = path.read_text()
         except UnicodeDecodeError:
             continue
+        said = docstring_lines(text) if path.suffix == ".py" or "python3" in text[:40] else set()
         for number, line in enumerate(text.split("\n"), 1):
-            if len(line) > WIDTH and not is_free(line, path.suffix):
+            if len(line) > WIDTH and (number in said or not is_free(line, path.suffix)):
                 wrong += 1
                 print(f"{name}:{number}: {len(line)} columns")
     print(f"{wrong} lines of over {WIDTH} columns")

@@ -11,8 +11,10 @@ though it asks for memory, a command that met two requests and a call that met o
 no memory are wrong. Prints tables of how many requests were refused, and a line for each thing that
 is wrong; the status is 1 if there is one.
 
-    tools/refuse/refuse_each_request.py [--only WORD] [--calls | --runs | --all]       a minute; wants a C compiler, the built program and the built tests:
-                                                                                rt run -- --version in crates/clearmap, rt test in crates/want_tests
+    tools/refuse/refuse_each_request.py [--only WORD] [--calls | --runs | --all]
+
+That takes a minute, and needs a C compiler, the built program and the built tests: `rt run --
+--version` in crates/clearmap, `rt test` in crates/want_tests.
 """
 import argparse
 import pathlib

@@ -1,7 +1,8 @@
 #!/usr/bin/env python3
 """Interrupts the Python client inside its calls, and shares it between threads: no wrong answer.
 
-    tools/stress/stress_python_client.py [--interrupts 10000] [--calls 100000] [--stride 1] [--seed N]
+    tools/stress/stress_python_client.py [--interrupts 10000] [--calls 100000] [--stride 1]
+        [--seed N]
 
 An alarm comes at a random moment of a call and raises there. The same client is asked again: it has
 to answer rightly, or to say that its connection is lost. The same is done at each step of the
