@@ -3,5 +3,5 @@ use Rattle.libclearmap.proofs.queries.clear_in.Goals as goal
 
 pub returns-in-Ok-clause-clear : goal.returns-in-Ok-clause-clear
 returns-in-Ok-clause-clear g c = λ _.
-    let found = rw (c.kind_of.ensures, c.edge_of.ensures) at c.in-Ok.ensures.clear in
+    let found = rw (c.kind_of-kind.ensures, c.edge_of-edge.ensures) at c.in-Ok.ensures.clear in
     rw c.found_of.ensures found

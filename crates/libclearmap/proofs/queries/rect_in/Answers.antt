@@ -3,5 +3,5 @@ use Rattle.libclearmap.proofs.queries.rect_in.Goals as goal
 
 pub returns-in-Ok-clause-least : goal.returns-in-Ok-clause-least
 returns-in-Ok-clause-least g c = λ _.
-    let found = rw (c.kind_of.ensures, c.edge_of.ensures) at c.in-Ok.ensures.least in
+    let found = rw (c.kind_of-kind.ensures, c.edge_of-edge.ensures) at c.in-Ok.ensures.least in
     rw c.found_of.ensures found
