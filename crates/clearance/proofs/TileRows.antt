@@ -1,50 +1,34 @@
 -- The bands that a search passes over, since their tiles are too far.
-use Rattle.std.proofs.Common.{◌≡◌, ℕ, ◌+◌, ◌-◌, ◌*◌, ◌/◌, ◌<◌, ◌≤◌, ◌⊎◌, inl, inr, arith}
+use Rattle.std.proofs.Common.{◌≡◌, ℕ, ◌-◌, ◌*◌, ◌/◌, ◌<◌, ◌≤◌, ◌⊎◌, inl, inr, arith}
 use Rattle.std.specs.Int.{bit_at}
 use Rattle.std.proofs.lemmas.Bool.{cases_lt, cases_eq}
 use Rattle.metric.specs.declared.rect.Rect.{Rect}
-use Rattle.metric.specs.Crossing.{StaysNearer}
-use Rattle.metric.specs.Distance.{Grows}
-use Rattle.metric.proofs.Growing.{of_grows}
 use Rattle.bits.specs.Bands.{IsBanded, IsTiled}
 use Rattle.bits.specs.Cells.{Cells, IsBitmap, IsObstacle}
-use Rattle.clearance.specs.Bands.{AreTilesFar, IsBandFar, IsBandFarIn, IsMarkedRow, IsNextGap}
-use Rattle.clearance.specs.Bands.{IsThinned}
+use Rattle.clearance.specs.Bands.{AreColumnsFar, AreTilesFar, IsBandFar, IsBandFarIn}
+use Rattle.clearance.specs.Bands.{IsMarkedRow, IsNextGap, IsThinned}
 use Rattle.clearance.specs.Rows.{IsFar}
-use Rattle.clearance.specs.Search.{IsLeastWithin, column_gap, rect_distance, row_gap}
-use Rattle.clearance.proofs.Searches.{IsFar-greater, IsFar-lower, obstacle_within}
+use Rattle.clearance.specs.Search.{IsLeastWithin, rect_distance, row_gap}
+use Rattle.clearance.proofs.Searches.{IsFar-lower, obstacle_within}
 
--- where the first tile on the right and the last one on the left are far, all are
-pub AreTilesFar-both : (distance : ℕ → ℕ → ℕ) → Grows distance → StaysNearer distance
-    → (rect : Rect) (gap least tiles next after : ℕ)
+-- where columns from the first tile on the right on are far, and those up to the last one on the
+-- left, all marked tiles are
+pub AreTilesFar-both : (distance : ℕ → ℕ → ℕ) (rect : Rect) (gap least tiles next after : ℕ)
     → ((k : ℕ) → rect.x0 / 64 ≤ k → k < next → bit_at tiles k ≡ 1 → ⊥)
-    → (next < 64 → IsFar (distance (next * 64 - (rect.x1 - 1)) gap) least)
+    → AreColumnsFar distance rect gap least (λ a. 64 * next ≤ a)
     → ((k : ℕ) → after ≤ k → k < rect.x0 / 64 → bit_at tiles k ≡ 1 → ⊥)
-    → (0 < after → IsFar (distance (rect.x0 + 1 - after * 64) gap) least)
+    → AreColumnsFar distance rect gap least (λ a. a < 64 * after)
     → AreTilesFar distance rect gap least tiles
-AreTilesFar-both distance grows stays rect gap least tiles next after none_right right none_left
-    left = λ a b column row bit away.
-    let last = rect.has_cells.right in
-    let bottom = rect.has_cells.bottom in
-    let rows = rect.has_cells.rows in
+AreTilesFar-both distance rect gap least tiles next after none_right right none_left left =
+    λ a b column row bit away.
     elim (cases_lt (a / 64) (rect.x0 / 64)) [
       | inl before ↦ elim (cases_lt (a / 64) after) [
-        | inl own ↦
-            let grown = of_grows distance grows stays (rect.x0 + 1 - after * 64)
-            (column_gap rect a) gap (row_gap rect b) (omega arith) (omega arith) away
-            (omega arith) in
-            IsFar-greater (distance (rect.x0 + 1 - after * 64) gap)
-            (rect_distance distance rect a b) least grown (left (omega arith))
+        | inl own ↦ left a b column row (omega arith) away
         | inr past ↦ absurd (none_left (a / 64) past before bit)
       ]
       | inr from ↦ elim (cases_lt (a / 64) next) [
         | inl passed ↦ absurd (none_right (a / 64) from passed bit)
-        | inr own ↦
-            let grown = of_grows distance grows stays (next * 64 - (rect.x1 - 1))
-            (column_gap rect a) gap (row_gap rect b) (omega arith) (omega arith) away
-            (omega arith) in
-            IsFar-greater (distance (next * 64 - (rect.x1 - 1)) gap)
-            (rect_distance distance rect a b) least grown (right (omega arith))
+        | inr own ↦ right a b column row (omega arith) away
       ]
     ]
 

@@ -7,10 +7,10 @@ ghost use Rattle.clearance.specs.Search.{row_gap};
 
 use crate::band::STRETCH;
 use crate::bit::{after_last_bit, without_bit};
-use crate::far_columns::are_columns_far;
+use crate::far_columns::{are_columns_far, are_tiles_far};
 use crate::rows::Rows;
 use crate::search::{FAR_GAP, NO_LIMIT};
-use crate::tiles::{NO_TILE, after_last_tile, are_few, are_tiles_far, next_tile};
+use crate::tiles::{NO_TILE, after_last_tile, are_few, next_tile};
 use metric::{BAND_ROWS, LAST_FRAMED, MOST_SIDE, Metric, Rect};
 
 /// The bands without those above and below the rectangle whose obstacles, `gap` or more rows away,
@@ -34,7 +34,7 @@ pub fn near_bands<M: Metric, R: Rows>(
     without_far::<M, R>(rows, bands, rect, gap, least)
 }
 
-/// As `without_far`, at any gap.
+/// As `near_bands`, at any gap.
 #[inline(never)]
 fn without_far<M: Metric, R: Rows>(
     rows: &mut R,

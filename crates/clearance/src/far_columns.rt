@@ -1,16 +1,30 @@
-//! The columns in which the obstacles of a band may be, and whether they are all too far.
+//! The columns and tiles in which the obstacles of a band may be, and whether all are too far.
 
 ghost use Rattle.std.specs.Prelude.{◌≡◌, ℕ, ◌/◌, ◌%◌, ◌<◌, ◌≤◌, true};
 ghost use Rattle.std.specs.Int.{bit_at};
 ghost use Rattle.bits.specs.Bands.{IsTiled};
 ghost use Rattle.bits.specs.Cells.{IsBitmap, IsObstacle};
 ghost use Rattle.bits.specs.Words.{words_across};
-ghost use Rattle.clearance.specs.Bands.{AreColumnsFar, IsBandFar, IsBandFarIn};
+ghost use Rattle.clearance.specs.Bands.{AreColumnsFar, AreTilesFar, IsBandFar, IsBandFarIn};
 
 use crate::bit::{after_last_bit, bits_before, bits_from, highest_bit, lowest_bit};
 use crate::rows::Rows;
 use crate::tiles::{after_last_tile, next_tile};
 use metric::{BAND_ROWS, LAST_FRAMED, MOST_SIDE, Metric, Rect, WORD_CELLS};
+
+/// Whether all tiles that may have an obstacle are at least `least` from the rectangle, in rows at
+/// least `gap` rows away.
+pub fn are_tiles_far<M: Metric>(tiles: u64, rect: Rect, gap: u16, least: u64) -> bool
+    requires { gap ≤ LAST_FRAMED }
+    ensures { result ≡ true → AreTilesFar M.distance rect gap least tiles }
+{
+    let own = rect.x0 / WORD_CELLS;
+    if are_far_from::<M>(WORD_CELLS * next_tile(tiles, own), rect, gap, least) {
+        are_far_before::<M>(WORD_CELLS * after_last_tile(tiles, own), rect, gap, least)
+    } else {
+        false
+    }
+}
 
 /// Whether the band's obstacles, `gap` or more rows outside the rectangle, are at least `least`
 /// from it, by the columns that they are in.

@@ -2,11 +2,11 @@
 
 ghost use Rattle.std.specs.Prelude.{◌≡◌, ℕ, ◌<◌, ◌≤◌, true, false};
 ghost use Rattle.std.specs.Int.{bit_at};
-ghost use Rattle.clearance.specs.Bands.{AreTilesFar, IsTiledRow};
+ghost use Rattle.clearance.specs.Bands.{IsTiledRow};
 
 use crate::bit::{bits_below, bits_from, highest_bit, lowest_bit};
 use crate::rows::Rows;
-use metric::{BAND_ROWS, LAST_FRAMED, Metric, Rect, WORD_CELLS};
+use metric::{BAND_ROWS, WORD_CELLS};
 
 /// One more than the last tile of a row: no tile.
 pub const NO_TILE: u16 = WORD_CELLS;
@@ -93,19 +93,4 @@ pub fn after_last_tile(tiles: u64, end: u16) -> u16
     } else {
         highest_bit(earlier) + 1
     }
-}
-
-/// Whether all tiles that may have an obstacle are at least `least` from the rectangle, in rows at
-/// least `gap` rows away.
-pub fn are_tiles_far<M: Metric>(tiles: u64, rect: Rect, gap: u16, least: u64) -> bool
-    requires { gap ≤ LAST_FRAMED }
-    ensures { result ≡ true → AreTilesFar M.distance rect gap least tiles }
-{
-    let (own, last) = (rect.x0 / WORD_CELLS, rect.x1 - 1);
-    let next = next_tile(tiles, own);
-    if next < NO_TILE && u64::from(M::of((next * WORD_CELLS).saturating_sub(last), gap)) < least {
-        return false;
-    }
-    let after = after_last_tile(tiles, own);
-    after == 0 || u64::from(M::of(rect.x0 + 1 - after * WORD_CELLS, gap)) >= least
 }
