@@ -9,12 +9,12 @@ run as it stands, an address, a picture, and a line of a proof that `rt fmt` mov
 the right.
 """
 import ast
-import pathlib
 import re
-import subprocess
 import sys
 
-TOP = pathlib.Path(__file__).resolve().parents[2]
+sys.dont_write_bytecode = True
+from page_names import TOP, files
+
 WIDTH = 100
 COMMENT = re.compile(r"\s*(#|//|--|/\*|\* )")
 ONE_NAME = re.compile(r"\s*(pub )?(ghost )?use [^{]*\{[^,]*\};?$")
@@ -27,8 +27,9 @@ def docstring_lines(text):
     except SyntaxError:
         return set()
     kinds = (ast.Module, ast.ClassDef, ast.FunctionDef, ast.AsyncFunctionDef)
-    found = [node.body[0] for node in ast.walk(tree) if isinstance(node, kinds) and ast.get_docstring(node)]
-    return {number for node in found for number in range(node.lineno, node.end_lineno + 1)}
+    owners = [node for node in ast.walk(tree) if isinstance(node, kinds)]
+    said = [node.body[0] for node in owners if ast.get_docstring(node)]
+    return {number for text in said for number in range(text.lineno, text.end_lineno + 1)}
 
 
 def is_free(line, suffix):
@@ -45,11 +46,10 @@ def is_free(line, suffix):
 
 def main():
     """Prints each such line, and ends with status 1 if there is one."""
-    listed = subprocess.run(["git", "ls-files"], cwd=TOP, capture_output=True, text=True, check=True)
     wrong = 0
-    for name in listed.stdout.split("\n"):
+    for name in files():
         path = TOP / name
-        if not name or name.endswith(".edit") or name.startswith("man/") or not path.is_file():
+        if name.endswith(".edit") or name.startswith("man/") or not path.is_file():
             continue
         try:
             text = path.read_text()
