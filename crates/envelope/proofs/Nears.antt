@@ -4,6 +4,7 @@ use Rattle.std.proofs.Common.{slice_index, slice_index_or, Option, Some, None, r
 use Rattle.std.proofs.Common.{arith}
 use Rattle.std.specs.Int.{abs_diff}
 use Rattle.std.proofs.lemmas.Bool.{cases_eq, cases_lt, ne_eqb}
+use Rattle.std.proofs.lemmas.Grind.{get_or_default_zero}
 use Rattle.metric.specs.Distance.{Grows, distance_between}
 use Rattle.metric.specs.Cellwise.{IsAtMost, IsNearestCell, key_of}
 use Rattle.metric.specs.Edge.{shift, spot_of}
@@ -14,10 +15,10 @@ use Rattle.bits.specs.Cells.{Cells, IsBitmap, IsObstacle}
 use Rattle.bits.specs.Edges.{IsBlocked, IsMap, framed}
 use Rattle.bits.proofs.Framing.{edge_nearest, edge_none, framed_map, framed_size, spot_seen}
 use Rattle.column.specs.Columns.{IsNearestRow, IsRowAtMost, IsRowOfTable}
-use Rattle.envelope.specs.Rows.{AreRowAnswers, AreRowNears}
-use Rattle.envelope.specs.Columns.{AreEntries, AreNearColumns, IsAmong, IsBest, IsNearColumn}
-use Rattle.envelope.specs.Columns.{distance_from, gap_of, near_from}
-use Rattle.envelope.specs.Answer.{Reading}
+use Rattle.envelope.specs.Rows.{AreRowAnswers, AreRowDistances, AreRowNears}
+use Rattle.envelope.specs.Columns.{AreEntries, AreNearColumns, AreSaid, IsAmong, IsBest}
+use Rattle.envelope.specs.Columns.{IsNearColumn, IsSaid, distance_from, gap_of, near_from}
+use Rattle.envelope.specs.Answer.{IsDistanceOf, Reading, Saying}
 use Rattle.envelope.specs.Scans.{IsToldBy}
 
 -- a column with an obstacle has an entry
@@ -208,20 +209,61 @@ near_column_seen d entries edge y x near (column, best, same) left top =
     subst (λ (n : Near). n.dist ≡ spot_distance d (x - shift edge)
     (y - shift edge) n.cell.x n.cell.y) (sym same) (near_seen d entries edge y column x left top)
 
--- an answer that keeps the nearest column's obstacle tells it
-pub near_kept : {T : Type 0} (told : Reading T) (d : ℕ → ℕ → ℕ) (entries : List ℕ) (edge : Edge)
+-- a value that keeps the nearest column's obstacle says what it is
+pub said_kept : {T : Type 0} (says : Saying T) (d : ℕ → ℕ → ℕ) (entries : List ℕ) (edge : Edge)
     (y x : ℕ) (near : Near) (kept : T) → IsNearColumn d entries y edge (x + shift edge) (Some near)
     → shift edge ≤ y
     → ((distance : ℕ → ℕ → ℕ) (a b : ℕ)
     → near.dist ≡ spot_distance distance a b near.cell.x near.cell.y
-    → told distance a b kept ≡ Some near)
-    → IsNearColumn d entries y edge (x + shift edge) (told d x (y - shift edge) kept)
-near_kept told d entries edge y x near kept found top keeps =
+    → says distance a b kept (Some near))
+    → IsSaid says d entries y edge x kept
+said_kept says d entries edge y x near kept found top keeps =
     let back : x + shift edge - shift edge ≡ x = omega arith in
     let seen : near.dist ≡ spot_distance d x (y - shift edge) near.cell.x near.cell.y =
     rw back at (near_column_seen d entries edge y (x + shift edge) near found (omega arith) top)
     in
-    rw (keeps d x (y - shift edge) seen) found
+    record { near = Some near; near_is = found; said = keeps d x (y - shift edge) seen }
+
+-- values that say what an answer tells are answers
+pub AreNearColumns-said : {T : Type 0} (told : Reading T) (nothing : T) (d : ℕ → ℕ → ℕ)
+    (entries : List ℕ) (y : ℕ) (edge : Edge) (answers : List T)
+    → AreSaid (λ distance x y answer near. told distance x y answer ≡ near) nothing d entries y edge
+    answers
+    → AreNearColumns told nothing d entries y edge answers
+AreNearColumns-said told nothing d entries y edge answers said = record {
+  as_many = said.as_many;
+  each = λ x below.
+      let it = said.each x below in
+      subst (λ (near : Option Near). IsNearColumn d entries y edge (x + shift edge) near)
+      (sym it.said) it.near_is;
+}
+
+-- numbers that say how far the nearest columns' obstacles are, are the distances of the row
+pub AreRowDistances-said : (unset : ℕ) (d : ℕ → ℕ → ℕ) (cells : Cells) (edge : Edge) (y : ℕ)
+    (entries numbers : List ℕ) → Grows d
+    → IsBitmap cells → y < cells.height
+    → IsRowOfTable (framed edge cells) (y + shift edge) entries
+    → AreSaid (λ distance x y number near. IsDistanceOf near number) unset d entries
+    (y + shift edge) edge numbers
+    → AreRowDistances d cells edge y cells.width numbers
+AreRowDistances-said unset d cells edge y entries numbers grows bitmap within row said =
+    let many = row.as_many in
+    let filled = said.as_many in
+    let size = framed_size edge cells in
+    let wide = size.0 in
+    let high = size.1 in
+    record {
+      as_many = omega (arith, many, filled, wide);
+      each = λ x below.
+          let inside : x < length numbers = omega (arith, below, many, filled, wide) in
+          let it = said.each x inside in
+          record {
+            near = it.near;
+            near_is = near_of_column d cells edge x y entries it.near grows bitmap
+                (omega (arith, below, wide)) (omega (arith, within, high)) row it.near_is;
+            number_is = rw (get_or_default_zero numbers x unset inside) at it.said;
+          };
+    }
 
 -- what a word tells is the nearest column's obstacle
 pub near_of_word : (d : ℕ → ℕ → ℕ) (entries : List ℕ) (edge : Edge) (y x word : ℕ) (near : Near)

@@ -9,7 +9,7 @@ use Rattle.metric.specs.Edge.{shift, spot_of}
 use Rattle.metric.specs.declared.edge.Edge.{Edge}
 use Rattle.metric.specs.declared.near.Near.{Near}
 use Rattle.metric.specs.Crossing.{at_column}
-use Rattle.envelope.specs.Answer.{Reading}
+use Rattle.envelope.specs.Answer.{Reading, Saying}
 
 -- a row of a table, seen from row y: each entry is a row of a map, or 65535 without an obstacle
 pub record AreEntries (entries : List ℕ) (y : ℕ) : Type 0 where
@@ -77,3 +77,17 @@ pub record AreNearColumns {T : Type 0} (told : Reading T) (nothing : T) (distanc
   pub each : (x : ℕ) → x < length answers
       → IsNearColumn distance entries y edge (x + shift edge)
       (told distance x (y - shift edge) (slice_index_or answers x nothing))
+
+-- a cell's value says what the obstacle of the column nearest to it is
+pub record IsSaid {T : Type 0} (says : Saying T) (distance : ℕ → ℕ → ℕ) (entries : List ℕ) (y : ℕ)
+    (edge : Edge) (x : ℕ) (value : T) : Type 0 where
+  pub near : Option Near
+  pub near_is : IsNearColumn distance entries y edge (x + shift edge) near
+  pub said : says distance x (y - shift edge) value near
+
+-- the values say what the obstacles of the columns nearest to the cells of row y within the edge are
+pub record AreSaid {T : Type 0} (says : Saying T) (unset : T) (distance : ℕ → ℕ → ℕ)
+    (entries : List ℕ) (y : ℕ) (edge : Edge) (values : List T) : Type 0 where
+  pub as_many : length values + 2 * shift edge ≡ length entries
+  pub each : (x : ℕ) → x < length values
+      → IsSaid says distance entries y edge x (slice_index_or values x unset)

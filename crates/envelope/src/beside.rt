@@ -11,10 +11,10 @@ ghost use Rattle.std.specs.Prelude.{◌≡◌, ℕ, negsuc, pos, ◌+◌, ◌-�
 ghost use Rattle.std.specs.Prelude.{length, slice_index, slice_index_or, Some, IfSome};
 ghost use Rattle.metric.specs.Edge.{shift, spot_of};
 ghost use Rattle.envelope.specs.Beside.{AreBestNear, AreDecided, AreColumnParts, AreSmall, AreTold};
-ghost use Rattle.envelope.specs.Columns.{AreEntries, AreNearColumns, IsNearColumn};
+ghost use Rattle.envelope.specs.Columns.{AreEntries, AreSaid, IsSaid};
 ghost use Rattle.envelope.specs.Pieces.{IsLeftBound, IsRightBound};
 
-use crate::answer::CellAnswer;
+use crate::answer::CellValue;
 use crate::border::Border;
 use crate::cover::Span;
 use crate::lanes::{all_of, are_below, chosen, least, load};
@@ -59,7 +59,7 @@ struct Eight {
 /// span per column.
 // Not inlined: the two phases would compete for registers.
 #[inline(never)]
-pub fn fill_beside<M: Metric, A: CellAnswer, B: Border>(
+pub fn fill_beside<M: Metric, A: CellValue, B: Border>(
     entries: &[u16],
     y: u16,
     parts: &mut [u16],
@@ -72,7 +72,7 @@ pub fn fill_beside<M: Metric, A: CellAnswer, B: Border>(
     requires room { length entries.now + 272 ≤ length parts.old }
     requires spans { length entries.now ≤ length spans.old }
     requires width { length answers.old + 2 * shift B.EDGE ≡ length entries.now }
-    ensures { AreNearColumns A.told A.nothing M.distance entries.now y B.EDGE answers.new }
+    ensures { AreSaid A.says A.unset M.distance entries.now y B.EDGE answers.new }
 {
     let parts = &mut parts[..entries.len() + SPARE];
     set_parts::<M>(entries, y, parts);
@@ -282,7 +282,7 @@ fn look_aside<M: Metric>(parts: &[u16], at: usize, k: u16, best: u16x8, away: u1
 
 /// Fills up to eight cells, as far as the row goes.
 #[inline(always)]
-fn fill_eight<M: Metric, A: CellAnswer, B: Border>(
+fn fill_eight<M: Metric, A: CellValue, B: Border>(
     entries: &[u16],
     y: u16,
     start: usize,
@@ -297,10 +297,10 @@ fn fill_eight<M: Metric, A: CellAnswer, B: Border>(
         (start + shift B.EDGE) eight.best eight.away }
     ensures len { length answers.new ≡ length answers.old }
     ensures filled { (x : ℕ) → start ≤ x → x < start + 8 → x < length answers.old
-        → IsNearColumn M.distance entries.now y B.EDGE (x + shift B.EDGE)
-        (A.told M.distance x (y - shift B.EDGE) (slice_index_or answers.new x A.nothing)) }
+        → IsSaid A.says M.distance entries.now y B.EDGE x
+        (slice_index_or answers.new x A.unset) }
     ensures others { (x : ℕ) → (x < start) ⊎ (start + 8 ≤ x)
-        → slice_index_or answers.new x A.nothing ≡ slice_index_or answers.old x A.nothing }
+        → slice_index_or answers.new x A.unset ≡ slice_index_or answers.old x A.unset }
 {
     let (best, away) = (eight.best.to_array(), eight.away.to_array());
     let edge = B::EDGE;
@@ -308,7 +308,7 @@ fn fill_eight<M: Metric, A: CellAnswer, B: Border>(
     let count = (answers.len().max(start) - start).min(8);
     'cells: for lane in 0..count {
         let x = start + lane + first;
-        answers[start + lane] = A::some(near(entries, edge, x, best[lane], away[lane]));
+        answers[start + lane] = A::with(near(entries, edge, x, best[lane], away[lane]));
     }
 }
 

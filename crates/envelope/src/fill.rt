@@ -4,12 +4,12 @@ ghost use Rattle.std.specs.Prelude.{◌≡◌, ℕ, negsuc, pos, ◌+◌, ◌-�
 ghost use Rattle.std.specs.Prelude.{length, slice_index_or, Some};
 ghost use Rattle.metric.specs.Edge.{shift};
 ghost use Rattle.metric.specs.Nearest.{spot_distance};
-ghost use Rattle.envelope.specs.Columns.{AreEntries, IsAmong, IsColumnFrom, IsNearColumn, gap_of};
+ghost use Rattle.envelope.specs.Columns.{AreEntries, IsAmong, IsColumnFrom, IsSaid, gap_of};
 ghost use Rattle.envelope.specs.Columns.{near_from};
 ghost use Rattle.envelope.specs.Envelope.{IsCovered};
 ghost use Rattle.envelope.specs.Pieces.{IsEnough, IsPiece};
 
-use crate::answer::CellAnswer;
+use crate::answer::CellValue;
 use crate::border::Border;
 use crate::columns::{distance, gap};
 use crate::cover::Span;
@@ -20,7 +20,7 @@ use metric::{Edge, LAST_FRAMED, Metric, Near};
 /// there is no span. Cells of the frame have no place in the row.
 // Not inlined: the two phases would compete for registers.
 #[inline(never)]
-pub fn fill<M: Metric, A: CellAnswer, B: Border>(
+pub fn fill<M: Metric, A: CellValue, B: Border>(
     entries: &[u16],
     y: u16,
     piece: Piece,
@@ -36,10 +36,10 @@ pub fn fill<M: Metric, A: CellAnswer, B: Border>(
         (IsColumnFrom entries.now piece.first piece.last) spans.now (length spans.now) piece.end }
     ensures filled { (x : ℕ) → piece.from ≤ x + shift B.EDGE → x + shift B.EDGE < piece.end
         → x < length answers.old
-        → IsNearColumn M.distance entries.now y B.EDGE (x + shift B.EDGE)
-        (A.told M.distance x (y - shift B.EDGE) (slice_index_or answers.new x A.nothing)) }
+        → IsSaid A.says M.distance entries.now y B.EDGE x
+        (slice_index_or answers.new x A.unset) }
     ensures others { (x : ℕ) → (x + shift B.EDGE < piece.from) ⊎ (piece.end ≤ x + shift B.EDGE)
-        → slice_index_or answers.new x A.nothing ≡ slice_index_or answers.old x A.nothing }
+        → slice_index_or answers.new x A.unset ≡ slice_index_or answers.old x A.unset }
 {
     if spans.is_empty() {
         let before = usize::from(B::EDGE.shift());
@@ -58,21 +58,21 @@ pub fn fill<M: Metric, A: CellAnswer, B: Border>(
 }
 
 /// Fills these cells with none.
-fn fill_none<A: CellAnswer>(from: usize, end: usize, answers: &mut [A])
+fn fill_none<A: CellValue>(from: usize, end: usize, answers: &mut [A])
     requires within { end ≤ length answers.old }
     ensures none { (x : ℕ) → from ≤ x → x < end
-        → slice_index_or answers.new x A.nothing ≡ A.nothing }
+        → slice_index_or answers.new x A.unset ≡ A.unset }
     ensures others { (x : ℕ) → (x < from) ⊎ (end ≤ x)
-        → slice_index_or answers.new x A.nothing ≡ slice_index_or answers.old x A.nothing }
+        → slice_index_or answers.new x A.unset ≡ slice_index_or answers.old x A.unset }
 {
     for x in from..end {
-        answers[x] = A::none();
+        answers[x] = A::without();
     }
 }
 
 /// Fills the cells of one span, from one of them up to the end.
 #[inline(always)]
-fn fill_span<M: Metric, A: CellAnswer, B: Border>(
+fn fill_span<M: Metric, A: CellValue, B: Border>(
     entries: &[u16],
     y: u16,
     span: Span,
@@ -88,17 +88,17 @@ fn fill_span<M: Metric, A: CellAnswer, B: Border>(
     ensures filled { (x : ℕ) → span.start ≤ x + shift B.EDGE → from ≤ x + shift B.EDGE
         → x + shift B.EDGE < end
         → x < length answers.old
-        → A.told M.distance x (y - shift B.EDGE) (slice_index_or answers.new x A.nothing)
-        ≡ Some (near_from M.distance entries.now y B.EDGE span.column (x + shift B.EDGE)) }
+        → A.says M.distance x (y - shift B.EDGE) (slice_index_or answers.new x A.unset)
+        (Some (near_from M.distance entries.now y B.EDGE span.column (x + shift B.EDGE))) }
     ensures others { (x : ℕ) → (x + shift B.EDGE < from) ⊎ (end ≤ x + shift B.EDGE)
-        → slice_index_or answers.new x A.nothing ≡ slice_index_or answers.old x A.nothing }
+        → slice_index_or answers.new x A.unset ≡ slice_index_or answers.old x A.unset }
 {
     let edge = B::EDGE;
     let before = usize::from(edge.shift());
     let low = usize::from(span.start).max(from).saturating_sub(before);
     let high = end.saturating_sub(before).min(answers.len());
     for x in low..high {
-        answers[x] = A::some(near::<M>(entries, y, edge, span.column, (x + before) as u16));
+        answers[x] = A::with(near::<M>(entries, y, edge, span.column, (x + before) as u16));
     }
 }
 

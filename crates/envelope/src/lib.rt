@@ -15,4 +15,4 @@ mod stack;
 
 pub use answer::CellAnswer;
 pub use metric::Near;
-pub use stack::{Stack, row, row_from};
+pub use stack::{Stack, distances_from, row, row_from};

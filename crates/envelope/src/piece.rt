@@ -2,10 +2,10 @@
 
 ghost use Rattle.std.specs.Prelude.{ℕ, ◌+◌, ◌-◌, ◌*◌, ◌<◌, ◌≤◌, ◌≡◌, ◌⊎◌, length, slice_index_or};
 ghost use Rattle.metric.specs.Edge.{shift};
-ghost use Rattle.envelope.specs.Columns.{AreEntries, IsNearColumn};
+ghost use Rattle.envelope.specs.Columns.{AreEntries, IsSaid};
 ghost use Rattle.envelope.specs.Pieces.{IsEnough, IsPiece};
 
-use crate::answer::CellAnswer;
+use crate::answer::CellValue;
 use crate::border::Border;
 use crate::cover::{Span, cover};
 use crate::fill::fill;
@@ -22,7 +22,7 @@ pub struct Piece {
 }
 
 /// Fills the cells of a piece by the stack, which has room for a row.
-pub fn fill_piece<M: Metric, A: CellAnswer, B: Border>(
+pub fn fill_piece<M: Metric, A: CellValue, B: Border>(
     entries: &[u16],
     y: u16,
     piece: Piece,
@@ -37,10 +37,10 @@ pub fn fill_piece<M: Metric, A: CellAnswer, B: Border>(
     requires width { length answers.old + 2 * shift B.EDGE ≡ length entries.now }
     ensures filled { (x : ℕ) → piece.from ≤ x + shift B.EDGE → x + shift B.EDGE < piece.end
         → x < length answers.old
-        → IsNearColumn M.distance entries.now y B.EDGE (x + shift B.EDGE)
-        (A.told M.distance x (y - shift B.EDGE) (slice_index_or answers.new x A.nothing)) }
+        → IsSaid A.says M.distance entries.now y B.EDGE x
+        (slice_index_or answers.new x A.unset) }
     ensures others { (x : ℕ) → (x + shift B.EDGE < piece.from) ⊎ (piece.end ≤ x + shift B.EDGE)
-        → slice_index_or answers.new x A.nothing ≡ slice_index_or answers.old x A.nothing }
+        → slice_index_or answers.new x A.unset ≡ slice_index_or answers.old x A.unset }
 {
     let count = cover::<M>(entries, y, piece, spans);
     fill::<M, A, B>(entries, y, piece, &spans[..count], answers);

@@ -10,11 +10,11 @@ ghost use Rattle.std.specs.Prelude.{◌≡◌, ◌≢◌, ℕ, negsuc, pos, ◌+
 ghost use Rattle.std.specs.Prelude.{◌≤ℤ◌, length, min, slice_index, true};
 ghost use Rattle.metric.specs.Distance.{IsSum};
 ghost use Rattle.metric.specs.Edge.{shift, spot_of};
-ghost use Rattle.envelope.specs.Columns.{AreEntries, AreNearColumns};
+ghost use Rattle.envelope.specs.Columns.{AreEntries, AreSaid};
 ghost use Rattle.envelope.specs.Scans.{AreLeftLeast, AreRightLeast, AreToldBy, HasColumn, IsLeast};
 ghost use Rattle.envelope.specs.Scans.{left_word, right_word, word_of};
 
-use crate::answer::CellAnswer;
+use crate::answer::CellValue;
 use crate::border::Border;
 use column::NONE;
 use metric::{Edge, Metric, Near};
@@ -60,7 +60,7 @@ fn one_if_far(entry: u16, y: u16) -> u16
 
 /// Fills the row with the obstacle of the column nearest to each cell. `left` and `right` have room
 /// for one word per column.
-pub fn fill_by_scans<M: Metric, A: CellAnswer, B: Border>(
+pub fn fill_by_scans<M: Metric, A: CellValue, B: Border>(
     entries: &[u16],
     y: u16,
     left: &mut [u32],
@@ -74,7 +74,7 @@ pub fn fill_by_scans<M: Metric, A: CellAnswer, B: Border>(
     requires left { length entries.now ≤ length left.old }
     requires right { length entries.now ≤ length right.old }
     requires width { length answers.old + 2 * shift B.EDGE ≡ length entries.now }
-    ensures { AreNearColumns A.told A.nothing M.distance entries.now y B.EDGE answers.new }
+    ensures { AreSaid A.says A.unset M.distance entries.now y B.EDGE answers.new }
 {
     set_words(entries, y, left, right);
     scan(entries.len(), left, right);
@@ -172,7 +172,7 @@ fn nearer(left: u32, right: u32, x: u32) -> u32
 /// Fills the row with the obstacles that the words mean.
 // Not inlined: the two phases would compete for registers.
 #[inline(never)]
-fn tell<M: Metric, A: CellAnswer, B: Border>(
+fn tell<M: Metric, A: CellValue, B: Border>(
     entries: &[u16],
     _y: u16,
     words: &[u32],
@@ -183,13 +183,13 @@ fn tell<M: Metric, A: CellAnswer, B: Border>(
     requires room { length entries.now ≤ length words.now }
     requires width { length answers.old + 2 * shift B.EDGE ≡ length entries.now }
     requires told { AreToldBy M.distance entries.now _y words.now }
-    ensures { AreNearColumns A.told A.nothing M.distance entries.now _y B.EDGE answers.new }
+    ensures { AreSaid A.says A.unset M.distance entries.now _y B.EDGE answers.new }
 {
     let edge = B::EDGE;
     let before = usize::from(edge.shift());
     'cells: for x in 0..answers.len() {
         let word = words[x + before];
-        answers[x] = A::some(near_of(entries, edge, word));
+        answers[x] = A::with(near_of(entries, edge, word));
     }
 }
 

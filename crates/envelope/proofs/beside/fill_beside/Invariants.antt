@@ -1,7 +1,7 @@
 -- The cells so far are filled.
 use Rattle.std.proofs.Common.{◌≡◌, ℕ, ◌-◌, ◌+◌, ◌*◌, ◌<◌, ◌≤◌, length, slice_index_or}
 use Rattle.metric.specs.Edge.{shift}
-use Rattle.envelope.specs.Columns.{IsNearColumn}
+use Rattle.envelope.specs.Columns.{IsSaid}
 use Rattle.envelope.proofs.beside.fill_beside.Given as goal
 
 abbrev pub invariant-cells : goal.invariant-cells
@@ -10,9 +10,8 @@ invariant-cells g l = record {
   room : length l.entries ≤ length l.spans;
   within : l.start ≤ length l.answers + 15;
   filled : (x : ℕ) → x < l.start → x < length l.answers
-      → IsNearColumn g.M.Metric.distance l.entries l.y g.B.Border.EDGE (x + shift g.B.Border.EDGE)
-      (g.A.CellAnswer.told g.M.Metric.distance x (l.y - shift g.B.Border.EDGE)
-      (slice_index_or l.answers x g.A.CellAnswer.nothing));
+      → IsSaid g.A.CellValue.says g.M.Metric.distance l.entries l.y g.B.Border.EDGE x
+      (slice_index_or l.answers x g.A.CellValue.unset);
 }
 
 abbrev pub decreases-cells : goal.decreases-cells

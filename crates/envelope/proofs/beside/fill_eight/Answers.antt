@@ -1,9 +1,9 @@
 -- One more cell is filled with what was found.
 use Rattle.std.proofs.Common.{◌≡◌, ◌+◌, ◌-◌, ◌<◌, length, Some, ◌∙◌, arith, rules}
 use Rattle.metric.specs.Edge.{shift}
-use Rattle.envelope.specs.Columns.{IsNearColumn}
+use Rattle.envelope.specs.Columns.{IsNearColumn, IsSaid}
 use Rattle.envelope.proofs.Filling.{set_more}
-use Rattle.envelope.proofs.Nears.{near_kept}
+use Rattle.envelope.proofs.Nears.{said_kept}
 use Rattle.envelope.proofs.beside.fill_eight.Goals as goal
 
 pub cells-preserved : goal.cells-preserved
@@ -11,7 +11,7 @@ cells-preserved g c =
     let p = c.args.start + c.cells.lane in
     let edge = g.B.Border.EDGE in
     let distance = g.M.Metric.distance in
-    let told = g.A.CellAnswer.told in
+    let says = g.A.CellValue.says in
     let first : c.from-first.result ≡ shift edge = c.from-first.ensures
     ∙ (rw c.EDGE-edge.ensures at c.shift.ensures) in
     let where_is : p + c.from-first.result ≡ c.args.start + shift edge + c.cells.lane =
@@ -28,11 +28,10 @@ cells-preserved g c =
     record {
       width = search rules;
       filled = λ x from below.
-          set_more (λ x answer. IsNearColumn distance c.args.entries.now c.args.y edge
-          (x + shift edge) (told distance x (c.args.y - shift edge) answer)) c.args.start p
-          c.cells.answers c.some.result g.A.CellAnswer.nothing
+          set_more (λ x answer. IsSaid says distance c.args.entries.now c.args.y edge x answer)
+          c.args.start p c.cells.answers c.with.result g.A.CellValue.unset
           inside c.cells.invariant.filled
-          (near_kept told distance c.args.entries.now edge c.args.y p c.near.result c.some.result
-          near c.requires.row c.some.ensures) x from (omega (arith, below));
+          (said_kept says distance c.args.entries.now edge c.args.y p c.near.result c.with.result
+          near c.requires.row c.with.ensures) x from (omega (arith, below));
       others = search rules;
     }

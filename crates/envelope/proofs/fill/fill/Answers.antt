@@ -1,9 +1,9 @@
 -- One span less is left, and its cells are filled.
-use Rattle.std.proofs.Common.{◌≡◌, ◌+◌, ◌-◌, ◌<◌, ◌≤◌, ◌∙◌, ℕ, ◌⊎◌, List, length, inl, inr, refl}
+use Rattle.std.proofs.Common.{◌≡◌, ◌+◌, ◌-◌, ◌<◌, ◌≤◌, ◌∙◌, ℕ, ◌⊎◌, List, length, inl, inr, refl, None, Some}
 use Rattle.std.proofs.Common.{arith, rules}
 use Rattle.std.proofs.lemmas.Bool.{cases_lt}
 use Rattle.metric.specs.Edge.{shift}
-use Rattle.envelope.specs.Columns.{IsAmong, IsColumnFrom, gap_of}
+use Rattle.envelope.specs.Columns.{IsAmong, IsColumnFrom, gap_of, near_from}
 use Rattle.envelope.specs.Envelope.{span_at}
 use Rattle.envelope.specs.Pieces.{IsPiece}
 use Rattle.envelope.specs.declared.piece.Piece.{Piece}
@@ -26,12 +26,13 @@ pub returns-then-is_empty-clause-filled : goal.returns-then-is_empty-clause-fill
 returns-then-is_empty-clause-filled g c = λ x from below inside.
     let none : length c.args.spans.now ≡ 0 = search rules in
     let before = c.from-before.ensures ∙ (rw c.EDGE.ensures at c.shift.ensures) in
-    rw (
-      c.fill_none.ensures.none x (omega (arith, before)) (omega (arith, before)),
-      g.met.A.CellAnswer.tells_nothing g.M.Metric.distance x (c.args.y - shift g.B.Border.EDGE),
-    )
-    (λ column among. let it = c.requires.enough (x + shift g.B.Border.EDGE) column from below among
-    in c.requires.covered.none none it.by it.among)
+    record {
+      near = None;
+      near_is = λ column among. let it = c.requires.enough (x + shift g.B.Border.EDGE) column from
+          below among in c.requires.covered.none none it.by it.among;
+      said = rw (c.fill_none.ensures.none x (omega (arith, before)) (omega (arith, before)))
+          (g.met.A.CellValue.says_none g.M.Metric.distance x (c.args.y - shift g.B.Border.EDGE));
+    }
 
 pub fill_span-requires-clause-column : goal.fill_span-requires-clause-column
 fill_span-requires-clause-column g c =
@@ -63,18 +64,20 @@ spans-preserved g c =
           elim (cases_lt (x + k) c.spans.end) [
             | inl before ↦
                 let at_least : span.start ≤ x + k = omega (arith, c.from-end.ensures) in
-                rw (c.fill_span.ensures.filled x at_least from before there) (
-                  span.column,
-                  best_of_enough g.M.Metric.distance (gap_of c.args.entries.now c.args.y)
-                      (IsAmong c.args.entries.now (length c.args.entries.now))
-                      (IsColumnFrom c.args.entries.now c.args.piece.first c.args.piece.last)
-                      (x + k) span.column
-                      (λ column among. of_row c.args.entries.now c.args.piece column
-                      c.requires.piece among)
-                      (λ other among. c.requires.enough (x + k) other from below among)
-                      (last.0.best (x + k) at_least before),
-                  refl,
-                )
+                let best = best_of_enough g.M.Metric.distance (gap_of c.args.entries.now c.args.y)
+                (IsAmong c.args.entries.now (length c.args.entries.now))
+                (IsColumnFrom c.args.entries.now c.args.piece.first c.args.piece.last)
+                (x + k) span.column
+                (λ column among. of_row c.args.entries.now c.args.piece column
+                c.requires.piece among)
+                (λ other among. c.requires.enough (x + k) other from below among)
+                (last.0.best (x + k) at_least before) in
+                record {
+                  near = Some (near_from g.M.Metric.distance c.args.entries.now c.args.y
+                      g.B.Border.EDGE span.column (x + k));
+                  near_is = (span.column, best, refl);
+                  said = c.fill_span.ensures.filled x at_least from before there;
+                }
             | inr past ↦ rw (c.fill_span.ensures.others x (inr past))
                 (c.spans.invariant.filled x past from below there)
           ];

@@ -2,7 +2,7 @@
 -- there on are filled.
 use Rattle.std.proofs.Common.{◌≡◌, ℕ, ◌+◌, ◌-◌, ◌<◌, ◌≤◌, ◌⊎◌, length, slice_index_or}
 use Rattle.metric.specs.Edge.{shift}
-use Rattle.envelope.specs.Columns.{IsColumnFrom, IsNearColumn, gap_of}
+use Rattle.envelope.specs.Columns.{IsColumnFrom, IsSaid, gap_of}
 use Rattle.envelope.specs.Envelope.{IsEnvelope}
 use Rattle.envelope.proofs.fill.fill.Given as goal
 
@@ -17,13 +17,12 @@ invariant-spans g l = record {
       (IsColumnFrom l.entries l.piece.first l.piece.last) l.spans l.count l.end;
   filled : (x : ℕ) → l.end ≤ x + shift g.B.Border.EDGE → l.piece.from ≤ x + shift g.B.Border.EDGE
       → x + shift g.B.Border.EDGE < l.piece.end → x < length l.answers
-      → IsNearColumn g.M.Metric.distance l.entries l.y g.B.Border.EDGE (x + shift g.B.Border.EDGE)
-      (g.A.CellAnswer.told g.M.Metric.distance x (l.y - shift g.B.Border.EDGE)
-      (slice_index_or l.answers x g.A.CellAnswer.nothing));
+      → IsSaid g.A.CellValue.says g.M.Metric.distance l.entries l.y g.B.Border.EDGE x
+      (slice_index_or l.answers x g.A.CellValue.unset);
   others : (x : ℕ) → (x + shift g.B.Border.EDGE < l.piece.from)
       ⊎ (l.piece.end ≤ x + shift g.B.Border.EDGE)
-      → slice_index_or l.answers x g.A.CellAnswer.nothing
-      ≡ slice_index_or l.fn.answers x g.A.CellAnswer.nothing;
+      → slice_index_or l.answers x g.A.CellValue.unset
+      ≡ slice_index_or l.fn.answers x g.A.CellValue.unset;
 }
 
 abbrev pub decreases-spans : goal.decreases-spans

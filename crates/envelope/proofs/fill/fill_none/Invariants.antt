@@ -7,8 +7,8 @@ abbrev pub invariant-loop-x : goal.invariant-loop-x
 invariant-loop-x g l = record {
   len : length l.answers ≡ length l.fn.answers;
   none : (x : ℕ) → l.from ≤ x → x < l.x
-      → slice_index_or l.answers x g.A.CellAnswer.nothing ≡ g.A.CellAnswer.nothing;
+      → slice_index_or l.answers x g.A.CellValue.unset ≡ g.A.CellValue.unset;
   others : (x : ℕ) → (x < l.from) ⊎ (l.end ≤ x)
-      → slice_index_or l.answers x g.A.CellAnswer.nothing
-      ≡ slice_index_or l.fn.answers x g.A.CellAnswer.nothing;
+      → slice_index_or l.answers x g.A.CellValue.unset
+      ≡ slice_index_or l.fn.answers x g.A.CellValue.unset;
 }

@@ -9,11 +9,11 @@ abbrev pub invariant-loop-x : goal.invariant-loop-x
 invariant-loop-x g l = record {
   width : length l.answers ≡ length l.fn.answers;
   filled : (x : ℕ) → l.span.start ≤ x + shift g.B.Border.EDGE → l.from ≤ x + shift g.B.Border.EDGE
-      → x < l.x → g.A.CellAnswer.told g.M.Metric.distance x (l.y - shift g.B.Border.EDGE)
-      (slice_index_or l.answers x g.A.CellAnswer.nothing)
-      ≡ Some (near_from g.M.Metric.distance l.entries l.y g.B.Border.EDGE l.span.column
-      (x + shift g.B.Border.EDGE));
+      → x < l.x → g.A.CellValue.says g.M.Metric.distance x (l.y - shift g.B.Border.EDGE)
+      (slice_index_or l.answers x g.A.CellValue.unset)
+      (Some (near_from g.M.Metric.distance l.entries l.y g.B.Border.EDGE l.span.column
+      (x + shift g.B.Border.EDGE)));
   others : (x : ℕ) → (x + shift g.B.Border.EDGE < l.from) ⊎ (l.end ≤ x + shift g.B.Border.EDGE)
-      → slice_index_or l.answers x g.A.CellAnswer.nothing
-      ≡ slice_index_or l.fn.answers x g.A.CellAnswer.nothing;
+      → slice_index_or l.answers x g.A.CellValue.unset
+      ≡ slice_index_or l.fn.answers x g.A.CellValue.unset;
 }

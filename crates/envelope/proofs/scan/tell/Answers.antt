@@ -1,9 +1,9 @@
 -- One more cell is filled with what its word tells.
 use Rattle.std.proofs.Common.{◌≡◌, ◌+◌, ◌-◌, ◌%◌, ◌<◌, length, slice_index, Some, ◌∙◌, arith, rules}
 use Rattle.metric.specs.Edge.{shift}
-use Rattle.envelope.specs.Columns.{IsNearColumn}
+use Rattle.envelope.specs.Columns.{IsNearColumn, IsSaid}
 use Rattle.envelope.proofs.Filling.{set_more}
-use Rattle.envelope.proofs.Nears.{near_kept, near_of_word}
+use Rattle.envelope.proofs.Nears.{near_of_word, said_kept}
 use Rattle.envelope.proofs.scan.tell.Goals as goal
 
 pub near_of-requires-clause-inside : goal.near_of-requires-clause-inside
@@ -40,11 +40,10 @@ cells-preserved g c =
     record {
       width = search rules;
       filled = λ x below.
-          set_more (λ x answer. IsNearColumn g.M.Metric.distance c.args.entries.now c.args._y
-          g.B.Border.EDGE (x + k) (g.A.CellAnswer.told g.M.Metric.distance x
-          (c.args._y - k) answer)) 0 p c.cells.answers c.some.result g.A.CellAnswer.nothing
-          inside (λ x low. c.cells.invariant.filled x)
-          (near_kept g.A.CellAnswer.told g.M.Metric.distance c.args.entries.now g.B.Border.EDGE
-          c.args._y p c.near_of.result c.some.result (rw before at near) c.requires.row
-          c.some.ensures) x (omega arith) below;
+          set_more (λ x answer. IsSaid g.A.CellValue.says g.M.Metric.distance c.args.entries.now
+          c.args._y g.B.Border.EDGE x answer) 0 p c.cells.answers c.with.result
+          g.A.CellValue.unset inside (λ x low. c.cells.invariant.filled x)
+          (said_kept g.A.CellValue.says g.M.Metric.distance c.args.entries.now g.B.Border.EDGE
+          c.args._y p c.near_of.result c.with.result (rw before at near) c.requires.row
+          c.with.ensures) x (omega arith) below;
     }

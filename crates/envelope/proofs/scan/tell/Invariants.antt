@@ -1,15 +1,13 @@
 -- The cells so far are filled.
 use Rattle.std.proofs.Common.{◌≡◌, ℕ, ◌+◌, ◌-◌, ◌*◌, ◌<◌, length, slice_index_or}
 use Rattle.metric.specs.Edge.{shift}
-use Rattle.envelope.specs.Columns.{IsNearColumn}
+use Rattle.envelope.specs.Columns.{IsSaid}
 use Rattle.envelope.proofs.scan.tell.Given as goal
 
 abbrev pub invariant-cells : goal.invariant-cells
 invariant-cells g l = record {
   width : length l.answers + 2 * shift g.B.Border.EDGE ≡ length l.entries;
   filled : (x : ℕ) → x < l.x
-      → IsNearColumn g.M.Metric.distance l.entries l.fn._y g.B.Border.EDGE
-      (x + shift g.B.Border.EDGE)
-      (g.A.CellAnswer.told g.M.Metric.distance x (l.fn._y - shift g.B.Border.EDGE)
-      (slice_index_or l.answers x g.A.CellAnswer.nothing));
+      → IsSaid g.A.CellValue.says g.M.Metric.distance l.entries l.fn._y g.B.Border.EDGE x
+      (slice_index_or l.answers x g.A.CellValue.unset);
 }
