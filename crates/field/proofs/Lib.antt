@@ -2,3 +2,4 @@ pub mod BandLemmas
 mod ObstacleLemmas
 mod RowLemmas
 mod StripLemmas
+mod DistanceLemmas

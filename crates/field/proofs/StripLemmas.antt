@@ -16,14 +16,14 @@ use Rattle.field.specs.Obstacles.{in_strips, rows_before, seen_from, strip_row}
 use Rattle.field.proofs.ObstacleLemmas.{length-line, line_at}
 
 -- what holds of each success among those found holds of the strips, which are all of them
-pub strips_told : {V E : Type 0} (items : V → List (Option Spot))
-    (Holds : ℕ → List (Option Spot) → Type 0) (found : List (Result V E)) (strips : List V)
+pub strips_told : {T V E : Type 0} (items : V → List T)
+    (Holds : ℕ → List T → Type 0) (found : List (Result V E)) (strips : List V)
     → found ≡ map Ok strips
     → ((k : ℕ) (other : Result V E) → k < length found
     → IfOk (slice_index_or found k other) (λ strip. Holds k (items strip)))
     → (k : ℕ) → k < length (map items strips) → Holds k (slice_index_or (map items strips) k [])
 strips_told items Holds found [] same each k inside = elim inside [ ]
-strips_told {V} {E} items Holds found (first ∷ others) same each k inside =
+strips_told {T} {V} {E} items Holds found (first ∷ others) same each k inside =
     let below : k < length (first ∷ others) = rw (length-map (first ∷ others) items) at inside in
     let many : k < length found = rw (same, length-map {B = Result V E} (first ∷ others) Ok) below
     in
@@ -32,14 +32,14 @@ strips_told {V} {E} items Holds found (first ∷ others) same each k inside =
     rw (get_or-map items (first ∷ others) k first [] below) (rw here at (each k (Ok first) many))
 
 -- the strip of a row is one of the strips
-strip_below : (height rows count row : ℕ) → 1 ≤ height → rows ≤ count * height → row < rows
+pub strip_below : (height rows count row : ℕ) → 1 ≤ height → rows ≤ count * height → row < rows
     → row / height < count
 strip_below height rows count row some enough below =
     (div-lt_iff_lt-mul some).1 (omega (arith, enough, below))
 
 -- the number of a row is that of its strip times the strips' height, with its place in the strip
 -- added
-row_in_strip : (height row : ℕ) → row ≡ row / height * height + row % height
+pub row_in_strip : (height row : ℕ) → row ≡ row / height * height + row % height
 row_in_strip height row = let parts = div-add-mod row height in omega (arith, parts)
 
 -- a cell of a row stands in the row's strip
@@ -88,7 +88,7 @@ AreRows-strips width y0 y1 height strips have =
     }
 
 -- all strips before a row's strip are full, and the row's place in its own strip lies within it
-strip_starts : (height rows row : ℕ) → 1 ≤ height → row < rows
+pub strip_starts : (height rows row : ℕ) → 1 ≤ height → row < rows
     → (rows_before rows height (row / height) ≡ row / height * height)
     × (row % height < rows_before rows height (row / height + 1)
     - rows_before rows height (row / height))
@@ -98,19 +98,28 @@ strip_starts height rows row some below =
     let next : (row / height + 1) * height ≡ row / height * height + height = omega arith in
     (omega (arith, parts, below), rw next (omega (arith, parts, below, rest)))
 
--- a row's line ends in its strip
-line_within : (width height rows : ℕ) (strips : List (List (Option Spot))) (row : ℕ)
-    → AreStrips width height rows strips → row < rows
-    → row % height * width + width ≤ length (slice_index_or strips (row / height) [])
-line_within width height rows strips row are below =
-    let long = are.each (row / height)
-    (strip_below height rows (length strips) row are.some are.enough below) in
-    let starts = strip_starts height rows row are.some below in
+-- a row's line ends in its strip, whose length is that of its rows
+pub line_inside : {T : Type 0} (width height rows : ℕ) (strip : List T) (row : ℕ) → 1 ≤ height
+    → row < rows
+    → length strip ≡ (rows_before rows height (row / height + 1)
+    - rows_before rows height (row / height)) * width
+    → row % height * width + width ≤ length strip
+line_inside width height rows strip row some below long =
+    let starts = strip_starts height rows row some below in
     let own : ℕ = rows_before rows height (row / height + 1)
     - rows_before rows height (row / height) in
     let through : (row % height + 1) * width ≤ own * width =
     mul-le-mul_right width (omega (arith, starts.1)) in
     omega (arith, long, through)
+
+-- a row's line ends in its strip
+line_within : (width height rows : ℕ) (strips : List (List (Option Spot))) (row : ℕ)
+    → AreStrips width height rows strips → row < rows
+    → row % height * width + width ≤ length (slice_index_or strips (row / height) [])
+line_within width height rows strips row are below =
+    line_inside width height rows (slice_index_or strips (row / height) []) row are.some below
+    (are.each (row / height)
+    (strip_below height rows (length strips) row are.some are.enough below))
 
 -- a row's line in its strip is its part of all cells
 line_in_strips : (width y0 y1 height : ℕ) (strips : List (List (Option Spot))) (row : ℕ)
@@ -181,15 +190,14 @@ AreStrips-answers distance batch height strips some enough found = record {
 }
 
 -- the strip that is read at the place of a row's strip is that strip
-strip_here : {V : Type 0} (items : V → List (Option Spot)) (all : List V)
-    (width height rows row place : ℕ) (strip : V) → AreStrips width height rows (map items all)
-    → row < rows
+pub strip_here : {T V : Type 0} (items : V → List T) (all : List V)
+    (height rows row place : ℕ) (strip : V) → 1 ≤ height
+    → rows ≤ length (map items all) * height → row < rows
     → place ≡ row / height → strip ≡ slice_index_or all place strip
     → items strip ≡ slice_index_or (map items all) (row / height) []
-strip_here items all width height rows row place strip are below here same =
+strip_here items all height rows row place strip some enough below here same =
     let inside : row / height < length all =
-    strip_below height rows (length all) row are.some
-    (rw (length-map all items) at are.enough) below in
+    strip_below height rows (length all) row some (rw (length-map all items) at enough) below in
     let read : strip ≡ slice_index_or all (row / height) strip = rw here at same in
     ap items read ∙ sym (get_or-map items all (row / height) strip [] inside)
 
@@ -207,7 +215,8 @@ pub IsLineOf-row : {V : Type 0} (items : V → List (Option Spot)) (all : List V
     → place ≡ row / height → strip ≡ slice_index_or all place strip
     → IsLineOf width y0 y1 height row (row % height * width) (map items all) (items strip)
 IsLineOf-row items all width y0 y1 height row place strip have below here same =
-    rw (strip_here items all width height (y1 - y0) row place strip have.placed below here same)
+    rw (strip_here items all height (y1 - y0) row place strip have.placed.some have.placed.enough
+    below here same)
     (record {
       within = line_within width height (y1 - y0) (map items all) row have.placed below;
       line = line_in_strips width y0 y1 height (map items all) row have below;

@@ -1,12 +1,14 @@
 -- The distances of the nearest obstacles of a range of rows, without their positions: this
 -- project's own rule.
-use Rattle.std.specs.Prelude.{ℕ, ℤ, ◌+◌, ◌-◌, ◌*◌, ◌<◌, ◌≤◌, List, Option, slice_index}
+use Rattle.std.specs.Prelude.{◌≡◌, ℕ, ℤ, ◌+◌, ◌-◌, ◌*◌, ◌/◌, ◌%◌, ◌<◌, ◌≤◌, List, [], length}
+use Rattle.std.specs.Prelude.{Option, slice_index, slice_index_or}
 use Rattle.metric.specs.declared.near.Near.{Near}
 use Rattle.metric.specs.declared.edge.Edge.{Edge}
 use Rattle.metric.specs.Nearest.{IsNear}
 use Rattle.bits.specs.Cells.{Cells}
 use Rattle.bits.specs.Edges.{IsBlocked}
-use Rattle.field.specs.Obstacles.{IsMeasured}
+use Rattle.column.specs.declared.batch.Batch.{Batch}
+use Rattle.field.specs.Obstacles.{IsMeasured, rows_before, strip_row}
 
 -- the number is the distance of the nearest obstacle of cell (x, y)
 pub record IsFarAway (distance : ℕ → ℕ → ℕ) (Obstacle : ℤ → ℤ → Type 0) (x y number : ℕ) : Type 0
@@ -21,3 +23,46 @@ pub record AreMeasuredRows (distance : ℕ → ℕ → ℕ) (cells : Cells) (edg
   pub each : (x y : ℕ) → x < cells.width → from ≤ y → y < to
       → IsFarAway distance (IsBlocked cells edge) x y
       (slice_index numbers ((y - from) * cells.width + x))
+
+-- the numbers are the distances of all cells of rows `from` to `to - 1`, in row-major order
+pub record AreAllMeasured (distance : ℕ → ℕ → ℕ) (cells : Cells) (edge : Edge) (from to : ℕ)
+    (numbers : List ℕ) : Type 0 where
+  pub as_many : length numbers ≡ (to - from) * cells.width
+  pub rows : AreMeasuredRows distance cells edge from to numbers
+
+-- a table of distances has rows y0 to y1 - 1 in strips of equal height, except the last
+pub record Distances : Type 0 where
+  pub width : ℕ
+  pub y0 : ℕ
+  pub y1 : ℕ
+  pub height : ℕ
+  pub strips : List (List ℕ)
+
+-- the number that a table of distances has for cell (x, y)
+abbrev pub number_at : Distances → ℕ → ℕ → ℕ
+number_at table x y =
+    slice_index (slice_index_or table.strips ((y - table.y0) / table.height) [])
+    ((y - table.y0) % table.height * table.width + x)
+
+-- the strips have the rows of a map, each with as many numbers as it has cells
+pub record HaveNumbers (table : Distances) : Type 0 where
+  pub across : table.width ≤ 4096
+  pub order : table.y0 ≤ table.y1
+  pub some : 1 ≤ table.height
+  pub enough : table.y1 - table.y0 ≤ length table.strips * table.height
+  pub each : (strip : ℕ) → strip < length table.strips
+      → length (slice_index_or table.strips strip [])
+      ≡ (rows_before (table.y1 - table.y0) table.height (strip + 1)
+      - rows_before (table.y1 - table.y0) table.height strip) * table.width
+
+-- the numbers are the distances of the rows of one strip of a batch
+abbrev pub IsStripMeasured : (ℕ → ℕ → ℕ) → Batch → ℕ → ℕ → List ℕ → Type 0
+IsStripMeasured distance batch height strip numbers =
+    AreAllMeasured distance batch.bitmap.now batch.edge (strip_row batch height strip)
+    (strip_row batch height (strip + 1)) numbers
+
+-- each strip has the distances of its rows
+pub record AreStripsMeasured (distance : ℕ → ℕ → ℕ) (batch : Batch) (height : ℕ)
+    (strips : List (List ℕ)) : Type 0 where
+  pub each : (strip : ℕ) → strip < length strips
+      → IsStripMeasured distance batch height strip (slice_index_or strips strip [])

@@ -2,6 +2,8 @@
 #![tactic(auto)]
 
 mod bands;
+mod distance_rows;
+mod distance_table;
 mod filling;
 mod measuring;
 mod obstacle_cell;
@@ -13,6 +15,7 @@ mod workers;
 
 pub use bands::rows_with;
 pub use column::Batch;
+pub use distance_table::DistanceTable;
 pub use filling::fill;
 pub use measuring::measure;
 pub use obstacle_table::ObstacleTable;

@@ -1,16 +1,13 @@
 //! The distances of all cells of a range of rows, written to the caller's memory.
 
-ghost use Rattle.std.specs.Prelude.{◌≡◌, IfErr, OnOk, length};
+ghost use Rattle.std.specs.Prelude.{◌≡◌, IfErr, OnOk};
 ghost use Rattle.metric.specs.declared.refusal.Refusal.TheVariants.{Memory};
 ghost use Rattle.field.specs.Bands.{HasRoom};
 ghost use Rattle.field.specs.Distances.{AreMeasuredRows};
 ghost use Rattle.field.specs.Phases.{IsNextLine};
 
-use crate::obstacle_cell::ObstacleCell;
-use crate::obstacle_table::measure_line;
 use crate::phases::Phases;
 use column::Batch;
-use envelope::CellAnswer;
 use metric::{Metric, Refusal};
 use std::alloc::Global;
 
@@ -30,28 +27,20 @@ pub fn measure<M: Metric>(
     ensures kept { IfErr result (λ _. distances.new ≡ distances.old) }
 {
     let mut phases = Phases::of(alloc, batch)?;
-    let mut line = vec![in alloc; ObstacleCell::none(); batch.width()]?;
-    measure_rows::<M>(batch, &mut phases, &mut line, distances);
+    measure_rows::<M>(batch, &mut phases, distances);
     Ok(())
 }
 
-/// Measures the rows of the batch in order. `line` has room for a row.
-fn measure_rows<M: Metric>(
-    batch: &Batch<'_>,
-    phases: &mut Phases,
-    line: &mut [ObstacleCell],
-    distances: &mut [u32],
-)
+/// Measures the rows of the batch in order.
+fn measure_rows<M: Metric>(batch: &Batch<'_>, phases: &mut Phases, distances: &mut [u32])
     requires room { HasRoom batch.now.bitmap.now batch.now.y0 batch.now.y1 distances.old }
     requires phases { IsNextLine batch.now phases.old batch.now.y0 }
-    requires line { length line.old ≡ batch.now.bitmap.now.width }
     ensures { AreMeasuredRows M.distance batch.now.bitmap.now batch.now.edge batch.now.y0
         batch.now.y1 distances.new }
 {
     let width = batch.width();
     'rows: for y in batch.y0..batch.y1 {
         let start = usize::from(y - batch.y0) * width;
-        phases.fill_line::<M, ObstacleCell>(batch, y, line);
-        measure_line::<M>(y, line, &mut distances[start..start + width]);
+        phases.measure_line::<M>(batch, y, &mut distances[start..start + width]);
     }
 }

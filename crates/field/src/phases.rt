@@ -2,10 +2,10 @@
 
 ghost use Rattle.std.specs.Prelude.{◌≡◌, ◌<◌, ◌+◌, IfErr, IfOk, length};
 ghost use Rattle.metric.specs.declared.refusal.Refusal.TheVariants.{Memory};
-ghost use Rattle.envelope.specs.Rows.{AreRowAnswers};
+ghost use Rattle.envelope.specs.Rows.{AreRowAnswers, AreRowDistances};
 
 use column::{Batch, Columns};
-use envelope::{CellAnswer, Stack, row_from};
+use envelope::{CellAnswer, Stack, distances_from, row_from};
 use metric::{Metric, Refusal};
 use std::alloc::Global;
 
@@ -41,6 +41,26 @@ impl Phases {
         self.columns.look(batch, y);
         let framed = y + batch.edge.shift();
         row_from::<M, A>(
+            &self.columns.entries,
+            framed,
+            batch.edge,
+            &mut self.stack,
+            line,
+        );
+    }
+
+    /// Fills a line with the distances alone of the cells of row `y`, which is the next row.
+    pub fn measure_line<M: Metric>(&mut self, batch: &Batch<'_>, y: u16, line: &mut [u32])
+        requires ready { IsNextLine batch.now self.old y }
+        requires row { y < batch.now.y1 }
+        requires line { length line.old ≡ batch.now.bitmap.now.width }
+        ensures line { AreRowDistances M.distance batch.now.bitmap.now batch.now.edge y
+            batch.now.bitmap.now.width line.new }
+        ensures ready { IsNextLine batch.now self.new (y + 1) }
+    {
+        self.columns.look(batch, y);
+        let framed = y + batch.edge.shift();
+        distances_from::<M>(
             &self.columns.entries,
             framed,
             batch.edge,

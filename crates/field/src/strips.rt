@@ -4,9 +4,11 @@
 ghost use Rattle.std.specs.Prelude.{◌≡◌, ◌+◌, ◌-◌, ◌<◌, ◌≤◌, All, IfErr, IfOk, None, Ok, map};
 ghost use Rattle.std.specs.Prelude.{vec_len};
 ghost use Rattle.field.specs.Bands.{IsWorkers};
+ghost use Rattle.field.specs.Distances.{AreStripsMeasured, IsStripMeasured};
 ghost use Rattle.field.specs.Obstacles.{AreStripAnswers, IsStripAnswer, strip_row};
 ghost use Rattle.metric.specs.declared.refusal.Refusal.TheVariants.{Memory};
 
+use crate::distance_rows::distances;
 use crate::obstacle_cell::ObstacleCell;
 use crate::table::answers;
 use column::Batch;
@@ -47,6 +49,46 @@ pub fn work_strips<M: Metric + Sync, G: Gate + Sync, R: Threads + Sync>(
     gather(alloc, found)
 }
 
+/// As `work_strips`, the distances alone.
+pub fn measure_strips<M: Metric + Sync, G: Gate + Sync, R: Threads + Sync>(
+    rt: &R,
+    alloc: Global,
+    strips: &Strips<'_>,
+    count: u8,
+    gate: &G,
+) -> Result<Vec<Vec<u32>>, Refusal>
+    requires count { IsWorkers count }
+    ensures count { IfOk result (λ numbers. vec_len numbers ≡ count) }
+    ensures each { IfOk result (λ numbers. AreStripsMeasured M.distance strips.now.batch.now
+        strips.now.height (map (λ strip. strip.items) numbers.items)) }
+    ensures memory { IfErr result (λ refusal. refusal ≡ Memory) }
+{
+    let work = |strip: usize| -> Result<Vec<u32>, Refusal>
+        requires { strip < 16 }
+        ensures rows { IfOk result (λ numbers. IsStripMeasured M.distance
+            strips.entry.now.batch.now strips.entry.now.height strip numbers.items) }
+        ensures memory { IfErr result (λ refusal. refusal ≡ Memory) }
+    { measure_strip::<M, G>(alloc, strips, gate, strip as u8) };
+    let found = map_indices(rt, alloc, usize::from(count), &work)?;
+    gather(alloc, found)
+}
+
+/// Enters the gate, and computes the distances of one strip, counted from 0.
+fn measure_strip<M: Metric, G: Gate>(
+    alloc: Global,
+    strips: &Strips<'_>,
+    gate: &G,
+    strip: u8,
+) -> Result<Vec<u32>, Refusal>
+    requires strip { strip < 16 }
+    ensures rows { IfOk result (λ numbers. IsStripMeasured M.distance strips.now.batch.now
+        strips.now.height strip numbers.items) }
+    ensures memory { IfErr result (λ refusal. refusal ≡ Memory) }
+{
+    gate.enter(strip + 1);
+    distances::<M>(alloc, &strips.rows_of(strip))
+}
+
 /// Enters the gate, and computes the rows of one strip, counted from 0.
 fn work_strip<M: Metric, G: Gate>(
     alloc: Global,
@@ -60,16 +102,26 @@ fn work_strip<M: Metric, G: Gate>(
     ensures memory { IfErr result (λ refusal. refusal ≡ Memory) }
 {
     gate.enter(strip + 1);
-    let own = Batch {
-        bitmap: strips.batch.bitmap,
-        edge: strips.batch.edge,
-        y0: strips.first_row(strip),
-        y1: strips.first_row(strip + 1),
-    };
-    answers::<M, ObstacleCell>(alloc, &own)
+    answers::<M, ObstacleCell>(alloc, &strips.rows_of(strip))
 }
 
-impl Strips<'_> {
+impl<'a> Strips<'a> {
+    /// The rows of a strip, counted from 0.
+    fn rows_of(&self, strip: u8) -> Batch<'a>
+        requires { strip < 16 }
+        ensures bitmap { result.bitmap.now ≡ self.now.batch.now.bitmap.now }
+        ensures edge { result.edge ≡ self.now.batch.now.edge }
+        ensures from { result.y0 ≡ strip_row self.now.batch.now self.now.height strip }
+        ensures to { result.y1 ≡ strip_row self.now.batch.now self.now.height (strip + 1) }
+    {
+        Batch {
+            bitmap: self.batch.bitmap,
+            edge: self.batch.edge,
+            y0: self.first_row(strip),
+            y1: self.first_row(strip + 1),
+        }
+    }
+
     /// The first row of a strip, counted from 0; the row after the last one if the strip has none.
     fn first_row(&self, strip: u8) -> u16
         requires { strip ≤ 16 }
@@ -83,10 +135,10 @@ impl Strips<'_> {
 }
 
 /// The results of all strips. Fails if one of them failed, or when out of memory.
-fn gather(
+fn gather<T: Drop>(
     alloc: Global,
-    found: Vec<Result<Vec<ObstacleCell>, Refusal>>,
-) -> Result<Vec<Vec<ObstacleCell>>, Refusal>
+    found: Vec<Result<Vec<T>, Refusal>>,
+) -> Result<Vec<Vec<T>>, Refusal>
     requires memory { All (λ cells. IfErr cells (λ refusal. refusal ≡ Memory)) found.items }
     ensures found { IfOk result (λ strips. found.items ≡ map (λ strip. Ok strip) strips.items) }
     ensures memory { IfErr result (λ refusal. refusal ≡ Memory) }

@@ -11,5 +11,4 @@ invariant-rows g l = record {
       l.distances;
   many : length l.distances ≡ (l.batch.y1 - l.batch.y0) * l.batch.bitmap.now.width;
   phases : IsNextLine l.batch l.phases l.y;
-  line : length l.line ≡ l.batch.bitmap.now.width;
 }
