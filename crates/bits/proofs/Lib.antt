@@ -13,3 +13,4 @@ mod RowLemmas
 pub mod TileBitsLemmas
 pub mod TileDrawLemmas
 pub mod WordBits
+pub mod RenewLemmas

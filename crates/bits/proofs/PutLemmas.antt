@@ -32,7 +32,7 @@ tile_parts cells a b k across ha wide is =
     (sym row ∙ (λ i. is i / sym wide i), sym column ∙ (λ i. is i % sym wide i))
 
 -- the row and the column of tiles of a cell tell its tile
-tile_again : (cells : Cells) (a b k across : ℕ) → across ≡ words_across cells.width
+pub tile_again : (cells : Cells) (a b k across : ℕ) → across ≡ words_across cells.width
     → b / 64 ≡ k / across → a / 64 ≡ k % across → tile_of cells a b ≡ k
 tile_again cells a b k across wide row column =
     (λ i. row i * sym wide i + column i) ∙ div-add-mod' k across

@@ -1,6 +1,6 @@
 //! Which bands of 64 rows may have an obstacle, and which of their tiles, as bits of words.
 
-ghost use Rattle.std.specs.Prelude.{◌≡◌, ℕ, ◌<◌, ◌≤◌, ◌/◌, true, length, slice_index};
+ghost use Rattle.std.specs.Prelude.{◌≡◌, ◌≢◌, ℕ, ◌<◌, ◌≤◌, ◌/◌, true, length, slice_index};
 ghost use Rattle.std.specs.Int.{bit_at};
 
 use crate::word::{has_bit, low_bits, with_bit};
@@ -29,6 +29,21 @@ pub fn with_mark(bits: u64, index: u16, word: u64) -> u64
         with_bit(bits, u32::from(index), true)
     } else {
         bits
+    }
+}
+
+/// The bits after all that `index` stands for is written anew, as this word: `index` has its mark
+/// if there is an obstacle, and none if there isn't, and each other keeps its own.
+#[inline(always)]
+pub fn renewed(bits: u64, index: u16, word: u64) -> u64
+    requires { index < 64 }
+    ensures here { (i : ℕ) → bit_at word i ≡ 1 → bit_at result index ≡ 1 }
+    ensures kept { (k : ℕ) → k < 64 → k ≢ index → bit_at bits k ≡ 1 → bit_at result k ≡ 1 }
+{
+    if word != 0 {
+        with_bit(bits, u32::from(index), true)
+    } else {
+        with_bit(bits, u32::from(index), false)
     }
 }
 

@@ -6,8 +6,9 @@ ghost use Rattle.bits.specs.Cells.{IsBitmap};
 ghost use Rattle.bits.specs.Words.{words_across};
 ghost use Rattle.bits.specs.Writes.{with_tile};
 
-use crate::band::{all_bits, marked_by};
+use crate::band::{all_bits, marked_by, renewed};
 use crate::bitmap::Bitmap;
+use crate::word::has_bit;
 use crate::write::write_tile;
 use metric::{MOST_TILES, TILE_SIDE};
 
@@ -60,5 +61,25 @@ impl Bitmap {
         write_tile(cells, self.width, self.height, position, words);
         self.bands = marked_by(self.bands, top, words);
         self.marks.mark(top, position % across, all_bits(words));
+    }
+
+    /// Writes the cells of the tile as `put_tile` does, and takes the tile's bit if it has no
+    /// obstacle now, and its band's if none of its tiles has a bit. A bitmap of which each tile is
+    /// written so needs no `clear` before.
+    pub fn renew_tile(&mut self, position: u16, words: &[u64; 64])
+        requires { position < tile_count self.old }
+        ensures written { self.new ≡ with_tile self.old position words.now }
+        ensures bitmap { IsBitmap self.new }
+    {
+        let across = self.tiles_across();
+        let (band, index) = (position / across, position % across);
+        let all = all_bits(words);
+        if all == 0 && !has_bit(self.marks.of(band), u32::from(index)) {
+            return;
+        }
+        let cells = self.words.as_mut_slice();
+        write_tile(cells, self.width, self.height, position, words);
+        self.marks.renew(band, index, all);
+        self.bands = renewed(self.bands, band, self.marks.of(band));
     }
 }

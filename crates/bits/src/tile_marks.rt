@@ -1,10 +1,10 @@
 //! Which tiles of a bitmap may have an obstacle: one word per band of 64 rows, with one bit per 64
 //! columns.
 
-ghost use Rattle.std.specs.Prelude.{◌≡◌, ℕ, ◌<◌, ◌≤◌, ◌/◌, slice_index, IfOk};
+ghost use Rattle.std.specs.Prelude.{◌≡◌, ◌≢◌, ℕ, ◌<◌, ◌≤◌, ◌/◌, slice_index, IfOk};
 ghost use Rattle.std.specs.Int.{bit_at};
 
-use crate::band::{with_mark, with_marks};
+use crate::band::{renewed, with_mark, with_marks};
 use metric::{BAND_ROWS, MOST_SIDE};
 use std::alloc::{AllocError, Global};
 use std::marker::Model;
@@ -79,6 +79,22 @@ impl TileMarks {
     {
         let band = usize::from(y / BAND_ROWS);
         self.bands[band] = with_mark(self.bands[band], index, word);
+    }
+
+    /// Marks the tile of a band if this word, of all its rows, has an obstacle, and takes its mark
+    /// if it has none. Each other tile keeps its mark.
+    #[inline(always)]
+    pub fn renew(&mut self, band: u16, index: u16, word: u64)
+        requires band { band < 64 }
+        requires index { index < 64 }
+        ensures here { (i : ℕ) → bit_at word i ≡ 1
+            → bit_at (slice_index self.new band) index ≡ 1 }
+        ensures kept { (other k : ℕ) → k < 64 → (other ≡ band → k ≢ index)
+            → bit_at (slice_index self.old other) k ≡ 1
+            → bit_at (slice_index self.new other) k ≡ 1 }
+    {
+        let place = usize::from(band);
+        self.bands[place] = renewed(self.bands[place], index, word);
     }
 
     /// Marks the tiles of row `y` in which one of the first `across` words has an obstacle. Each

@@ -33,3 +33,37 @@ fn bands_that_were_written(rt: HostRuntime) -> Result<(), Fail> {
     same(&rt, bitmap.bands(), 23, "once it is the copy");
     Ok(())
 }
+
+#[test]
+fn tiles_that_were_renewed(rt: HostRuntime) -> Result<(), Fail> {
+    let mut renewed = Bitmap::blank(rt.alloc(), 130, 300)?;
+    for y in 0..renewed.height() {
+        if y < renewed.height() {
+            renewed.set_row(y, &[u64::MAX; 64]);
+        }
+    }
+    let mut put = Bitmap::blank(rt.alloc(), 130, 300)?;
+    let mut words = [0; 64];
+    for position in 0..put.tiles() {
+        if position < renewed.tiles() && position < put.tiles() {
+            words[9] = if position % 5 == 4 { 6 } else { 0 };
+            renewed.renew_tile(position, &words);
+            put.put_tile(position, &words);
+        }
+    }
+    same(&rt, renewed.bands(), 0b11010, "the bands");
+    same(
+        &rt,
+        put.bands(),
+        0b11010,
+        "the bands of tiles that were put",
+    );
+    for band in 0..64 {
+        let (marked, want) = (renewed.marked_tiles(band), put.marked_tiles(band));
+        same(&rt, marked, want, band);
+    }
+    for y in 0..renewed.height().min(put.height()) {
+        same(&rt, renewed.row_words(y), put.row_words(y), y);
+    }
+    Ok(())
+}
