@@ -74,12 +74,12 @@ fn read_version<Id: StoreName>(
     let mut words = [0; 64];
     'positions: for position in 0..bitmap.tiles() {
         read_tile(seat, version, slot, position, &mut words);
-        bitmap.put_tile(position, &words);
+        bitmap.renew_tile(position, &words);
     }
 }
 
-/// Reads the held version into a bitmap of the map's size, unless it has been read. Clears the
-/// bitmap first, so that no band of its earlier contents counts.
+/// Reads the held version into a bitmap of the map's size, unless it has been read. No band or tile
+/// of the bitmap's earlier contents counts, since each tile is written anew.
 pub fn read_once<Id: StoreName>(
     seat: &mut ReaderSeat<Id>,
     version: u32,
@@ -97,7 +97,6 @@ pub fn read_once<Id: StoreName>(
     ensures bitmap { bitmap.new ≡ bitmap_seen Id.store seat.old version }
 {
     if !is_read {
-        bitmap.clear();
         read_version(seat, version, slot, bitmap);
     }
 }

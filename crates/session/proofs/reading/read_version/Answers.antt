@@ -12,13 +12,13 @@ positions-preserved g c =
     let p = c.positions.position in
     record {
       seat = c.read_tile.ensures.seat ∙ c.positions.invariant.seat;
-      bitmap = tile_more c.args.bitmap.now c.positions.bitmap c.put_tile.new.self
+      bitmap = tile_more c.args.bitmap.now c.positions.bitmap c.renew_tile.new.self
           (bitmap_seen g.Id.StoreName.store c.args.seat.now c.args.version) p c.read_tile.new.words
           c.positions.invariant.bitmap
           (c.read_tile.ensures.words
           ∙ ap (λ (x : ReaderView). tile_words (bitmap_seen g.Id.StoreName.store x c.args.version)
           p) c.positions.invariant.seat)
-          c.put_tile.ensures.written;
+          c.renew_tile.ensures.written;
     }
 
 pub returns-clause-bitmap : goal.returns-clause-bitmap
