@@ -1,6 +1,6 @@
 -- Digits of pixels that stand side by side, and their bits as a number.
 use Rattle.std.proofs.Common.{◌≡◌, ℕ, ◌+◌, ◌-◌, ◌*◌, ◌/◌, ◌^◌, ◌<◌, ◌≤◌, ◌==◌, max, cond, List}
-use Rattle.std.proofs.Common.{length, take, drop, get_or, sym, ap, ◌∙◌, inl, inr, arith}
+use Rattle.std.proofs.Common.{length, take, drop, get_or, sym, ap, subst, ◌∙◌, inl, inr, arith}
 use Rattle.std.proofs.lemmas.Bool.Decides.{nat_tests}
 use Rattle.std.specs.Int.{bit_at, trailing_ones, w64}
 use Rattle.std.specs.Int.RustNames.{bit_or}
@@ -14,8 +14,8 @@ use Rattle.std.specs.Simd.Lanes.{chunk}
 use Rattle.std.proofs.lemmas.Simd.{get_or-chunk}
 use Rattle.std.specs.Int.Bits.{mask_lt}
 use Rattle.bits.proofs.WriteLemmas.{bit_at-low}
-use Rattle.pbm.specs.Plain.{AreDigits, AreSomeRead}
-use Rattle.pbm.proofs.PartReads.{AreBitsRead-digits}
+use Rattle.pbm.specs.Plain.{AreDigits, AreSomeRead, behind_space}
+use Rattle.pbm.proofs.PartReads.{AreBitsRead-digits, AreSomeRead-behind}
 
 -- where one of two bits stands, which say whether a byte is the digit 1 or the digit 0, the byte is
 -- the digit of the first
@@ -91,3 +91,16 @@ AreSomeRead-digits run most count bytes number some few within room are =
       });
       below = mask_lt number count;
     })
+
+-- the first of some digits are read so behind a whitespace byte too, if there is one
+pub AreSomeRead-line : (run most count : ℕ) (bytes line : List ℕ) (number : ℕ)
+    → line ≡ behind_space bytes → 0 < count → count ≤ most → count ≤ run → count ≤ 64
+    → AreDigits run line number
+    → AreSomeRead most bytes count (bit_and number ((2 ^ 64 - 1) / 2 ^ (64 - count)))
+    (drop count line)
+AreSomeRead-line run most count bytes line number is some few within room are =
+    let word : ℕ = bit_and number ((2 ^ 64 - 1) / 2 ^ (64 - count)) in
+    AreSomeRead-behind most run count word number bytes (drop count line) (omega arith)
+    (subst (λ (l : List ℕ). AreDigits run l number) is are)
+    (subst (λ (l : List ℕ). AreSomeRead most l count word (drop count line)) is
+    (AreSomeRead-digits run most count line number some few within room are))

@@ -8,8 +8,9 @@ use Rattle.std.proofs.lemmas.Nat.Bits.{bit_at-lt}
 use Rattle.std.proofs.lemmas.List.{get_or_push, get_or_append_left, get_or-append_right}
 use Rattle.std.proofs.lemmas.List.{length_push}
 use Rattle.metric.specs.declared.fault.PbmFault.{PbmFault}
-use Rattle.pbm.specs.Faults.{◌>>=◌, next_pixel, pixels}
-use Rattle.pbm.specs.Plain.{AreBitsRead, AreDigits, AreSomeRead}
+use Rattle.pbm.specs.Faults.{◌>>=◌, filling, next_pixel, pixels}
+use Rattle.pbm.specs.Image.{is_whitespace}
+use Rattle.pbm.specs.Plain.{AreBitsRead, AreDigits, AreSomeRead, behind_space}
 use Rattle.pbm.proofs.Rasters.{with_front, with_front-nil, pixels-more, pixels-fault, pixels-done}
 use Rattle.pbm.proofs.Steps.{ok_is, bind_ok}
 
@@ -176,6 +177,65 @@ unfolding next_pixel
 digit-pixel zero rest small = refl
 digit-pixel (suc zero) rest small = refl
 digit-pixel (suc (suc n)) rest small = absurd (omega arith)
+
+-- a digit of a pixel behind a whitespace byte is the next pixel
+digit-pixel_spaced : (byte bit : ℕ) (rest : List ℕ) → is_whitespace byte ≡ true → bit < 2
+    → next_pixel (byte ∷ (48 + bit) ∷ rest) ≡ Ok (bit == 1, rest)
+unfolding next_pixel filling
+digit-pixel_spaced byte zero rest spaced small = rw spaced refl
+digit-pixel_spaced byte (suc zero) rest spaced small = rw spaced refl
+digit-pixel_spaced byte (suc (suc n)) rest spaced small = absurd (omega arith)
+
+-- pixels of which the first is a digit are read behind a whitespace byte as without it
+pixels-spaced : (n byte bit : ℕ) (rest : List ℕ) → 0 < n → is_whitespace byte ≡ true → bit < 2
+    → pixels n (byte ∷ (48 + bit) ∷ rest) ≡ pixels n ((48 + bit) ∷ rest)
+unfolding pixels
+pixels-spaced zero byte bit rest some spaced small = absurd (omega arith)
+pixels-spaced (suc n) byte bit rest some spaced small =
+    rw (digit-pixel_spaced byte bit rest spaced small, digit-pixel bit rest small) refl
+
+-- some pixels, the first of them a digit, are read behind a whitespace byte as without it
+some-spaced : (most run count number digits byte : ℕ) (others rest : List ℕ)
+    → is_whitespace byte ≡ true → 0 < run → AreDigits run others digits
+    → AreSomeRead most others count number rest → AreSomeRead most (byte ∷ others) count number rest
+some-spaced most run count number digits byte [] rest spaced some are read =
+    absurd (let enough = are.enough in omega arith)
+some-spaced most run count number digits byte (digit ∷ others) rest spaced some are read =
+    let first : digit ≡ 48 + bit_at digits 0 = are.digits 0 some in
+    let same : pixels count (byte ∷ digit ∷ others) ≡ pixels count (digit ∷ others) =
+    rw first (pixels-spaced count byte (bit_at digits 0) others read.some spaced
+    (bit_at-lt digits 0)) in
+    record {
+      some = read.some;
+      few = read.few;
+      read = record {
+        all = read.read.all;
+        size = read.read.size;
+        read = same ∙ read.read.read;
+        bits = read.read.bits;
+      };
+      below = read.below;
+    }
+
+-- some pixels are read as behind a byte if that is whitespace, and otherwise with it
+some-behind : (spaced : Bool) (most run count number digits byte : ℕ) (others rest : List ℕ)
+    → is_whitespace byte ≡ spaced → 0 < run
+    → AreDigits run (cond spaced others (byte ∷ others)) digits
+    → AreSomeRead most (cond spaced others (byte ∷ others)) count number rest
+    → AreSomeRead most (byte ∷ others) count number rest
+some-behind true most run count number digits byte others rest spaced some are read =
+    some-spaced most run count number digits byte others rest spaced some are read
+some-behind false most run count number digits byte others rest spaced some are read = read
+
+-- some pixels, the first of them a digit, are read as behind a whitespace byte if there is one
+pub AreSomeRead-behind : (most run count number digits : ℕ) (bytes rest : List ℕ) → 0 < run
+    → AreDigits run (behind_space bytes) digits
+    → AreSomeRead most (behind_space bytes) count number rest
+    → AreSomeRead most bytes count number rest
+AreSomeRead-behind most run count number digits [] rest some are read = read
+AreSomeRead-behind most run count number digits (byte ∷ others) rest some are read =
+    some-behind (is_whitespace byte) most run count number digits byte others rest refl some are
+    read
 
 -- the bits of a first pixel and of others are those of all pixels
 first_and_others : (n : ℕ) (bit : ℕ → ℕ) (all : List Bool)

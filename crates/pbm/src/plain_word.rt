@@ -4,7 +4,7 @@ ghost use Rattle.std.specs.Prelude.{◌≡◌, ℕ, ◌+◌, ◌*◌, ◌^◌, �
 ghost use Rattle.std.specs.Prelude.{Ok, Err, MatchResult};
 ghost use Rattle.std.specs.Int.{bit_at};
 ghost use Rattle.pbm.specs.Faults.{next_pixel, pixel_at, pixels};
-ghost use Rattle.pbm.specs.Plain.{AreBitsRead, AreDigits, AreSomeRead};
+ghost use Rattle.pbm.specs.Plain.{AreBitsRead, AreDigits, AreSomeRead, behind_space};
 
 use crate::gap::{after_filling, is_whitespace};
 use metric::PbmFault;
@@ -63,6 +63,17 @@ fn front_digits(bytes: &[u8]) -> (u16, u64)
     (digits.trailing_ones() as u16, ones)
 }
 
+/// The bytes after the whitespace byte at the front, or all of them if there is none.
+#[inline(always)]
+fn behind_space(bytes: &[u8]) -> &[u8]
+    ensures { result.now ≡ behind_space bytes.now }
+{
+    match bytes.split_first() {
+        Some((byte, rest)) if is_whitespace(*byte) => rest,
+        _ => bytes,
+    }
+}
+
 /// 1 for a black pixel, and 0 for a white one.
 fn bit_of(black: bool) -> u64
     ensures { result ≡ cond black 1 0 }
@@ -79,20 +90,22 @@ fn read_one(bytes: &[u8]) -> Result<(u16, u64, &[u8]), PbmFault>
     Ok((1, bit_of(black), rest))
 }
 
-/// The number of pixels read next, from 1 to `most`, and their bits: the first is the lowest.
+/// The number of pixels read next, from 1 to `most`, and their bits: the first is the lowest. Takes
+/// a whitespace byte before digits with them, as at the end of a line.
 fn read_some(bytes: &[u8], most: u16) -> Result<(u16, u64, &[u8]), PbmFault>
     requires some { 0 < most }
     requires few { most ≤ 64 }
     ensures { MatchResult result (λ found. AreSomeRead most bytes.now found.0 found.1 found.2.now)
         (λ fault. next_pixel bytes.now ≡ Err fault) }
 {
-    let (run, digits) = front_digits(bytes);
+    let line = behind_space(bytes);
+    let (run, digits) = front_digits(line);
     let count = run.min(most);
     if count == 0 {
         return read_one(bytes);
     }
     let digits = digits & (u64::MAX >> (64 - count));
-    Ok((count, digits, &bytes[usize::from(count)..]))
+    Ok((count, digits, &line[usize::from(count)..]))
 }
 
 /// Sets `count` more bits in a word from bit `place` on.

@@ -1,17 +1,20 @@
--- As many of the digits as are wanted.
+-- As many of the digits as are wanted, behind a whitespace byte if there is one.
 use Rattle.std.proofs.Common.{◌≡◌, ◌-◌, take, drop, length, arith, length-drop}
 use Rattle.std.proofs.lemmas.List.{take_all}
-use Rattle.pbm.proofs.Digits.{AreSomeRead-digits}
+use Rattle.pbm.proofs.Digits.{AreSomeRead-line}
 use Rattle.pbm.proofs.plain_word.read_some.Goals as goal
 
 pub returns : goal.returns
 returns c =
-    let rest : take (length c.args.bytes.now - c.from.result) (drop c.from.result c.args.bytes.now)
-    ≡ drop c.from.result c.args.bytes.now = take_all (length c.args.bytes.now - c.from.result)
-    (drop c.from.result c.args.bytes.now)
-    (omega (arith, length-drop c.from.result c.args.bytes.now)) in
+    let rest : take (length c.behind_space-line.result.now - c.from.result)
+    (drop c.from.result c.behind_space-line.result.now)
+    ≡ drop c.from.result c.behind_space-line.result.now =
+    take_all (length c.behind_space-line.result.now - c.from.result)
+    (drop c.from.result c.behind_space-line.result.now)
+    (omega (arith, length-drop c.from.result c.behind_space-line.result.now)) in
     let same : c.from.result ≡ c.min-count.result = omega arith in
     rw rest
-    (rw same (AreSomeRead-digits c.front_digits-run.result.0 c.args.most c.min-count.result
-    c.args.bytes.now c.front_digits-run.result.1 (omega arith) (omega arith) (omega arith)
+    (rw same (AreSomeRead-line c.front_digits-run.result.0 c.args.most c.min-count.result
+    c.args.bytes.now c.behind_space-line.result.now c.front_digits-run.result.1
+    c.behind_space-line.ensures (omega arith) (omega arith) (omega arith)
     (omega arith) c.front_digits-run.ensures.digits))
