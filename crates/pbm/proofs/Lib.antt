@@ -18,7 +18,9 @@ mod RawTexts
 mod PlainTexts
 mod Lines
 mod RawRows
+mod RowReads
 mod PlainWords
 pub mod Following
 mod Prefixes
 mod Taken
+mod RowsTaken

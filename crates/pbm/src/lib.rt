@@ -1,7 +1,7 @@
 //! Reads and writes bitmaps as PBM images, in the plain form and in the raw form.
 //!
 //! A reader takes a slice, and returns what it read and the rest of the slice; it copies nothing.
-//! `read_source` packs a plain image as its bytes come, through a window.
+//! `read_source` packs an image as its bytes come, through a window.
 #![tactic(auto)]
 
 mod digit_row;

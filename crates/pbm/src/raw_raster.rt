@@ -94,7 +94,7 @@ fn word_at(raster: &[u8], start: usize, end: usize) -> u64
 
 /// Reads a row of `across` bytes from `start` on, as words.
 #[inline(always)]
-fn read_row(raster: &[u8], start: usize, across: usize, words: &mut [u64; 64])
+pub fn read_row(raster: &[u8], start: usize, across: usize, words: &mut [u64; 64])
     requires few { across ≤ 512 }
     requires within { start + across ≤ length raster.now }
     ensures { (k : ℕ) → k < 64 → (i : ℕ) → i < 64 → 8 * k + i / 8 < across

@@ -1,5 +1,4 @@
-//! Reads an image from a source: packs a plain one as its bytes come, and a raw one once all its
-//! bytes are there.
+//! Reads an image from a source, and packs it as its bytes come.
 
 ghost use Rattle.std.specs.Prelude.{◌≡◌, ◌*◌, List, [], Bool, ℕ, false, Ok, Err, IfOk, IfErr, OnOk};
 ghost use Rattle.metric.specs.Stream.{AreAll, CanFail};
@@ -11,7 +10,7 @@ ghost use Rattle.pbm.specs.Windows.{IsPassed, IsStopped, Meets, unread};
 
 use crate::header::Form;
 use crate::raster::after_image;
-use crate::raw_raster::{WORD_PIXELS, read_raw};
+use crate::raw_raster::{WORD_PIXELS, bytes_across};
 use crate::window::{BLOCK, ImageStop, Window};
 use bits::Bitmap;
 use metric::{PbmFault, Source};
@@ -100,7 +99,7 @@ fn take_plain<R: Source>(
     }
 }
 
-/// Takes a raw raster into a blank bitmap, once everything the source has is there.
+/// Takes a raw raster into a blank bitmap, row by row.
 fn take_raw<R: Source>(
     window: &mut Window,
     reader: &mut R,
@@ -119,13 +118,16 @@ fn take_raw<R: Source>(
         (λ all. raw_raster bitmap.old.width bitmap.old.height all ≡ Err fault))) }
     ensures counts { CountsReads (R.failed_reads reader.old) result (R.failed_reads reader.new) }
 {
-    if let Err(stop) = window.fill_whole(reader) {
-        return Err(stop);
+    let height = bitmap.height();
+    let across = usize::from(bytes_across(bitmap.width()));
+    let mut words = [0; 64];
+    'rows: for y in 0..height {
+        match window.next_row(reader, across, &mut words) {
+            Ok(()) => bitmap.set_row(y, &words),
+            Err(stop) => return Err(stop),
+        }
     }
-    match read_raw(bitmap, window.unread()) {
-        Ok(_) => Ok(()),
-        Err(fault) => Err(ImageStop::Fault(fault)),
-    }
+    Ok(())
 }
 
 /// Takes the raster of an image of this form into a blank bitmap.
@@ -210,12 +212,11 @@ fn pass_rest<R: Source>(window: &Window, reader: &mut R) -> Result<(), ImageStop
 
 /// Reads the image at the front of a source, and the source to its end.
 ///
-/// Reads images as `read_image` does, and drops what follows one. Packs a plain image as its bytes
-/// come, through a window of about 128 KB; the window grows only where as many bytes stand between
-/// two pixels or before the raster, and from a fault of the image on. Keeps a raw image in memory
-/// as a whole. When out of memory for bytes that were read, it reads no further; when out of memory
-/// for the bitmap, it reads and drops the rest. After a failed read it doesn't call the source
-/// again.
+/// Reads images as `read_image` does, and drops what follows one. Packs an image as its bytes come,
+/// through a window of about 128 KB; the window grows only where as many bytes stand between two
+/// pixels or before the raster, and from a fault of the image on. When out of memory for bytes that
+/// were read, it reads no further; when out of memory for the bitmap, it reads and drops the rest.
+/// After a failed read it doesn't call the source again.
 pub fn read_source<R: Source>(alloc: Global, reader: &mut R) -> Result<Bitmap, ImageStop>
     requires { CanFail (R.failed_reads reader.old) }
     ensures image { IfOk result (HasImage (R.rest reader.old)) }

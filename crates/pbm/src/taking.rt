@@ -1,13 +1,16 @@
-//! The parts of an image that a window takes: the header, and the words of pixels.
+//! The parts of an image that a window takes: the header, the words of pixels, and raw rows.
 
-ghost use Rattle.std.specs.Prelude.{◌≡◌, ◌≤◌, Ok, Err, IfOk, IfErr, OnOk};
+ghost use Rattle.std.specs.Prelude.{◌≡◌, ◌<◌, ◌≤◌, length, Ok, Err, IfOk, IfErr, OnOk};
 ghost use Rattle.metric.specs.Stream.{CanFail};
 ghost use Rattle.pbm.specs.Faults.{header, pixels};
+ghost use Rattle.metric.specs.declared.fault.PbmFault.TheVariants.{Truncated};
 ghost use Rattle.pbm.specs.Plain.{AreBitsRead};
+ghost use Rattle.pbm.specs.Raw.{IsRowRead};
 ghost use Rattle.pbm.specs.Windows.{CountsReads, Follows, IsFaultOf, IsOpen, Meets, Stands, unread};
 
 use crate::header::{Form, read_header};
 use crate::plain_word::read_word;
+use crate::raw_raster::read_row;
 use crate::window::{ImageStop, Window};
 use metric::{PbmFault, Source};
 
@@ -35,6 +38,15 @@ fn word_in(bytes: &[u8], count: u16) -> Result<(u64, usize), PbmFault>
         Ok((word, rest)) => Ok((word, bytes.len() - rest.len())),
         Err(fault) => Err(fault),
     }
+}
+
+/// The row of a raw raster that the first `across` bytes are, as words.
+fn row_in(bytes: &[u8], across: usize, words: &mut [u64; 64])
+    requires few { across ≤ 512 }
+    requires within { across ≤ length bytes.now }
+    ensures { Stands across bytes.now (λ all left. IsRowRead across all words.new left) }
+{
+    read_row(bytes, 0, across, words);
 }
 
 impl Window {
@@ -96,5 +108,37 @@ impl Window {
                 }
             }
         }
+    }
+
+    /// Takes the next row of a raw raster, `across` bytes, as words: the leftmost pixel of each is
+    /// the lowest bit.
+    pub fn next_row<R: Source>(
+        &mut self,
+        reader: &mut R,
+        across: usize,
+        words: &mut [u64; 64],
+    ) -> Result<(), ImageStop>
+        requires can_fail { CanFail (R.failed_reads reader.old) }
+        requires open { IsOpen self.old (R.rest reader.old) }
+        requires few { across ≤ 512 }
+        ensures open { IsOpen self.new (R.rest reader.new) }
+        ensures row { OnOk result
+            (Follows (R.rest reader.old) (unread self.old) (R.rest reader.new) (unread self.new)
+            (λ all left. IsRowRead across all words.new left)) }
+        ensures fault { IfErr result
+            (λ stop. IsFaultOf stop (λ fault. Meets (R.rest reader.old) (unread self.old)
+            (λ all. (fault ≡ Truncated) × (length all < across)))) }
+        ensures counts { CountsReads (R.failed_reads reader.old) result
+            (R.failed_reads reader.new) }
+    {
+        if let Err(stop) = self.hold(reader, across) {
+            return Err(stop);
+        }
+        if self.unread().len() < across {
+            return Err(ImageStop::Fault(PbmFault::Truncated));
+        }
+        row_in(self.unread(), across, words);
+        self.take(across);
+        Ok(())
     }
 }

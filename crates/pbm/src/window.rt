@@ -137,22 +137,6 @@ impl Window {
         Ok(())
     }
 
-    /// Reads everything the source has.
-    pub fn fill_whole<R: Source>(&mut self, reader: &mut R) -> Result<(), ImageStop>
-        requires can_fail { CanFail (R.failed_reads reader.old) }
-        requires open { IsOpen self.old (R.rest reader.old) }
-        ensures open { IsOpen self.new (R.rest reader.new) }
-        ensures reads { OnOk result
-            (Follows (R.rest reader.old) (unread self.old) (R.rest reader.new) (unread self.new)
-            (λ all left. all ≡ left)) }
-        ensures ended { OnOk result (AreAll (R.rest reader.new) []) }
-        ensures fault { IfErr result (λ stop. IsFaultOf stop (λ met. ⊥)) }
-        ensures counts { CountsReads (R.failed_reads reader.old) result
-            (R.failed_reads reader.new) }
-    {
-        self.fill(reader, usize::MAX)
-    }
-
     /// Drops the bytes taken, and reads on until the unread bytes have more than doubled and are at
     /// least a block, or the source has ended.
     pub fn refill<R: Source>(&mut self, reader: &mut R) -> Result<(), ImageStop>
@@ -164,6 +148,7 @@ impl Window {
             (λ all left. all ≡ left)) }
         ensures more { OnOk result (self.new.ended ≡ false
             → 2 * length (unread self.old) < length (unread self.new)) }
+        ensures block { OnOk result (self.new.ended ≡ false → 65535 < length (unread self.new)) }
         ensures fault { IfErr result (λ stop. IsFaultOf stop (λ met. ⊥)) }
         ensures counts { CountsReads (R.failed_reads reader.old) result
             (R.failed_reads reader.new) }
@@ -172,6 +157,26 @@ impl Window {
         self.start = 0;
         let wanted = (2 * self.bytes.len()).max(BLOCK - 1);
         self.fill(reader, wanted)
+    }
+
+    /// Reads on until at least `count` bytes are unread, or the source has ended.
+    pub fn hold<R: Source>(&mut self, reader: &mut R, count: usize) -> Result<(), ImageStop>
+        requires can_fail { CanFail (R.failed_reads reader.old) }
+        requires open { IsOpen self.old (R.rest reader.old) }
+        requires few { count ≤ 65536 }
+        ensures open { IsOpen self.new (R.rest reader.new) }
+        ensures reads { OnOk result
+            (Follows (R.rest reader.old) (unread self.old) (R.rest reader.new) (unread self.new)
+            (λ all left. all ≡ left)) }
+        ensures more { OnOk result (self.new.ended ≡ false → count ≤ length (unread self.new)) }
+        ensures fault { IfErr result (λ stop. IsFaultOf stop (λ met. ⊥)) }
+        ensures counts { CountsReads (R.failed_reads reader.old) result
+            (R.failed_reads reader.new) }
+    {
+        if self.ended || self.unread().len() >= count {
+            return Ok(());
+        }
+        self.refill(reader)
     }
 
     /// Reads on after this fault, since the part may be longer than the unread bytes; if the source
