@@ -11,7 +11,7 @@ ghost use Rattle.pbm.specs.Windows.{IsPassed, IsStopped, Meets, unread};
 use crate::header::Form;
 use crate::raster::after_image;
 use crate::raw_raster::{WORD_PIXELS, bytes_across};
-use crate::window::{BLOCK, ImageStop, Window};
+use crate::window::{ImageStop, Window};
 use bits::Bitmap;
 use metric::{PbmFault, Source};
 use std::alloc::Global;
@@ -189,9 +189,9 @@ fn take_image<R: Source>(
 
 /// Reads and drops what a source has left, unless the window has met its end. A count of blocks
 /// that overflows is more than any memory holds.
-fn pass_rest<R: Source>(window: &Window, reader: &mut R) -> Result<(), ImageStop>
+fn pass_rest<R: Source>(window: &mut Window, reader: &mut R) -> Result<(), ImageStop>
     requires can_fail { CanFail (R.failed_reads reader.old) }
-    requires open { IsOpen window.now (R.rest reader.old) }
+    requires open { IsOpen window.old (R.rest reader.old) }
     ensures ended { OnOk result (AreAll (R.rest reader.new) []) }
     ensures no_fault { IfErr result (λ stop. IsFaultOf stop (λ met. ⊥)) }
     ensures counts { CountsReads (R.failed_reads reader.old) result (R.failed_reads reader.new) }
@@ -199,9 +199,8 @@ fn pass_rest<R: Source>(window: &Window, reader: &mut R) -> Result<(), ImageStop
     if window.ended {
         return Ok(());
     }
-    let mut block = [0; BLOCK];
     'turns: for _ in 0..u64::MAX {
-        match reader.next_block(block.as_mut_slice()) {
+        match reader.next_block(window.block.as_mut_slice()) {
             Ok(0) => return Ok(()),
             Ok(_) => {}
             Err(_) => return Err(ImageStop::Failed),
@@ -231,11 +230,11 @@ pub fn read_source<R: Source>(alloc: Global, reader: &mut R) -> Result<Bitmap, I
 {
     let mut window = Window::new(alloc);
     match take_image(alloc, &mut window, reader) {
-        Ok(bitmap) => match pass_rest(&window, reader) {
+        Ok(bitmap) => match pass_rest(&mut window, reader) {
             Ok(()) => Ok(bitmap),
             Err(stop) => Err(stop),
         },
-        Err(ImageStop::Fault(fault)) => match pass_rest(&window, reader) {
+        Err(ImageStop::Fault(fault)) => match pass_rest(&mut window, reader) {
             Ok(()) => Err(ImageStop::Fault(fault)),
             Err(stop) => Err(stop),
         },

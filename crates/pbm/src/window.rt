@@ -42,12 +42,13 @@ fn drop_front(bytes: &mut Vec<u8>, count: usize)
     bytes.truncate(left);
 }
 
-/// The bytes read from a source and not yet taken.
+/// The bytes read from a source and not yet taken, and the block that each read fills.
 #[derive(Drop)]
 pub struct Window {
     pub bytes: Vec<u8>,
     pub start: usize,
     pub ended: bool,
+    pub block: [u8; BLOCK],
 }
 
 impl Window {
@@ -63,6 +64,7 @@ impl Window {
             bytes: Vec::new(alloc),
             start: 0,
             ended: false,
+            block: [0; BLOCK],
         }
     }
 
@@ -84,13 +86,9 @@ impl Window {
         self.start += count;
     }
 
-    /// Reads the next bytes, through a block, and appends them to the unread ones. Reads none only
+    /// Reads the next bytes, through the block, and appends them to the unread ones. Reads none only
     /// at the end.
-    fn read_block<R: Source>(
-        &mut self,
-        reader: &mut R,
-        block: &mut [u8; BLOCK],
-    ) -> Result<(), ImageStop>
+    fn read_block<R: Source>(&mut self, reader: &mut R) -> Result<(), ImageStop>
         requires can_fail { CanFail (R.failed_reads reader.old) }
         requires open { IsOpen self.old (R.rest reader.old) }
         requires before { self.old.ended ≡ false }
@@ -104,9 +102,9 @@ impl Window {
         ensures counts { CountsReads (R.failed_reads reader.old) result
             (R.failed_reads reader.new) }
     {
-        match reader.next_block(block.as_mut_slice()) {
+        match reader.next_block(self.block.as_mut_slice()) {
             Ok(count) => {
-                self.bytes.extend_from_slice(&block[..count])?;
+                self.bytes.extend_from_slice(&self.block[..count])?;
                 self.ended = count == 0;
                 Ok(())
             }
@@ -127,9 +125,8 @@ impl Window {
         ensures counts { CountsReads (R.failed_reads reader.old) result
             (R.failed_reads reader.new) }
     {
-        let mut block = [0; BLOCK];
         'turns: while !self.ended && self.bytes.len() - self.start <= wanted {
-            match self.read_block(reader, &mut block) {
+            match self.read_block(reader) {
                 Ok(()) => {}
                 Err(stop) => return Err(stop),
             }
