@@ -1,7 +1,7 @@
 -- The points of a line are read one after another.
 use Rattle.std.proofs.Common.{◌≡◌, ℕ, zero, suc, ◌+◌, ◌^◌, ◌≤◌, ◌<◌, true, List, [], ◌∷◌, ◌++◌}
 use Rattle.std.proofs.Common.{length, Option, Some, None, refl, sym, ap, ◌∙◌, inl, inr, arith}
-use Rattle.std.proofs.Common.{append_assoc}
+use Rattle.std.proofs.Common.{append_assoc, take}
 use Rattle.std.specs.Prelude.{is_some, option_map, IsSomeAnd}
 use Rattle.std.specs.Borrow.{Bor}
 use Rattle.metric.specs.declared.cell.Cell.{Cell}
@@ -50,6 +50,22 @@ pub added-more : (cells : List Cell) (cell : Cell) (others : Option (List Cell))
 added-more cells cell None = refl
 added-more cells cell (Some more) =
     ap (λ (all : List Cell). Some all) (sym (append_assoc cells (cell ∷ []) more))
+
+-- no point is kept in front of all
+pub kept-none : (cells : List Cell) (all : Option (List Cell))
+    → all ≡ option_map (λ more. take 0 cells ++ more) all
+kept-none cells None = refl
+kept-none cells (Some more) = refl
+
+-- a point is kept behind those before it, and in front of the others
+pub kept-more : (before after : List Cell) (count : ℕ) (cell : Cell) (all others : Option (List Cell))
+    → all ≡ option_map (λ more. take count before ++ more)
+    (option_map (λ cells. cell ∷ cells) others)
+    → take (count + 1) after ≡ take count before ++ cell ∷ []
+    → all ≡ option_map (λ more. take (count + 1) after ++ more) others
+kept-more before after count cell all others is kept =
+    is ∙ added-more (take count before) cell others
+    ∙ ap (λ (front : List Cell). option_map (λ more. front ++ more) others) (sym kept)
 
 -- where there is room for a point and others, there is room for the point, and then for the others
 pub room-more : (len capacity : ℕ) (cell : Cell) (others : Option (List Cell))

@@ -1,8 +1,8 @@
 //! The points of a line, two numbers each.
 
-ghost use Rattle.std.specs.Prelude.{◌≡◌, ◌≢◌, ◌+◌, ◌∷◌, ◌++◌, ◌≤◌, ◌^◌, length, vec_len};
-ghost use Rattle.std.specs.Prelude.{vec_capacity, option_map, MatchOption, IfSome, IsSomeAnd, IfOk};
-ghost use Rattle.std.specs.Prelude.{IfErr, IsOk, Ok, Err};
+ghost use Rattle.std.specs.Prelude.{◌≡◌, ◌≢◌, ◌+◌, [], ◌∷◌, ◌++◌, ◌<◌, ◌≤◌, ◌^◌, length, take};
+ghost use Rattle.std.specs.Prelude.{option_map, MatchOption, Some, IfSome, IfOk, IfErr, IsOk};
+ghost use Rattle.std.specs.Prelude.{Ok, Err};
 ghost use Rattle.metric.specs.declared.refusal.Refusal.{Refusal};
 ghost use Rattle.proto.specs.Asked.{path_of};
 ghost use Rattle.proto.specs.Numbers.{coordinate, points, only, pair, HasNoFirst};
@@ -61,35 +61,34 @@ pub fn read_pair(rest: Option<&[u8]>) -> Option<(Cell, Cell)>
     Some((first, second))
 }
 
-/// The number of points in the rest of a line; `None` where its words aren't all numbers, or are
-/// odd in number.
+/// Writes a point at its place, if the buffer has that place.
+#[inline(always)]
+fn keep(cells: &mut [Cell], place: usize, cell: Cell)
+    ensures { place < length cells.old → take (place + 1) cells.new
+        ≡ take place cells.old ++ cell ∷ [] }
+{
+    if place < cells.len() {
+        cells[place] = cell;
+    }
+}
+
+/// Reads the points in the rest of a line into the front of the buffer, as far as it has places,
+/// and returns how many there are; `None` where its words aren't all numbers, or are odd in number.
 #[tactic(auto, unfolding(crate::specs::Numbers::points))]
-fn count_points(rest: Option<&[u8]>) -> Option<usize>
-    ensures { result ≡ option_map (λ cells. length cells) (points (words_left rest.entry)) }
+fn read_points(rest: Option<&[u8]>, cells: &mut [Cell]) -> Option<usize>
+    ensures count { result ≡ option_map (λ cells. length cells) (points (words_left rest.entry)) }
+    ensures cells { IfSome result (λ count. count ≤ length cells.old
+        → points (words_left rest.entry) ≡ Some (take count cells.new)) }
 {
     let mut rest = rest;
     let mut count = 0;
     'points: while rest.is_some() {
-        let (_, others) = next_point(rest)?;
+        let (cell, others) = next_point(rest)?;
+        keep(cells, count, cell);
         rest = others;
         count += 1;
     }
     Some(count)
-}
-
-/// Appends the points in the rest of a line. The buffer has capacity for them.
-#[tactic(auto, unfolding(crate::specs::Numbers::points))]
-fn push_points(cells: &mut Vec<Cell>, rest: Option<&[u8]>)
-    requires { IsSomeAnd (points (words_left rest))
-        (λ added. vec_len cells.old + length added ≤ vec_capacity cells.old) }
-    ensures { IfSome (points (words_left rest.entry))
-        (λ added. cells.new.items ≡ cells.old.items ++ added) }
-{
-    let mut rest = rest;
-    'points: while let Some((cell, others)) = next_point(rest) {
-        cells.push_reserved(cell);
-        rest = others;
-    }
 }
 
 /// The points of the path in the rest of a line. Requests memory once they are known to be valid.
@@ -100,13 +99,13 @@ pub fn read_path(alloc: Global, rest: Option<&[u8]>) -> Result<Vec<Cell>, Refusa
         → path_of (points (words_left rest.entry)) ≡ Err refusal) }
     ensures memory { result ≡ Err Refusal.Memory → IsOk (path_of (points (words_left rest.entry))) }
 {
-    let Some(count) = count_points(rest) else {
+    let mut cells = [Cell { x: 0, y: 0 }; MOST_POINTS];
+    let Some(count) = read_points(rest, &mut cells) else {
         return Err(Refusal::BadArguments);
     };
     if count == 0 || count > MOST_POINTS {
         return Err(Refusal::BadPath);
     }
-    let mut cells = Vec::with_capacity(alloc, count)?;
-    push_points(&mut cells, rest);
+    let cells = Vec::from_slice(alloc, &cells[..count])?;
     Ok(cells)
 }
