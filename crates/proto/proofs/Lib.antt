@@ -1,4 +1,5 @@
 mod Alone
+mod Fronts
 mod Numbering
 mod Pointing
 mod Pooling

@@ -7,6 +7,7 @@ mod answer;
 mod answering;
 mod arguments;
 mod command;
+mod front;
 mod laws;
 mod line;
 mod number;

@@ -8,8 +8,7 @@ ghost use Rattle.proto.specs.Asked.{path_of};
 ghost use Rattle.proto.specs.Numbers.{coordinate, points, only, pair, HasNoFirst};
 ghost use Rattle.proto.specs.Words.{words_left, bytes_left};
 
-use crate::number::read_number;
-use crate::split::next_word;
+use crate::front::front_number;
 use metric::{Cell, Refusal};
 use std::alloc::Global;
 
@@ -32,10 +31,9 @@ fn next_point(rest: Option<&[u8]>) -> Option<(Cell, Option<&[u8]>)>
     ensures fewer { IfSome result (λ found. bytes_left found.1 + 2 ≤ bytes_left rest.entry) }
     ensures small { bytes_left rest.entry ≤ 2 ^ 64 }
 {
-    let (x, rest) = next_word(rest)?;
-    let (y, rest) = next_word(rest)?;
-    let x = coordinate(read_number(x)?);
-    let y = coordinate(read_number(y)?);
+    let (x, rest) = front_number(rest)?;
+    let (y, rest) = front_number(rest)?;
+    let (x, y) = (coordinate(x), coordinate(y));
     Some((Cell { x, y }, rest))
 }
 

@@ -1,0 +1,193 @@
+-- Numbers at the front of a line that digits spell up to a blank or the end.
+use Rattle.std.proofs.Common.{◌≡◌, ℕ, suc, ◌+◌, ◌-◌, ◌*◌, ◌^◌, ◌≤◌, ◌<◌, Bool, true, false, eqb}
+use Rattle.std.proofs.Common.{leb, List, [], ◌∷◌, ◌++◌, length, take, drop, get_or, Some, None}
+use Rattle.std.proofs.Common.{Option, All, refl, sym, ap, subst, ◌∙◌, inl, inr, arith, drop-cons}
+use Rattle.std.specs.Prelude.{option_map}
+use Rattle.std.specs.List.{list_all, slice_split}
+use Rattle.std.proofs.Math.Nat.{pow-le-pow_right}
+use Rattle.std.proofs.lemmas.Nat.{pow-add}
+use Rattle.std.proofs.lemmas.Bool.{and_parts, le-leb, lt-ltb, leb-true, ne_eqb}
+use Rattle.std.proofs.lemmas.List.{take_all, take_more, take_rest, length-take-le}
+use Rattle.std.proofs.lemmas.List.{take-append-drop}
+use Rattle.std.proofs.lemmas.List.Elements.{All-cons, All-nil}
+use Rattle.std.proofs.lemmas.List.Folds.{list_all-append}
+use Rattle.std.proofs.lemmas.List.Splits.{slice_split_none, slice_split_at}
+use Rattle.metric.specs.Digits.{is_digit, value_from}
+use Rattle.proto.specs.Asked.{first_of}
+use Rattle.proto.specs.Numbers.{coordinate, number, points, cell_of, HasNoFirst}
+use Rattle.proto.specs.Words.{words}
+
+-- a byte is a blank
+abbrev is_blank : ℕ → Bool
+is_blank byte = eqb byte 32
+
+-- a digit is no blank
+digit-plain : (byte : ℕ) → is_digit byte ≡ true → is_blank byte ≡ false
+digit-plain byte is =
+    let low = leb-true 48 byte (and_parts (leb 48 byte) (leb byte 57) is).0 in
+    ne_eqb byte 32 (λ same. omega (arith, low, same))
+
+-- a digit has a value below ten
+pub digit-below : (byte : ℕ) → is_digit byte ≡ true → byte - 48 < 10
+digit-below byte is =
+    let high = leb-true byte 57 (and_parts (leb 48 byte) (leb byte 57) is).1 in
+    omega (arith, high)
+
+-- digits have no blank
+digits-plain : (word : List ℕ) → list_all is_digit word ≡ true
+    → All (λ byte. is_blank byte ≡ false) word
+digits-plain [] is = All-nil (λ byte. is_blank byte ≡ false)
+digits-plain (byte ∷ word) is =
+    let parts = and_parts (is_digit byte) (list_all is_digit word) is in
+    All-cons (λ byte. is_blank byte ≡ false) byte word (digit-plain byte parts.0)
+    (digits-plain word parts.1)
+
+-- digits and one more have the value of the digits and of that one
+value_from-push : (so_far : ℕ) (digits : List ℕ) (digit : ℕ)
+    → value_from so_far (digits ++ digit ∷ []) ≡ 10 * value_from so_far digits + (digit - 48)
+unfolding value_from
+value_from-push so_far [] digit = refl
+value_from-push so_far (first ∷ others) digit =
+    value_from-push (10 * so_far + (first - 48)) others digit
+
+-- one more digit at the front
+pub front-digits : (bytes : List ℕ) (count : ℕ) → count < length bytes
+    → is_digit (get_or bytes count 0) ≡ true → list_all is_digit (take count bytes) ≡ true
+    → list_all is_digit (take (count + 1) bytes) ≡ true
+front-digits bytes count within next so_far =
+    ap (λ (l : List ℕ). list_all is_digit l) (take_more bytes count 0 within)
+    ∙ list_all-append is_digit (take count bytes) (get_or bytes count 0 ∷ [])
+    ∙ rw (so_far, next) refl
+
+-- one more digit at the front makes ten times the value and the digit
+pub front-value : (bytes : List ℕ) (count value : ℕ) → count < length bytes
+    → value ≡ value_from 0 (take count bytes)
+    → 10 * value + (get_or bytes count 0 - 48) ≡ value_from 0 (take (count + 1) bytes)
+front-value bytes count value within so_far =
+    rw so_far (sym (ap (value_from 0) (take_more bytes count 0 within)
+    ∙ value_from-push 0 (take count bytes) (get_or bytes count 0)))
+
+-- one more digit fits one more place
+pub front-small : (value count digit : ℕ) → value < 10 ^ count → digit < 10
+    → 10 * value + digit < 10 ^ (count + 1)
+front-small value count digit small few =
+    let all : 10 ^ (count + 1) ≡ 10 ^ count * 10 ^ 1 = pow-add 10 count 1 in
+    omega (arith, all, small, few)
+
+-- nine digits fit 32 bits
+pub front-fits : (value count digit : ℕ) → value < 10 ^ count → count < 9 → digit < 10
+    → 10 * value + digit < 2 ^ 32
+front-fits value count digit small short few =
+    let at_most : count ≤ 8 = omega (arith, short) in
+    let most : 10 ^ count ≤ 10 ^ 8 = pow-le-pow_right (omega arith) at_most in
+    omega (arith, most, small, few)
+
+-- one to nine digits are a number
+short-number : (word : List ℕ) (value : ℕ) → 0 < length word → length word ≤ 9
+    → list_all is_digit word ≡ true → value ≡ value_from 0 word → value < 2 ^ 32
+    → number word ≡ Some value
+unfolding number
+short-number word value some few digits is small =
+    let fits : value_from 0 word < 4294967296 = omega (arith, is, small) in
+    rw (
+      le-leb 1 (length word) (omega arith),
+      le-leb (length word) 10 (omega arith),
+      digits,
+      lt-ltb (value_from 0 word) 4294967296 fits,
+    ) (ap (λ (n : ℕ). Some n) (sym is))
+
+-- digits to the end of a line are its first number, and its last word
+pub short-end : (bytes : List ℕ) (count value : ℕ) → 0 < count → count ≤ 9 → count ≡ length bytes
+    → list_all is_digit (take count bytes) ≡ true → value ≡ value_from 0 (take count bytes)
+    → value < 2 ^ 32 → first_of number (words bytes) ≡ Some (value, [])
+unfolding words
+short-end bytes count value some few all digits is small =
+    let whole : take count bytes ≡ bytes = take_all count bytes (omega (arith, all)) in
+    let one : slice_split is_blank bytes ≡ bytes ∷ [] =
+    slice_split_none is_blank bytes (digits-plain bytes (rw whole at digits)) in
+    let read : number bytes ≡ Some value = short-number bytes value (omega (arith, all, some))
+    (omega (arith, all, few)) (rw whole at digits) (rw whole at is) small in
+    rw (one, read) refl
+
+-- digits up to a blank are the first number of a line, and what stands behind the blank is left
+pub short-blank : (bytes : List ℕ) (count value : ℕ) → 0 < count → count ≤ 9
+    → count < length bytes → get_or bytes count 0 ≡ 32
+    → list_all is_digit (take count bytes) ≡ true → value ≡ value_from 0 (take count bytes)
+    → value < 2 ^ 32 → first_of number (words bytes)
+    ≡ Some (value, words (take (length bytes - (count + 1)) (drop (count + 1) bytes)))
+unfolding words
+short-blank bytes count value some few within blank digits is small =
+    let word : List ℕ = take count bytes in
+    let rest : List ℕ = drop (count + 1) bytes in
+    let next : suc count ≡ count + 1 = omega arith in
+    let behind : drop count bytes ≡ 32 ∷ rest = drop-cons bytes count 0 within
+    ∙ rw (blank, next) refl in
+    let joined : bytes ≡ word ++ 32 ∷ rest = sym (take-append-drop count bytes)
+    ∙ ap (λ (l : List ℕ). word ++ l) behind in
+    let size : length word ≡ count = length-take-le count bytes (omega arith) in
+    let parts : slice_split is_blank bytes ≡ word ∷ slice_split is_blank rest =
+    ap (λ (l : List ℕ). slice_split is_blank l) joined
+    ∙ slice_split_at is_blank word 32 rest (digits-plain word digits) refl in
+    let read : number word ≡ Some value = short-number word value (omega (arith, size, some))
+    (omega (arith, size, few)) digits is small in
+    rw (parts, read, take_rest bytes (count + 1)) refl
+
+-- where a number and what is left were found, the first word spells it and the others are left
+first-is : (told : Option ℕ) (ws after : List (List ℕ)) (x : ℕ)
+    → option_map {U = ℕ × List (List ℕ)} (λ value. (value, ws)) told ≡ Some (x, after)
+    → (told ≡ Some x) × (ws ≡ after)
+first-is None ws after x e = absurd cc
+first-is (Some value) ws after x e =
+    let both : (value, ws) ≡ (x, after) = cc in
+    (ap (λ (p : ℕ × List (List ℕ)). Some p.0) both, ap (λ (p : ℕ × List (List ℕ)). p.1) both)
+
+-- where no number was found, the first word spells none
+first-none : (told : Option ℕ) (ws : List (List ℕ))
+    → option_map {U = ℕ × List (List ℕ)} (λ value. (value, ws)) told ≡ None → told ≡ None
+first-none None ws e = refl
+first-none (Some value) ws e = absurd cc
+
+-- where two numbers come first, a point does
+pub point-so : (ws after others : List (List ℕ)) (x y : ℕ)
+    → first_of number ws ≡ Some (x, after) → first_of number after ≡ Some (y, others)
+    → points ws ≡ option_map (λ cells. cell_of x y ∷ cells) (points others)
+unfolding points
+point-so [] after others x y one two = absurd cc
+point-so (a ∷ []) after others x y one two =
+    let p = first-is (number a) [] after x one in
+    let none : first_of number [] ≡ Some (y, others) =
+    subst (λ (l : List (List ℕ)). first_of number l ≡ Some (y, others)) (sym p.1) two in
+    absurd (cc)
+point-so (a ∷ b ∷ ws) after others x y one two =
+    let p = first-is (number a) (b ∷ ws) after x one in
+    let q = first-is (number b) ws others y
+    (subst (λ (l : List (List ℕ)). first_of number l ≡ Some (y, others)) (sym p.1) two) in
+    rw (p.0, q.0) (ap (λ (l : List (List ℕ)). option_map (λ cells. cell_of x y ∷ cells) (points l))
+    q.1)
+
+-- where two numbers come first, the point of their coordinates does
+pub point-cell : (ws after others : List (List ℕ)) (x y column row : ℕ)
+    → column ≡ coordinate x → row ≡ coordinate y
+    → first_of number ws ≡ Some (x, after) → first_of number after ≡ Some (y, others)
+    → points ws ≡ option_map (λ cells. record { x = column; y = row } ∷ cells) (points others)
+point-cell ws after others x y column row column_is row_is one two =
+    rw (column_is, row_is) (point-so ws after others x y one two)
+
+-- where no number comes first, no point does
+pub point-no_x : (ws : List (List ℕ)) → first_of number ws ≡ None → HasNoFirst ws
+unfolding points
+point-no_x [] none = inl refl
+point-no_x (a ∷ []) none = inr refl
+point-no_x (a ∷ b ∷ ws) none = let is = first-none (number a) (b ∷ ws) none in inr (rw is refl)
+
+-- where no number comes after the first, no point comes first
+pub point-no_y : (ws after : List (List ℕ)) (x : ℕ) → first_of number ws ≡ Some (x, after)
+    → first_of number after ≡ None → HasNoFirst ws
+unfolding points
+point-no_y [] after x one none = inl refl
+point-no_y (a ∷ []) after x one none = inr refl
+point-no_y (a ∷ b ∷ ws) after x one none =
+    let p = first-is (number a) (b ∷ ws) after x one in
+    let is = first-none (number b) ws
+    (subst (λ (l : List (List ℕ)). first_of number l ≡ None) (sym p.1) none) in
+    inr (rw (p.0, is) refl)
