@@ -72,7 +72,7 @@ pub within-word : (place count : ℕ) → place + count ≤ 64 → 2 ^ (place + 
 within-word place count room = pow-le-pow_right (omega arith) room
 
 -- the first of some digits are read as their number without the bits of the others
-pub AreSomeRead-digits : (run most count : ℕ) (bytes : List ℕ) (number : ℕ) → 0 < count
+AreSomeRead-digits : (run most count : ℕ) (bytes : List ℕ) (number : ℕ) → 0 < count
     → count ≤ most → count ≤ run → count ≤ 64 → AreDigits run bytes number
     → AreSomeRead most bytes count (bit_and number ((2 ^ 64 - 1) / 2 ^ (64 - count)))
     (drop count bytes)

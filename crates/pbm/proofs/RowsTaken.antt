@@ -69,8 +69,11 @@ AreRowsTaken-all rest left before after width height y cells down so_far =
     Meets-after rest left before after
     (λ all others. IsRawTo width height y all others cells) (λ all. Unit {0})
     (λ all. (others : List ℕ) × (raw_raster width height all ≡ Ok (cells, others)))
-    (λ all others packed any. (others, IsRawTo-all width height all others cells
-    (subst (λ (n : ℕ). IsRawTo width height n all others cells) down packed)))
+    (λ all others packed any. (
+      others,
+      IsRawTo-all width height all others cells
+          (subst (λ (n : ℕ). IsRawTo width height n all others cells) down packed),
+    ))
     so_far (Meets-whatever left after (λ all. Unit {0}) (λ more. tt))
 
 -- where the next row is cut, the raster is

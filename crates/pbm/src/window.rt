@@ -86,8 +86,8 @@ impl Window {
         self.start += count;
     }
 
-    /// Reads the next bytes, through the block, and appends them to the unread ones. Reads none only
-    /// at the end.
+    /// Reads the next bytes, through the block, and appends them to the unread ones. Reads none
+    /// only at the end.
     fn read_block<R: Source>(&mut self, reader: &mut R) -> Result<(), ImageStop>
         requires can_fail { CanFail (R.failed_reads reader.old) }
         requires open { IsOpen self.old (R.rest reader.old) }
