@@ -1,7 +1,7 @@
 -- Numbers at the front of a line that digits spell up to a blank or the end.
 use Rattle.std.proofs.Common.{◌≡◌, ℕ, suc, ◌+◌, ◌-◌, ◌*◌, ◌^◌, ◌≤◌, ◌<◌, Bool, true, false, eqb}
 use Rattle.std.proofs.Common.{leb, List, [], ◌∷◌, ◌++◌, length, take, drop, get_or, Some, None}
-use Rattle.std.proofs.Common.{Option, All, refl, sym, ap, subst, ◌∙◌, inl, inr, arith, drop-cons}
+use Rattle.std.proofs.Common.{Option, All, refl, sym, ap, subst, ◌∙◌, arith, drop-cons}
 use Rattle.std.specs.Prelude.{option_map}
 use Rattle.std.specs.List.{list_all, slice_split}
 use Rattle.std.proofs.Math.Nat.{pow-le-pow_right}
@@ -14,7 +14,7 @@ use Rattle.std.proofs.lemmas.List.Folds.{list_all-append}
 use Rattle.std.proofs.lemmas.List.Splits.{slice_split_none, slice_split_at}
 use Rattle.metric.specs.Digits.{is_digit, value_from}
 use Rattle.proto.specs.Asked.{first_of}
-use Rattle.proto.specs.Numbers.{coordinate, number, points, cell_of, HasNoFirst}
+use Rattle.proto.specs.Numbers.{coordinate, number, points, cell_of}
 use Rattle.proto.specs.Words.{words}
 
 -- a byte is a blank
@@ -141,14 +141,8 @@ first-is (Some value) ws after x e =
     let both : (value, ws) ≡ (x, after) = cc in
     (ap (λ (p : ℕ × List (List ℕ)). Some p.0) both, ap (λ (p : ℕ × List (List ℕ)). p.1) both)
 
--- where no number was found, the first word spells none
-first-none : (told : Option ℕ) (ws : List (List ℕ))
-    → option_map {U = ℕ × List (List ℕ)} (λ value. (value, ws)) told ≡ None → told ≡ None
-first-none None ws e = refl
-first-none (Some value) ws e = absurd cc
-
 -- where two numbers come first, a point does
-pub point-so : (ws after others : List (List ℕ)) (x y : ℕ)
+point-so : (ws after others : List (List ℕ)) (x y : ℕ)
     → first_of number ws ≡ Some (x, after) → first_of number after ≡ Some (y, others)
     → points ws ≡ option_map (λ cells. cell_of x y ∷ cells) (points others)
 unfolding points
@@ -172,22 +166,3 @@ pub point-cell : (ws after others : List (List ℕ)) (x y column row : ℕ)
     → points ws ≡ option_map (λ cells. record { x = column; y = row } ∷ cells) (points others)
 point-cell ws after others x y column row column_is row_is one two =
     rw (column_is, row_is) (point-so ws after others x y one two)
-
--- where no number comes first, no point does
-pub point-no_x : (ws : List (List ℕ)) → first_of number ws ≡ None → HasNoFirst ws
-unfolding points
-point-no_x [] none = inl refl
-point-no_x (a ∷ []) none = inr refl
-point-no_x (a ∷ b ∷ ws) none = let is = first-none (number a) (b ∷ ws) none in inr (rw is refl)
-
--- where no number comes after the first, no point comes first
-pub point-no_y : (ws after : List (List ℕ)) (x : ℕ) → first_of number ws ≡ Some (x, after)
-    → first_of number after ≡ None → HasNoFirst ws
-unfolding points
-point-no_y [] after x one none = inl refl
-point-no_y (a ∷ []) after x one none = inr refl
-point-no_y (a ∷ b ∷ ws) after x one none =
-    let p = first-is (number a) (b ∷ ws) after x one in
-    let is = first-none (number b) ws
-    (subst (λ (l : List (List ℕ)). first_of number l ≡ None) (sym p.1) none) in
-    inr (rw (p.0, is) refl)

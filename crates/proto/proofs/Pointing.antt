@@ -1,8 +1,8 @@
 -- The points of a line are read one after another.
 use Rattle.std.proofs.Common.{◌≡◌, ℕ, zero, suc, ◌+◌, ◌^◌, ◌≤◌, ◌<◌, true, List, [], ◌∷◌, ◌++◌}
-use Rattle.std.proofs.Common.{length, Option, Some, None, refl, sym, ap, ◌∙◌, inl, inr, arith}
+use Rattle.std.proofs.Common.{Option, Some, None, refl, sym, ap, ◌∙◌, inl, inr, arith}
 use Rattle.std.proofs.Common.{append_assoc, take}
-use Rattle.std.specs.Prelude.{is_some, option_map, IsSomeAnd}
+use Rattle.std.specs.Prelude.{is_some, option_map}
 use Rattle.std.specs.Borrow.{Bor}
 use Rattle.metric.specs.declared.cell.Cell.{Cell}
 use Rattle.proto.specs.Numbers.{point, join_point, points, HasNoFirst, only}
@@ -44,7 +44,7 @@ points-none (Some bytes) some (inl empty) =
     absurd (let word = words-some bytes.now in let e = sym empty ∙ word.2 in cc)
 
 -- adding a point, and then the others, adds the point before the others
-pub added-more : (cells : List Cell) (cell : Cell) (others : Option (List Cell))
+added-more : (cells : List Cell) (cell : Cell) (others : Option (List Cell))
     → option_map (λ more. cells ++ more) (before cell others)
     ≡ option_map (λ more. (cells ++ cell ∷ []) ++ more) others
 added-more cells cell None = refl
@@ -58,21 +58,14 @@ kept-none cells None = refl
 kept-none cells (Some more) = refl
 
 -- a point is kept behind those before it, and in front of the others
-pub kept-more : (before after : List Cell) (count : ℕ) (cell : Cell) (all others : Option (List Cell))
-    → all ≡ option_map (λ more. take count before ++ more)
+pub kept-more : (before after : List Cell) (count : ℕ) (cell : Cell)
+    (all others : Option (List Cell)) → all ≡ option_map (λ more. take count before ++ more)
     (option_map (λ cells. cell ∷ cells) others)
     → take (count + 1) after ≡ take count before ++ cell ∷ []
     → all ≡ option_map (λ more. take (count + 1) after ++ more) others
 kept-more before after count cell all others is kept =
     is ∙ added-more (take count before) cell others
     ∙ ap (λ (front : List Cell). option_map (λ more. front ++ more) others) (sym kept)
-
--- where there is room for a point and others, there is room for the point, and then for the others
-pub room-more : (len capacity : ℕ) (cell : Cell) (others : Option (List Cell))
-    → IsSomeAnd (before cell others) (λ cells. len + length cells ≤ capacity) → (len < capacity)
-    × IsSomeAnd others (λ cells. (len + 1) + length cells ≤ capacity)
-room-more len capacity cell None few = absurd few
-room-more len capacity cell (Some cells) few = (omega arith, omega arith)
 
 -- the points counted, and one more, are fewer than the bytes of a line can be
 pub few-more : (count left more : ℕ) → (0 < count → count + left ≤ 2 ^ 64) → more + 2 ≤ left

@@ -1,4 +1,5 @@
--- The points so far, and those that are left, are all; and they are kept as far as there are places.
+-- The points so far, and those that are left, are all, and those so far are kept as far as there
+-- are places.
 use Rattle.std.proofs.Common.{◌≡◌, ◌+◌, ◌++◌, ◌<◌, ◌≤◌, ◌^◌, length, take}
 use Rattle.std.specs.Prelude.{option_map}
 use Rattle.proto.specs.Numbers.{points}
