@@ -1,6 +1,6 @@
 -- An answer of `dist`, written whole or in part.
 use Rattle.std.proofs.Common.{◌≡◌, ◌≢◌, ℕ, List, [], ◌∷◌, ◌++◌, Option, Some, None, Result, Ok, Err}
-use Rattle.std.proofs.Common.{inl, inr, refl, subst, arith, IfOk, OnOk, OnErr, IsOk}
+use Rattle.std.proofs.Common.{inl, inr, refl, sym, subst, arith, IfOk, OnOk, OnErr, IsOk}
 use Rattle.std.specs.Borrow.{Bor}
 use Rattle.std.specs.Result.{result_unwrap_or}
 use Rattle.metric.specs.declared.fault.PbmFault.{PbmFault}
@@ -12,6 +12,7 @@ use Rattle.metric.specs.Refusal.{image_text, refusal_text}
 use Rattle.metric.specs.Stream.{Appends, AppendsFront, Counts}
 use Rattle.engines.specs.declared.command_line.arguments.DistOptions.{DistOptions}
 use Rattle.engines.specs.dist.Table.{table_text}
+use Rattle.engines.proofs.KeptLemmas.{table_text-told}
 use Rattle.engines.specs.dist.Tabled.{IsTableOf, TableView}
 use Rattle.bits.specs.Cells.{Cells}
 use Rattle.field.specs.Rows.{AreNears}
@@ -207,17 +208,19 @@ map_wanting_front options cells refusal before after (Err failed) none front =
 -- where no query is asked, the lines of the map's table are an answer to an image of it
 pub asked_of_table : (options : DistOptions) (cells : Cells) (distance : ℕ → ℕ → ℕ)
     (table : TableView) → options.query ≡ None → distance ≡ distance_of options.metric
-    → IsTableOf distance options.edge cells table
+    → table.nearest ≡ options.nearest → IsTableOf distance options.edge cells table
     → IsMapAnswer options cells (table_text options.nearest table.width table.height table.nears) 0
-asked_of_table options cells distance table no_line by of =
+asked_of_table options cells distance table no_line by asked of =
     λ bytes taken reads. inl (rw no_line (record {
       taken = taken;
       cells = cells;
-      nears = table.nears;
+      nears = of.nears;
       reads = reads;
-      rows = subst (λ (d : ℕ → ℕ → ℕ). AreNears d cells options.edge 0 cells.height table.nears)
+      rows = subst (λ (d : ℕ → ℕ → ℕ). AreNears d cells options.edge 0 cells.height of.nears)
           by of.rows;
-      text_is = rw (of.width_is, of.height_is) refl;
+      text_is = rw (of.width_is, of.height_is)
+          (sym (table_text-told options.nearest cells.width cells.height of.nears table.nears
+          (rw asked at of.told)));
       status_is = refl;
     }))
 
@@ -236,3 +239,12 @@ asked_of_reply options cells line reply given of =
       text_is = of.text_is;
       status_is = of.status_is;
     }))
+
+-- where the lines of a map's table are written, an answer to an image of it is
+pub map_of_table : {E : Type 0} (result : Result ℕ E) (options : DistOptions) (cells : Cells)
+    (text : List ℕ) (before after : Option (List ℕ)) → IsMapAnswer options cells text 0
+    → IfOk result (λ status. status ≡ 0) → OnOk result (Appends before text after)
+    → IfOk result (AnswersMap options cells before after)
+map_of_table (Ok status) options cells text before after answer is whole =
+    (text, rw is answer, whole)
+map_of_table (Err fault) options cells text before after answer is whole = is

@@ -17,3 +17,4 @@ mod Telling
 mod ServingLemmas
 mod Requests
 mod Talks
+mod KeptLemmas

@@ -51,7 +51,7 @@ below_none City columns rows across down = omega arith
 below_none Chess columns rows across down = omega arith
 
 -- what is printed for a distance is what is printed for its nearest obstacle
-distance_text-near : (near : Option Near) (number : ℕ) → IsDistanceOf near number
+pub distance_text-near : (near : Option Near) (number : ℕ) → IsDistanceOf near number
     → distance_text number ≡ entry_text false near
 distance_text-near None number is = rw is refl
 distance_text-near (Some near) number is =

@@ -1,21 +1,51 @@
 -- A table in memory of a map: this project's own rule.
-use Rattle.std.specs.Prelude.{◌≡◌, ℕ, ◌<◌, ◌≤◌, List, Option}
+use Rattle.std.specs.Prelude.{◌≡◌, ℕ, ◌*◌, ◌/◌, ◌%◌, ◌<◌, ◌≤◌, ◌==◌, pos, List, [], Bool, true, false}
+use Rattle.std.specs.Prelude.{map, Option, Some, None, if◌then◌else◌}
+use Rattle.std.specs.List.{range_with_len}
 use Rattle.metric.specs.declared.edge.Edge.{Edge}
 use Rattle.metric.specs.declared.near.Near.{Near}
 use Rattle.bits.specs.Cells.{Cells}
-use Rattle.field.specs.Obstacles.{Obstacles}
+use Rattle.field.specs.Distances.{Distances, number_at}
+use Rattle.field.specs.Obstacles.{Obstacles, nears_told}
 use Rattle.field.specs.Rows.{AreNears}
+use Rattle.engines.specs.dist.Table.{entry_text}
 
--- contracts see a table's size and the nearest obstacles of all cells, in row-major order
+-- contracts see a table's size, whether it has obstacles, and what it has of all cells, in
+-- row-major order: the nearest obstacles, or spots of these distances
 pub record TableView : Type 0 where
   pub width : ℕ
   pub height : ℕ
+  pub nearest : Bool
   pub nears : List (Option Near)
 
 -- each distance within a map and its frame is below the number that means none
 abbrev pub IsBelowNone : (ℕ → ℕ → ℕ) → Type 0
 IsBelowNone distance = (columns rows : ℕ) → columns ≤ 4097 → rows ≤ 4097
     → distance columns rows < 4294967295
+
+-- some spot at this distance, or none for the largest 32-bit number
+abbrev pub some_near : ℕ → Option Near
+some_near number =
+    if number == 4294967295 then None
+    else Some (record { dist = number; cell = record { x = pos 0; y = pos 0 } })
+
+-- some spots at the distances of a table's cells, in row-major order
+abbrev pub some_nears : ℕ → ℕ → Distances → List (Option Near)
+some_nears width height table =
+    map (λ k. some_near (number_at table (k % width) (k / width)))
+    (range_with_len 0 (height * width))
+
+-- what is kept of all cells: obstacles, or else distances
+abbrev pub nears_kept : (ℕ → ℕ → ℕ) → ℕ → ℕ → Option Obstacles → Option Distances
+    → List (Option Near)
+nears_kept distance width height (Some obstacles) distances = nears_told distance obstacles
+nears_kept distance width height None (Some distances) = some_nears width height distances
+nears_kept distance width height None None = []
+
+-- whether obstacles are kept
+abbrev pub has_obstacles : Option Obstacles → Bool
+has_obstacles (Some obstacles) = true
+has_obstacles None = false
 
 -- these are the obstacles of all rows of a map of this size, by this distance
 pub record HasAllRows (distance : ℕ → ℕ → ℕ) (width height : ℕ) (obstacles : Obstacles) :
@@ -25,9 +55,25 @@ pub record HasAllRows (distance : ℕ → ℕ → ℕ) (width height : ℕ) (obs
   pub from : obstacles.y0 ≡ 0
   pub to : obstacles.y1 ≡ height
 
--- the map has the table's size, and these are its nearest obstacles by this distance and edge
+-- these are the distances of all rows of a map of this size, in 32 bits
+pub record HasAllNumbers (width height : ℕ) (distances : Distances) : Type 0 where
+  pub across : distances.width ≡ width
+  pub from : distances.y0 ≡ 0
+  pub to : distances.y1 ≡ height
+  pub few : (x y : ℕ) → x < width → y < height → number_at distances x y ≤ 4294967295
+
+-- all rows of a map of this size are kept, as obstacles or as distances
+abbrev pub IsKept : (ℕ → ℕ → ℕ) → ℕ → ℕ → Option Obstacles → Option Distances → Type 0
+IsKept distance width height (Some obstacles) distances = HasAllRows distance width height obstacles
+IsKept distance width height None (Some distances) = HasAllNumbers width height distances
+IsKept distance width height None None = ⊥
+
+-- the map has the table's size, and what is written of the table's cells is what is written of the
+-- nearest obstacles by this distance and edge
 pub record IsTableOf (distance : ℕ → ℕ → ℕ) (edge : Edge) (cells : Cells) (table : TableView) :
     Type 0 where
   pub width_is : table.width ≡ cells.width
   pub height_is : table.height ≡ cells.height
-  pub rows : AreNears distance cells edge 0 cells.height table.nears
+  pub nears : List (Option Near)
+  pub rows : AreNears distance cells edge 0 cells.height nears
+  pub told : map (entry_text table.nearest) nears ≡ map (entry_text table.nearest) table.nears

@@ -30,6 +30,7 @@ pub struct Printer<M: Metric> {
     pub decimals: Decimals,
     pub nearest: bool,
     pub rows: u32,
+    pub ghost kept: { table.nearest ≡ nearest },
 }
 
 impl<M: Metric + Sync> Printer<M> {

@@ -1,53 +1,60 @@
-//! The nearest obstacles of one image's cells by one metric, computed by workers.
+//! The nearest obstacles of one image's cells by one metric, or their distances alone, computed by
+//! workers.
 
-ghost use Rattle.std.specs.Prelude.{◌≡◌, ◌+◌, ◌*◌, ◌<◌, ◌≤◌, IfErr, IfOk, length, slice_range};
+ghost use Rattle.std.specs.Prelude.{◌≡◌, ◌+◌, ◌*◌, ◌<◌, ◌≤◌, true, false, IfErr, IfOk, length};
+ghost use Rattle.std.specs.Prelude.{slice_range};
 ghost use Rattle.metric.specs.declared.refusal.Refusal.TheVariants.{Memory};
 ghost use Rattle.engines.specs.dist.Measured.{AreDistances};
 ghost use Rattle.engines.specs.dist.Tabled.{IsBelowNone, IsTableOf};
 
 use bits::Bitmap;
-use field::{Batch, ObstacleTable, Workers};
+use field::{Batch, DistanceTable, ObstacleTable, Workers};
 use metric::{Edge, Gate, Metric, Near, Refusal};
 use std::alloc::Global;
 use std::marker::Model;
 use std::thread::Threads;
 
-/// The nearest obstacles of all cells by one metric, four bytes per cell. Contracts see its size
-/// and these obstacles, in row-major order.
+/// The nearest obstacles of all cells by one metric, or else their distances: four bytes per cell.
+/// Contracts see its size, whether it has obstacles, and these, in row-major order; of distances
+/// they see some spots at them.
 #[derive(Drop)]
 pub struct Table<M: Metric> {
     width: u16,
     height: u16,
-    obstacles: ObstacleTable<M>,
+    obstacles: Option<ObstacleTable<M>>,
+    /// The distances, if there are no obstacles.
+    distances: Option<DistanceTable>,
 }
 
 impl<M: Metric> Model for Table<M> {
-    ghost use Rattle.field.specs.Obstacles.{nears_told};
-    ghost use Rattle.engines.specs.dist.Tabled.{HasAllRows, TableView};
+    ghost use Rattle.engines.specs.dist.Tabled.{IsKept, TableView, has_obstacles, nears_kept};
 
     ghost Value = { TableView };
 
     ghost view = { λ t. record {
       width = t.width;
       height = t.height;
-      nears = nears_told M.distance t.obstacles;
+      nearest = has_obstacles t.obstacles;
+      nears = nears_kept M.distance t.width t.height t.obstacles t.distances;
     } };
 
-    ghost invariant = { λ t. HasAllRows M.distance t.width t.height t.obstacles };
+    ghost invariant = { λ t. IsKept M.distance t.width t.height t.obstacles t.distances };
 }
 
 impl<M: Metric + Sync> Table<M> {
-    /// The nearest obstacles of the cells of this bitmap with this edge, computed by this many
-    /// workers, or by one if there are few cells.
+    /// The nearest obstacles of the cells of this bitmap with this edge, if asked for, or else their
+    /// distances, computed by this many workers, or by one if there are few cells.
     pub fn of<T: Threads + Sync>(
         rt: &T,
         alloc: Global,
         bitmap: &Bitmap,
         edge: Edge,
+        nearest: bool,
         workers: Workers,
     ) -> Result<Self, Refusal>
         requires below { IsBelowNone M.distance }
         ensures table { IfOk result (IsTableOf M.distance edge bitmap.now) }
+        ensures nearest { IfOk result (λ table. table.nearest ≡ nearest) }
         ensures memory { IfErr result (λ refusal. refusal ≡ Memory) }
     {
         let (width, height) = (bitmap.width(), bitmap.height());
@@ -62,11 +69,55 @@ impl<M: Metric + Sync> Table<M> {
             y0: 0,
             y1: height,
         };
-        let obstacles = ObstacleTable::<M>::of(rt, alloc, &batch, workers, &Passing)?;
+        if nearest {
+            return Table::of_obstacles(rt, alloc, &batch, workers);
+        }
+        Table::of_distances(rt, alloc, &batch, workers)
+    }
+
+    /// The nearest obstacles of all cells of a bitmap.
+    fn of_obstacles<T: Threads + Sync>(
+        rt: &T,
+        alloc: Global,
+        batch: &Batch<'_>,
+        workers: Workers,
+    ) -> Result<Self, Refusal>
+        requires below { IsBelowNone M.distance }
+        requires from { batch.now.y0 ≡ 0 }
+        requires to { batch.now.y1 ≡ batch.now.bitmap.now.height }
+        ensures table { IfOk result (IsTableOf M.distance batch.now.edge batch.now.bitmap.now) }
+        ensures nearest { IfOk result (λ table. table.nearest ≡ true) }
+        ensures memory { IfErr result (λ refusal. refusal ≡ Memory) }
+    {
+        let obstacles = ObstacleTable::<M>::of(rt, alloc, batch, workers, &Passing)?;
         Ok(Table {
-            width,
-            height,
-            obstacles,
+            width: batch.bitmap.width(),
+            height: batch.bitmap.height(),
+            obstacles: Some(obstacles),
+            distances: None,
+        })
+    }
+
+    /// The distances of all cells of a bitmap.
+    fn of_distances<T: Threads + Sync>(
+        rt: &T,
+        alloc: Global,
+        batch: &Batch<'_>,
+        workers: Workers,
+    ) -> Result<Self, Refusal>
+        requires below { IsBelowNone M.distance }
+        requires from { batch.now.y0 ≡ 0 }
+        requires to { batch.now.y1 ≡ batch.now.bitmap.now.height }
+        ensures table { IfOk result (IsTableOf M.distance batch.now.edge batch.now.bitmap.now) }
+        ensures nearest { IfOk result (λ table. table.nearest ≡ false) }
+        ensures memory { IfErr result (λ refusal. refusal ≡ Memory) }
+    {
+        let distances = DistanceTable::of::<M, Passing, T>(rt, alloc, batch, workers, &Passing)?;
+        Ok(Table {
+            width: batch.bitmap.width(),
+            height: batch.bitmap.height(),
+            obstacles: None,
+            distances: Some(distances),
         })
     }
 
@@ -77,25 +128,31 @@ impl<M: Metric + Sync> Table<M> {
         self.height
     }
 
-    /// Fills a line with the nearest obstacles of row `y`.
+    /// Fills a line with the nearest obstacles of row `y`, of a table that has them.
     pub fn fill_row(&self, y: u16, nears: &mut [Option<Near>])
+        requires nearest { self.now.nearest ≡ true }
         requires row { y < self.now.height }
         requires width { length nears.old ≡ self.now.width }
         ensures { nears.new ≡ slice_range self.now.nears (y * self.now.width)
             (y * self.now.width + self.now.width) }
     {
-        self.obstacles.fill_row(y, nears);
+        if let Some(obstacles) = &self.obstacles {
+            obstacles.fill_row(y, nears);
+        }
     }
 
-    /// Fills a line with the distances of the cells of row `y`, in the metric's unit; `u32::MAX`
-    /// where there is no obstacle.
+    /// Fills a line with the distances of the cells of row `y`, of a table that has no obstacles, in
+    /// the metric's unit; `u32::MAX` where there is no obstacle.
     pub fn fill_distances(&self, y: u16, distances: &mut [u32])
+        requires nearest { self.now.nearest ≡ false }
         requires row { y < self.now.height }
         requires width { length distances.old ≡ self.now.width }
         ensures { AreDistances (slice_range self.now.nears (y * self.now.width)
             (y * self.now.width + self.now.width)) distances.new }
     {
-        self.obstacles.fill_distances(y, distances);
+        if let Some(table) = &self.distances {
+            distances.copy_from_slice(table.row(y));
+        }
     }
 
     /// How many threads do the work of this many workers: as many if the table is large, one if it

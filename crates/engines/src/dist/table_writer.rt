@@ -41,6 +41,7 @@ impl<M: Metric + Sync> TableWriter<M> {
         ensures table { IfOk result (λ print. IsTableOf M.distance edge map.now
             print.printer.table) }
         ensures nearest { IfOk result (λ print. print.printer.nearest ≡ nearest) }
+        ensures asked { IfOk result (λ print. print.printer.table.nearest ≡ nearest) }
         ensures full { IfOk result (λ print. AreShares nearest print.printer.table.width
             print.printer.rows print.full.items) }
         ensures free { IfOk result (λ print. AreShares nearest print.printer.table.width
@@ -49,7 +50,7 @@ impl<M: Metric + Sync> TableWriter<M> {
             × (vec_len print.free ≡ workers.count)) }
         ensures memory { IfErr result (λ refusal. refusal ≡ Memory) }
     {
-        let table = Table::<M>::of(rt, alloc, map, edge, workers)?;
+        let table = Table::<M>::of(rt, alloc, map, edge, nearest, workers)?;
         let rows = table.rows_at_a_time(workers.count, nearest);
         let printer = Printer {
             table,

@@ -2,8 +2,20 @@
 -- memory.
 use Rattle.std.proofs.lemmas.Result.{on_err_weaker}
 use Rattle.engines.specs.dist.Table.{table_text}
-use Rattle.engines.proofs.Answering.{asked_of_table, map_wanting_front, map_wanting_whole}
+use Rattle.engines.proofs.Answering.{asked_of_table, map_of_table}
+use Rattle.engines.proofs.Answering.{map_wanting_front, map_wanting_whole}
 use Rattle.engines.proofs.dist.write_map.Goals as goal
+
+pub returns-in-Ok-clause-whole : goal.returns-in-Ok-clause-whole
+returns-in-Ok-clause-whole g c =
+    let options = c.args.options.now in
+    let table = c.in-Ok.print.printer.table in
+    map_of_table c.write_rows.result options c.args.map.now
+    (table_text options.nearest table.width table.height table.nears) _ _
+    (asked_of_table options c.args.map.now g.M.Metric.distance table c.requires.table
+    c.requires.metric c.in-Ok.ensures.asked c.in-Ok.ensures.table)
+    c.write_rows.ensures.status
+    (rw c.in-Ok.ensures.nearest at c.write_rows.ensures.whole)
 
 pub returns-in-Ok-clause-front : goal.returns-in-Ok-clause-front
 returns-in-Ok-clause-front g c =
@@ -14,7 +26,7 @@ returns-in-Ok-clause-front g c =
       table_text options.nearest table.width table.height table.nears,
       0,
       asked_of_table options c.args.map.now g.M.Metric.distance table c.requires.table
-          c.requires.metric c.in-Ok.ensures.table,
+          c.requires.metric c.in-Ok.ensures.asked c.in-Ok.ensures.table,
       front,
     ))
     (rw c.in-Ok.ensures.nearest at c.write_rows.ensures.front)

@@ -1,16 +1,14 @@
--- The rows of the table start with row 0, and no distance is the number for none.
-use Rattle.std.proofs.Common.{List, Option, subst}
-use Rattle.metric.specs.declared.near.Near.{Near}
-use Rattle.field.specs.Obstacles.{AreMeasured}
-use Rattle.engines.proofs.MeasuredLines.{AreDistances-measured, row_of_table}
+-- The row of a table of distances has the distances of its cells.
+use Rattle.std.proofs.Common.{◌∙◌}
+use Rattle.engines.proofs.KeptLemmas.{AreDistances-kept}
 use Rattle.engines.proofs.dist.table.Table.fill_distances.Goals as goal
 
-pub returns : goal.returns
-returns g c =
-    let all = c.self.invariant in
-    let distance = g.M.Metric.distance in
+pub returns-in-Some : goal.returns-in-Some
+returns-in-Some g c =
     rw (← c.self.view_is)
-    (AreDistances-measured distance _ _ all.below
-    (subst (λ (nears : List (Option Near)). AreMeasured distance nears
-    c.fill_distances.new.distances) (row_of_table _ c.args.y _ _ _ all.from all.across)
-    c.fill_distances.ensures))
+    (AreDistances-kept g.M.Metric.distance c.self.inside.width c.self.inside.height c.args.y
+    c.self.inside.obstacles c.self.inside.distances c.in-Some.table c.copy_from_slice.new.self
+    (rw (← c.self.view_is) at c.requires.nearest) c.in-Some.is c.self.invariant
+    (rw (← c.self.view_is) at c.requires.row)
+    (c.copy_from_slice.ensures.len ∙ (rw (← c.self.view_is) at c.requires.width))
+    (λ x inside. rw c.copy_from_slice.ensures.after (c.row.ensures.each x inside)))
