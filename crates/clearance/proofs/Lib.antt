@@ -4,8 +4,10 @@ mod FarColumns
 mod Firsts
 mod FrameLemmas
 mod Borders
+mod FarSpots
 mod LineBands
 mod LineFirsts
+mod LineTiles
 mod NearestSearches
 mod PieceFirsts
 mod RectFirsts
@@ -14,7 +16,9 @@ pub mod Refusals
 mod RowSearches
 pub mod RowWords
 mod Searches
+mod SpotSearches
 mod Stretches
 mod StripLines
 mod TileRows
+mod TileSearches
 mod Walks

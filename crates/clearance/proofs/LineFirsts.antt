@@ -23,13 +23,13 @@ use Rattle.clearance.proofs.Searches.{obstacle_within}
 use Rattle.clearance.proofs.StripLines.{IsSomeNear-lower}
 
 -- an obstacle of a row is one of the map
-black_of_row : (cells : Cells) (y : ℕ) (a b : ℤ) → IsBlackInRow cells y a b → IsBlack cells a b
+pub black_of_row : (cells : Cells) (y : ℕ) (a b : ℤ) → IsBlackInRow cells y a b → IsBlack cells a b
 black_of_row cells y (pos a) (pos b) black = black.0
 black_of_row cells y (pos a) (negsuc b) none = absurd none
 black_of_row cells y (negsuc a) b none = absurd none
 
 -- a line that has an obstacle near still has it among more of them
-near_more : (distance : ℕ → ℕ → ℕ) (Fewer More : ℤ → ℤ → Type 0) (strip : Strip) (limit k : ℕ)
+pub near_more : (distance : ℕ → ℕ → ℕ) (Fewer More : ℤ → ℤ → Type 0) (strip : Strip) (limit k : ℕ)
     → ((a b : ℤ) → Fewer a b → More a b)
     → IsLineNear distance Fewer strip limit k → IsLineNear distance More strip limit k
 near_more distance Fewer More strip limit k more near =

@@ -9,4 +9,5 @@ pub mod Paths
 pub mod Rows
 pub mod Search
 pub mod Segments
+pub mod Spots
 pub mod Strips

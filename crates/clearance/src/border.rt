@@ -8,11 +8,11 @@ ghost use Rattle.bits.specs.Edges.{IsBlocked};
 ghost use Rattle.clearance.specs.Frames.{IsFoundBelow, IsLoweredByFrame};
 ghost use Rattle.clearance.specs.Search.{IsLeastBelow, IsRectIn};
 
+use crate::far::{least_in_bits, nearest};
 use crate::found::Found;
 use crate::frame::{better, frame_nearest};
-use crate::nearest::{cell_rect, nearest};
+use crate::nearest::cell_rect;
 use crate::rows::{Rows, holds};
-use crate::search::least_in_bits;
 use metric::{Cell, Edge, MOST_SIDE, Metric, Near, Rect};
 
 /// The nearest obstacle of the cell; `None` where there is none.

@@ -154,7 +154,7 @@ fn goes_on<M: Metric>(away: u16, least: u64) -> bool
 }
 
 /// The least number of rows that a row of the band lies outside the rectangle.
-fn rows_apart(rect: Rect, band: u16) -> u16
+pub fn rows_apart(rect: Rect, band: u16) -> u16
     requires { band < 64 }
     ensures few { result ≤ MOST_SIDE }
     ensures apart { (b : ℕ) → b / BAND_ROWS ≡ band → result ≤ row_gap rect b }

@@ -3,10 +3,12 @@
 ghost use Rattle.clearance.specs.Strips.{IsStripIn};
 
 use crate::band::{are_blank_bands, first_gap, next_gap};
+use crate::by_tiles::first_by_tiles;
 use crate::far_bands::near_bands;
 use crate::part::Part;
 use crate::rows::Rows;
 use crate::search::lowered;
+use crate::seed::seems_far;
 use crate::segment::step_towards;
 use crate::strip::Strip;
 use metric::{Edge, LAST_FRAMED, Metric, Rect};
@@ -64,11 +66,48 @@ impl Lines {
         self.first_in_bits::<M, R>(rows, left, framed)
     }
 
-    /// As `first_near`, with an open edge.
+    /// As `first_near`, with an open edge: by tiles where obstacles seem to be far away, and
+    /// otherwise by rows.
+    fn first_in_bits<M: Metric, R: Rows>(self, rows: &mut R, rect: Rect, end: u16) -> u16
+        requires strip { IsStripIn (R.cells rows.old) self.strip }
+        requires lines { IsRectOf self end rect }
+        ensures found { IsFirstBefore M.distance (IsBlocked (R.cells rows.old) Open) self end
+            result }
+        ensures rows { rows.new ≡ rows.old }
+    {
+        if seems_far::<M, R>(rows, rect, self.limit) {
+            self.first_by_tiles::<M, R>(rows, rect, end)
+        } else {
+            self.first_by_rows::<M, R>(rows, rect, end)
+        }
+    }
+
+    /// As `first_in_bits`, by tiles. Each row in which an obstacle is found near leaves fewer lines
+    /// for the next search.
+    fn first_by_tiles<M: Metric, R: Rows>(self, rows: &mut R, rect: Rect, end: u16) -> u16
+        requires strip { IsStripIn (R.cells rows.old) self.strip }
+        requires lines { IsRectOf self end rect }
+        ensures found { IsFirstBefore M.distance (IsBlocked (R.cells rows.old) Open) self end
+            result }
+        ensures rows { rows.new ≡ rows.old }
+    {
+        let (mut line, mut left) = (end, rect);
+        'lines: while let Some(found) = first_by_tiles::<M, R>(rows, left, self.limit) {
+            let next = self.first_by_quarters::<M, R>(rows, Part::Row(found.cell.y), line - 1);
+            if next <= self.first {
+                return next;
+            }
+            left = self.rect_left(left, line, next);
+            line = next;
+        }
+        line
+    }
+
+    /// As `first_in_bits`, by rows.
     ///
     /// Searches the rows that may have an obstacle from the lines outwards. Each row with one near
     /// leaves fewer lines for the rows after it.
-    fn first_in_bits<M: Metric, R: Rows>(self, rows: &mut R, rect: Rect, end: u16) -> u16
+    fn first_by_rows<M: Metric, R: Rows>(self, rows: &mut R, rect: Rect, end: u16) -> u16
         requires strip { IsStripIn (R.cells rows.old) self.strip }
         requires lines { IsRectOf self end rect }
         ensures found { IsFirstBefore M.distance (IsBlocked (R.cells rows.old) Open) self end

@@ -20,7 +20,7 @@ use metric::{Cell, MOST_SIDE, Metric, Rect};
 ///
 /// Searches the rows that may have an obstacle from the cell outwards, the upper one of two first,
 /// and the words of each row as long as an obstacle there can be as near as the best so far.
-pub fn nearest<M: Metric, R: Rows>(rows: &mut R, cell: Cell) -> Option<Found>
+pub fn nearest_by_rows<M: Metric, R: Rows>(rows: &mut R, cell: Cell) -> Option<Found>
     requires { IsInside (R.cells rows.old) cell.x cell.y }
     ensures near { IsNearCell M.distance (IsObstacle (R.cells rows.old)) cell.x cell.y result }
     ensures rows { rows.new ≡ rows.old }

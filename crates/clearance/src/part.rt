@@ -29,7 +29,7 @@ impl Part {
     {
         match self {
             Part::Row(y) => {
-                let gap = rows_apart(rect, y);
+                let gap = row_apart(rect, y);
                 if u64::from(M::of(0, gap)) >= limit {
                     return limit;
                 }
@@ -44,7 +44,7 @@ impl Part {
 }
 
 /// How many rows row `y` lies outside the rectangle.
-fn rows_apart(rect: Rect, y: u16) -> u16
+pub fn row_apart(rect: Rect, y: u16) -> u16
     ensures { result ≡ row_gap rect y }
 {
     let above = rect.y0.saturating_sub(y);

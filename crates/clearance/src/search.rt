@@ -28,7 +28,7 @@ pub const FAR_GAP: u16 = 32;
 ///
 /// Searches the rows that may have an obstacle from the rectangle outwards, and the words of each
 /// row no further than a distance below the least so far can be.
-pub fn least_in_bits<M: Metric, R: Rows>(rows: &mut R, rect: Rect, limit: u64) -> u64
+pub fn least_by_rows<M: Metric, R: Rows>(rows: &mut R, rect: Rect, limit: u64) -> u64
     requires { IsRectIn (R.cells rows.old) rect }
     ensures least { IsLeastInBits M.distance (IsObstacle (R.cells rows.old)) rect limit result }
     ensures rows { rows.new ≡ rows.old }

@@ -10,24 +10,24 @@ returns-then-from-limit-clause-least g c =
     let bitmap = c.requires.rect.bitmap in
     let high = bitmap.height_is.few in
     let row : c.in-Row.y < cells.height = rw (c.in-Row.is) at c.requires.part in
-    let gap = c.rows_apart-gap.ensures in
+    let gap = c.row_apart-gap.ensures in
     let bottom = c.args.rect.has_cells.bottom in
     let rows = c.args.rect.has_cells.rows in
     let low = IsLoweredBy-far g.M.Metric.distance g.met.M.Metric.stays_nearer cells c.args.rect
-    c.in-Row.y c.rows_apart-gap.result c.args.limit bitmap (omega arith) (omega arith)
+    c.in-Row.y c.row_apart-gap.result c.args.limit bitmap (omega arith) (omega arith)
     (omega arith) in
     rw (c.in-Row.is)
     (IsLeastBelow-row g.M.Metric.distance g.met.M.Metric.grows g.met.M.Metric.stays_nearer cells
-    c.args.rect c.in-Row.y c.rows_apart-gap.result c.args.limit c.args.limit bitmap
-    (sym c.rows_apart-gap.ensures) low)
+    c.args.rect c.in-Row.y c.row_apart-gap.result c.args.limit c.args.limit bitmap
+    (sym c.row_apart-gap.ensures) low)
 
 pub returns-else-from-limit-clause-least : goal.returns-else-from-limit-clause-least
 returns-else-from-limit-clause-least g c =
     rw (c.in-Row.is)
     (IsLeastBelow-row g.M.Metric.distance g.met.M.Metric.grows g.met.M.Metric.stays_nearer
-    (g.R.Rows.cells c.args.rows.now) c.args.rect c.in-Row.y c.rows_apart-gap.result c.args.limit
+    (g.R.Rows.cells c.args.rows.now) c.args.rect c.in-Row.y c.row_apart-gap.result c.args.limit
     c.lowered.result
-    c.requires.rect.bitmap (sym c.rows_apart-gap.ensures) c.lowered.ensures.least)
+    c.requires.rect.bitmap (sym c.row_apart-gap.ensures) c.lowered.ensures.least)
 
 pub returns-in-Frame-clause-least : goal.returns-in-Frame-clause-least
 returns-in-Frame-clause-least g c =

@@ -6,7 +6,7 @@ use Rattle.clearance.proofs.BandRows.{IsNearAmong-passed, IsNextGap-banded}
 use Rattle.clearance.proofs.NearestSearches.{IsNear-beyond, IsNear-all, IsNearAmong-live}
 use Rattle.clearance.proofs.NearestSearches.{limit_of-falls}
 use Rattle.clearance.proofs.TileRows.{AreBandsLive-banded, AreBandsLive-later, AreBandsLive-thinned}
-use Rattle.clearance.proofs.nearest.nearest.Goals as goal
+use Rattle.clearance.proofs.nearest.nearest_by_rows.Goals as goal
 
 pub gaps-init : goal.gaps-init
 gaps-init g c =

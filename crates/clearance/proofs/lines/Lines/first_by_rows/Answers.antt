@@ -9,7 +9,7 @@ use Rattle.clearance.proofs.LineFirsts.{IsFirstAmong-far, IsFirstAmong-more, IsF
 use Rattle.clearance.proofs.LineFirsts.{IsFirstBefore-all, IsRectIn-lines, row_gap-fewer}
 use Rattle.clearance.proofs.LineFirsts.{row_of_line}
 use Rattle.clearance.proofs.Searches.{row_gap-within, row_within}
-use Rattle.clearance.proofs.lines.Lines.first_in_bits.Goals as goal
+use Rattle.clearance.proofs.lines.Lines.first_by_rows.Goals as goal
 
 pub gaps-init : goal.gaps-init
 gaps-init g c =

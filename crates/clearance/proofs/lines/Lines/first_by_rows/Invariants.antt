@@ -3,7 +3,7 @@ use Rattle.std.proofs.Common.{◌≡◌, ◌-◌, ◌<◌, ◌≤◌}
 use Rattle.clearance.specs.Lines.{IsFirstAmong, IsRectOf}
 use Rattle.clearance.specs.Search.{row_gap}
 use Rattle.clearance.proofs.LineBands.{AreLinesLive}
-use Rattle.clearance.proofs.lines.Lines.first_in_bits.Given as goal
+use Rattle.clearance.proofs.lines.Lines.first_by_rows.Given as goal
 
 abbrev pub invariant-gaps : goal.invariant-gaps
 invariant-gaps g l = record {

@@ -7,7 +7,7 @@ use Rattle.clearance.proofs.Searches.{IsLeastAmong-far, IsLeastBelow-all, IsLeas
 use Rattle.clearance.proofs.Searches.{row_gap-within, row_within}
 use Rattle.clearance.proofs.TileRows.{AreBandsLive-banded, AreBandsLive-later, AreBandsLive-thinned}
 use Rattle.clearance.proofs.TileRows.{IsLeastWithin-live, less_or_same}
-use Rattle.clearance.proofs.search.least_in_bits.Goals as goal
+use Rattle.clearance.proofs.search.least_by_rows.Goals as goal
 
 pub lowered_above-least-requires-clause-rect : goal.lowered_above-least-requires-clause-rect
 lowered_above-least-requires-clause-rect g c = rw (c.gaps.invariant.rows) c.requires

@@ -2,7 +2,7 @@
 use Rattle.std.proofs.Common.{◌≡◌, ◌-◌, ◌≤◌}
 use Rattle.clearance.specs.Nearest.{IsSought, IsWithin, limit_of}
 use Rattle.clearance.proofs.TileRows.{AreBandsLive}
-use Rattle.clearance.proofs.nearest.nearest.Given as goal
+use Rattle.clearance.proofs.nearest.nearest_by_rows.Given as goal
 
 abbrev pub invariant-gaps : goal.invariant-gaps
 invariant-gaps g l = record {

@@ -3,7 +3,7 @@ use Rattle.std.proofs.Common.{◌≡◌, ◌-◌, ◌<◌, ◌≤◌}
 use Rattle.bits.specs.Cells.{IsObstacle}
 use Rattle.clearance.specs.Search.{IsLeastWithin}
 use Rattle.clearance.proofs.TileRows.{AreBandsLive}
-use Rattle.clearance.proofs.search.least_in_bits.Given as goal
+use Rattle.clearance.proofs.search.least_by_rows.Given as goal
 
 abbrev pub invariant-gaps : goal.invariant-gaps
 invariant-gaps g l = record {

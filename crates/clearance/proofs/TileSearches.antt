@@ -1,0 +1,229 @@
+-- The obstacle that comes first, as more tiles and bands are searched.
+use Rattle.std.proofs.Common.{◌≡◌, ℕ, ◌+◌, ◌*◌, ◌/◌, ◌^◌, ◌<◌, ◌≤◌, inl, inr, Option}
+use Rattle.std.proofs.Common.{Some, None, get_or, sym, subst, arith}
+use Rattle.std.specs.Int.{bit_at}
+use Rattle.std.proofs.lemmas.Bool.{cases_lt}
+use Rattle.metric.specs.Crossing.{StaysNearer}
+use Rattle.metric.specs.Distance.{Grows}
+use Rattle.metric.specs.declared.rect.Rect.{Rect}
+use Rattle.metric.proofs.Growing.{of_grows}
+use Rattle.bits.specs.Bands.{IsBanded, IsTiled}
+use Rattle.bits.specs.Cells.{Cells, IsBitmap, IsObstacle}
+use Rattle.bits.specs.Words.{words_across}
+use Rattle.clearance.specs.Bands.{AreTilesFar}
+use Rattle.clearance.specs.Rows.{IsMarked, words_of_row}
+use Rattle.clearance.specs.Search.{column_gap, row_gap}
+use Rattle.clearance.specs.Spots.{IsInBand, IsInTile, IsInWord, IsMerged, IsSeed, IsSpotBelow}
+use Rattle.clearance.specs.Spots.{limit_with}
+use Rattle.clearance.specs.declared.found.Found.{Found}
+use Rattle.clearance.proofs.RowWords.{IsRowOf-words}
+use Rattle.clearance.proofs.Searches.{marked_obstacle, obstacle_marked, obstacle_within}
+use Rattle.clearance.proofs.SpotSearches.{IsSpotBelow-merged, IsSpotBelow-same}
+use Rattle.clearance.proofs.TileRows.{IsBandFar-tiles}
+
+-- before any row of a tile has been searched, there is none
+pub IsSpotBelow-tile_none : (distance : ℕ → ℕ → ℕ) (cells : Cells) (rect : Rect)
+    (band tile limit : ℕ)
+    → IsSpotBelow distance (λ a b. IsInTile cells band tile a b × (b < 64 * band)) rect limit None
+IsSpotBelow-tile_none distance cells rect band tile limit = λ a b here.
+    let row = here.0.1 in
+    let before = here.1 in
+    absurd (omega arith)
+
+-- a search of some rows of a tile goes on by one row
+pub IsSpotBelow-row_more : (distance : ℕ → ℕ → ℕ) (cells : Cells) (rect : Rect)
+    (band tile y word limit : ℕ) (best next merged : Option Found)
+    → IsBitmap cells → y / 64 ≡ band → word ≡ get_or (words_of_row cells y) tile 0
+    → IsSpotBelow distance (λ a b. IsInTile cells band tile a b × (b < y)) rect limit best
+    → IsSpotBelow distance (IsInWord tile y word) rect (limit_with limit best) next
+    → IsMerged rect.y0 best next merged
+    → IsSpotBelow distance (λ a b. IsInTile cells band tile a b × (b < y + 1)) rect limit merged
+IsSpotBelow-row_more distance cells rect band tile y word limit best next merged bitmap in_band
+    word_is before row both =
+    IsSpotBelow-merged distance (λ a b. IsInTile cells band tile a b × (b < y))
+    (IsInWord tile y word) (λ a b. IsInTile cells band tile a b × (b < y + 1)) rect limit best next
+    merged
+    (λ a b here. (here.0, let less = here.1 in omega arith))
+    (λ a b here.
+    let in_row = here.0 in
+    let marked : IsMarked (words_of_row cells y) a = rw (here.1, sym word_is) (here.2) in
+    let obstacle = marked_obstacle cells y (words_of_row cells y) a (IsRowOf-words cells y)
+    marked in (
+      (subst (λ (n : ℕ). IsObstacle cells a n) (sym in_row) obstacle, rw in_row in_band, here.1),
+      omega arith,
+    ))
+    (λ a b here. elim (cases_lt b y) [
+      | inl earlier ↦ inl (here.0, earlier)
+      | inr later ↦
+          let less = here.1 in
+          let same : b ≡ y = omega arith in
+          let marked = obstacle_marked cells y (words_of_row cells y) a bitmap
+          (IsRowOf-words cells y) (subst (λ (n : ℕ). IsObstacle cells a n) same here.0.0) in
+          inr (same, here.0.2, rw word_is (rw (here.0.2) at marked))
+    ])
+    before row both
+
+-- once all rows of a tile have been searched, all of its obstacles have
+pub IsSpotBelow-tile_all : (distance : ℕ → ℕ → ℕ) (cells : Cells) (rect : Rect)
+    (band tile y limit : ℕ) (best : Option Found) → IsBitmap cells
+    → ((b : ℕ) → b / 64 ≡ band → b < cells.height → b < y)
+    → IsSpotBelow distance (λ a b. IsInTile cells band tile a b × (b < y)) rect limit best
+    → IsSpotBelow distance (IsInTile cells band tile) rect limit best
+IsSpotBelow-tile_all distance cells rect band tile y limit best bitmap ended =
+    IsSpotBelow-same distance (λ a b. IsInTile cells band tile a b × (b < y))
+    (IsInTile cells band tile) rect limit best (λ a b here. here.0)
+    (λ a b here. (here, ended b here.1 (obstacle_within cells bitmap a b here.0).1))
+
+-- a tile whose cells are all far has no obstacle near
+pub IsSpotBelow-tile_far : (distance : ℕ → ℕ → ℕ) → Grows distance → StaysNearer distance
+    → (cells : Cells) (rect : Rect) (band tile apart away limit : ℕ) → IsBitmap cells
+    → ((a : ℕ) → a / 64 ≡ tile → apart ≤ column_gap rect a)
+    → ((b : ℕ) → b / 64 ≡ band → away ≤ row_gap rect b)
+    → limit ≤ distance apart away → limit < 2 ^ 32
+    → IsSpotBelow distance (IsInTile cells band tile) rect limit None
+IsSpotBelow-tile_far distance grows stays cells rect band tile apart away limit bitmap columns rows
+    low small = λ a b here.
+    let last = obstacle_within cells bitmap a b here.0 in
+    let column = last.2 in
+    let row = last.3 in
+    let right = rect.has_cells.right in
+    let bottom = rect.has_cells.bottom in
+    let grown = of_grows distance grows stays apart (column_gap rect a) away (row_gap rect b)
+    (columns a here.2) (omega arith) (rows b here.1) (omega arith) in
+    record { not_below = omega arith; is_limit = small }
+
+-- a band whose tiles are all far has no obstacle near
+pub IsSpotBelow-band_far : (distance : ℕ → ℕ → ℕ) (cells : Cells) (rect : Rect)
+    (band tiles away limit : ℕ) → IsBitmap cells → IsTiled cells band tiles
+    → ((b : ℕ) → b / 64 ≡ band → away ≤ row_gap rect b)
+    → AreTilesFar distance rect away limit tiles
+    → IsSpotBelow distance (IsInBand cells band) rect limit None
+IsSpotBelow-band_far distance cells rect band tiles away limit bitmap tiled rows far = λ a b here.
+    IsBandFar-tiles distance cells rect away limit tiles band bitmap tiled far a b here.0 here.1
+    (rows b here.1)
+
+-- before any tile has been searched, there is none
+pub IsSpotBelow-band_none : (distance : ℕ → ℕ → ℕ) (cells : Cells) (rect : Rect)
+    (band tiles tile limit : ℕ) → IsTiled cells band tiles
+    → ((k : ℕ) → 0 ≤ k → k < tile → bit_at tiles k ≡ 1 → ⊥)
+    → IsSpotBelow distance (λ a b. IsInBand cells band a b × (a / 64 < tile)) rect limit None
+IsSpotBelow-band_none distance cells rect band tiles tile limit tiled none = λ a b here.
+    absurd (none (a / 64) (omega arith) here.1 (tiled a b here.0.0 here.0.1))
+
+-- a search of some tiles of a band goes on by one tile
+pub IsSpotBelow-tile_more : (distance : ℕ → ℕ → ℕ) (cells : Cells) (rect : Rect)
+    (band tiles tile after limit : ℕ) (best next merged : Option Found) → IsTiled cells band tiles
+    → tile < after → ((k : ℕ) → tile + 1 ≤ k → k < after → bit_at tiles k ≡ 1 → ⊥)
+    → IsSpotBelow distance (λ a b. IsInBand cells band a b × (a / 64 < tile)) rect limit best
+    → IsSpotBelow distance (IsInTile cells band tile) rect (limit_with limit best) next
+    → IsMerged rect.y0 best next merged
+    → IsSpotBelow distance (λ a b. IsInBand cells band a b × (a / 64 < after)) rect limit merged
+IsSpotBelow-tile_more distance cells rect band tiles tile after limit best next merged tiled order
+    none before own both =
+    IsSpotBelow-merged distance (λ a b. IsInBand cells band a b × (a / 64 < tile))
+    (IsInTile cells band tile) (λ a b. IsInBand cells band a b × (a / 64 < after)) rect limit best
+    next merged
+    (λ a b here. (here.0, let less = here.1 in omega arith))
+    (λ a b here. ((here.0, here.1), let same = here.2 in omega arith))
+    (λ a b here. elim (cases_lt (a / 64) tile) [
+      | inl earlier ↦ inl (here.0, earlier)
+      | inr from ↦ elim (cases_lt tile (a / 64)) [
+        | inl later ↦
+            absurd (none (a / 64) (omega arith) here.1 (tiled a b here.0.0 here.0.1))
+        | inr same ↦ inr (here.0.0, here.0.1, omega arith)
+      ]
+    ])
+    before own both
+
+-- once all tiles of a band have been searched, all of its obstacles have
+pub IsSpotBelow-band_all : (distance : ℕ → ℕ → ℕ) (cells : Cells) (rect : Rect)
+    (band tile limit : ℕ) (best : Option Found) → IsBitmap cells → words_across cells.width ≤ tile
+    → IsSpotBelow distance (λ a b. IsInBand cells band a b × (a / 64 < tile)) rect limit best
+    → IsSpotBelow distance (IsInBand cells band) rect limit best
+IsSpotBelow-band_all distance cells rect band tile limit best bitmap ended =
+    IsSpotBelow-same distance (λ a b. IsInBand cells band a b × (a / 64 < tile))
+    (IsInBand cells band) rect limit best (λ a b here. here.0)
+    (λ a b here. let column = (obstacle_within cells bitmap a b here.0).0 in (here, omega arith))
+
+-- before any band has been searched, there is none
+pub IsSpotBelow-map_none : (distance : ℕ → ℕ → ℕ) (cells : Cells) (rect : Rect)
+    (bands band limit : ℕ) → IsBanded cells bands
+    → ((k : ℕ) → 0 ≤ k → k < band → bit_at bands k ≡ 1 → ⊥)
+    → IsSpotBelow distance (λ a b. IsObstacle cells a b × (b / 64 < band)) rect limit None
+IsSpotBelow-map_none distance cells rect bands band limit banded none = λ a b here.
+    absurd (none (b / 64) (omega arith) here.1 (banded a b here.0))
+
+-- a search of some bands goes on by one band
+pub IsSpotBelow-band_more : (distance : ℕ → ℕ → ℕ) (cells : Cells) (rect : Rect)
+    (bands band after limit : ℕ) (best next merged : Option Found) → IsBanded cells bands
+    → band < after → ((k : ℕ) → band + 1 ≤ k → k < after → bit_at bands k ≡ 1 → ⊥)
+    → IsSpotBelow distance (λ a b. IsObstacle cells a b × (b / 64 < band)) rect limit best
+    → IsSpotBelow distance (IsInBand cells band) rect (limit_with limit best) next
+    → IsMerged rect.y0 best next merged
+    → IsSpotBelow distance (λ a b. IsObstacle cells a b × (b / 64 < after)) rect limit merged
+IsSpotBelow-band_more distance cells rect bands band after limit best next merged banded order none
+    before own both =
+    IsSpotBelow-merged distance (λ a b. IsObstacle cells a b × (b / 64 < band))
+    (IsInBand cells band) (λ a b. IsObstacle cells a b × (b / 64 < after)) rect limit best
+    next merged
+    (λ a b here. (here.0, let less = here.1 in omega arith))
+    (λ a b here. (here.0, let same = here.1 in omega arith))
+    (λ a b here. elim (cases_lt (b / 64) band) [
+      | inl earlier ↦ inl (here.0, earlier)
+      | inr from ↦ elim (cases_lt band (b / 64)) [
+        | inl later ↦ absurd (none (b / 64) (omega arith) here.1 (banded a b here.0))
+        | inr same ↦ inr (here.0, omega arith)
+      ]
+    ])
+    before own both
+
+-- once all bands have been searched, all obstacles have
+pub IsSpotBelow-map_all : (distance : ℕ → ℕ → ℕ) (cells : Cells) (rect : Rect) (band limit : ℕ)
+    (best : Option Found) → IsBitmap cells → 64 ≤ band
+    → IsSpotBelow distance (λ a b. IsObstacle cells a b × (b / 64 < band)) rect limit best
+    → IsSpotBelow distance (IsObstacle cells) rect limit best
+IsSpotBelow-map_all distance cells rect band limit best bitmap ended =
+    IsSpotBelow-same distance (λ a b. IsObstacle cells a b × (b / 64 < band))
+    (IsObstacle cells) rect limit best (λ a b here. here.0)
+    (λ a b here. let row = (obstacle_within cells bitmap a b here).3 in (here, omega arith))
+
+-- what is found in a tile is a seed
+pub IsSeed-found : (distance : ℕ → ℕ → ℕ) (cells : Cells) (rect : Rect) (band tile limit : ℕ)
+    (found : Option Found) → IsSpotBelow distance (IsInTile cells band tile) rect limit found
+    → IsSeed distance cells rect limit (limit_with limit found)
+IsSeed-found distance cells rect band tile limit None far =
+    record { within = omega arith; some = λ less. absurd (omega arith) }
+IsSeed-found distance cells rect band tile limit (Some found) first =
+    let near = first.nearer in
+    let is = first.distance_is in
+    record {
+      within = omega arith;
+      some = λ less. (found.cell.x, found.cell.y, first.obstacle.0, omega arith);
+    }
+
+-- the first below a seed is the first below the limit
+pub IsSpotBelow-seeded : (distance : ℕ → ℕ → ℕ) (cells : Cells) (rect : Rect) (limit seed : ℕ)
+    (found : Option Found) → IsSeed distance cells rect limit seed
+    → IsSpotBelow distance (IsObstacle cells) rect seed found
+    → IsSpotBelow distance (IsObstacle cells) rect limit found
+IsSpotBelow-seeded distance cells rect limit seed None is far = λ a b obstacle.
+    elim (cases_lt seed limit) [
+      | inl less ↦
+          let some = is.some less in
+          let low = (far some.0 some.1 some.2).not_below in
+          let near = some.3 in
+          absurd (omega arith)
+      | inr same ↦
+          let within = is.within in
+          let equal : seed ≡ limit = omega arith in
+          rw equal at (far a b obstacle)
+    ]
+IsSpotBelow-seeded distance cells rect limit seed (Some found) is first =
+    let within = is.within in
+    let near = first.nearer in
+    record {
+      obstacle = first.obstacle;
+      distance_is = first.distance_is;
+      nearer = omega arith;
+      least = first.least;
+    }

@@ -1,0 +1,34 @@
+-- Band by band.
+use Rattle.std.proofs.Common.{◌∙◌, refl, arith}
+use Rattle.clearance.proofs.TileSearches.{IsSpotBelow-band_more, IsSpotBelow-map_all}
+use Rattle.clearance.proofs.TileSearches.{IsSpotBelow-map_none}
+use Rattle.clearance.proofs.by_tiles.first_by_bands.Goals as goal
+
+pub bands-init : goal.bands-init
+bands-init g c = record {
+  rows = refl;
+  first = IsSpotBelow-map_none g.M.Metric.distance (g.R.Rows.cells c.args.rows.now) c.args.rect
+      c.bands-bands.result c.next_tile-band.result c.args.limit c.bands-bands.ensures
+      c.next_tile-band.ensures.none;
+  few = c.next_tile-band.ensures.few;
+}
+
+pub bands-preserved : goal.bands-preserved
+bands-preserved g c =
+    let from = c.next_tile-band-in-bands.ensures.from in
+    let next = rw (c.bands.invariant.rows, c.limit_with.ensures.is) at
+    c.first_in_band-next.ensures.first in
+    record {
+      rows = c.first_in_band-next.ensures.rows ∙ c.bands.invariant.rows;
+      first = IsSpotBelow-band_more g.M.Metric.distance (g.R.Rows.cells c.args.rows.now) c.args.rect
+          c.bands-bands.result c.bands.band c.next_tile-band-in-bands.result c.args.limit
+          c.bands.best c.first_in_band-next.result c.merged-best.result c.bands-bands.ensures
+          (omega arith) c.next_tile-band-in-bands.ensures.none c.bands.invariant.first next
+          c.merged-best.ensures;
+      few = c.next_tile-band-in-bands.ensures.few;
+    }
+
+pub returns-clause-first : goal.returns-clause-first
+returns-clause-first g c =
+    IsSpotBelow-map_all g.M.Metric.distance (g.R.Rows.cells c.args.rows.now) c.args.rect
+    c.bands.band c.args.limit c.bands.best c.requires.bitmap (omega arith) c.bands.invariant.first

@@ -1,0 +1,18 @@
+-- The distance of the obstacle that comes first is the least.
+use Rattle.std.proofs.Common.{arith}
+use Rattle.clearance.proofs.FarSpots.{IsLeastInBits-none, IsLeastInBits-some}
+use Rattle.clearance.proofs.far.least_by_tiles.Goals as goal
+
+pub returns-in-Some-clause-least : goal.returns-in-Some-clause-least
+returns-in-Some-clause-least g c =
+    let is = c.distance_of.ensures.is in
+    let few = c.distance_of.ensures.few in
+    rw is (IsLeastInBits-some g.M.Metric.distance g.met.M.Metric.grows g.met.M.Metric.stays_nearer
+    (g.R.Rows.cells c.args.rows.now) c.args.rect c.args.limit c.in-Some.found c.requires.bitmap
+    (omega arith) c.in-Some.ensures.first)
+
+pub returns-in-None-clause-least : goal.returns-in-None-clause-least
+returns-in-None-clause-least g c =
+    IsLeastInBits-none g.M.Metric.distance g.met.M.Metric.grows g.met.M.Metric.stays_nearer
+    (g.R.Rows.cells c.args.rows.now) c.args.rect c.args.limit c.requires.bitmap
+    c.in-None.ensures.first

@@ -1,0 +1,137 @@
+//! A search for obstacles that are far away, tile by tile, of those tiles alone that may have one
+//! near enough.
+
+ghost use Rattle.std.specs.Prelude.{◌≡◌, ℕ, ◌/◌, ◌<◌, ◌≤◌, true};
+ghost use Rattle.bits.specs.Cells.{IsBitmap, IsObstacle};
+ghost use Rattle.bits.specs.Words.{words_across};
+ghost use Rattle.clearance.specs.Bands.{AreColumnsFar};
+ghost use Rattle.clearance.specs.Search.{column_gap, row_gap};
+ghost use Rattle.clearance.specs.Spots.{IsInBand, IsInTile, IsSeed, IsSpotBelow};
+
+use crate::far_bands::rows_apart;
+use crate::far_columns::are_tiles_far;
+use crate::found::Found;
+use crate::part::row_apart;
+use crate::rows::Rows;
+use crate::search::NO_LIMIT;
+use crate::seed::seeded;
+use crate::spot::{first_in_word, limit_with, merged};
+use crate::tiles::{NO_TILE, next_tile};
+use metric::{BAND_ROWS, LAST_FRAMED, MOST_SIDE, Metric, Rect, WORD_CELLS};
+
+/// The first of the obstacles in a tile of a band, seen from the rectangle, if its distance is
+/// below the limit.
+pub fn first_in_tile<M: Metric, R: Rows>(
+    rows: &mut R,
+    band: u16,
+    tile: u16,
+    rect: Rect,
+    limit: u64,
+) -> Option<Found>
+    requires bitmap { IsBitmap (R.cells rows.old) }
+    requires band { band < 64 }
+    requires tile { tile < words_across (R.cells rows.old).width }
+    ensures first { IsSpotBelow M.distance (IsInTile (R.cells rows.old) band tile) rect limit
+        result }
+    ensures rows { rows.new ≡ rows.old }
+{
+    let first = BAND_ROWS * band;
+    let end = rows.height().min(first + BAND_ROWS);
+    let mut best = None;
+    'tile: for y in first..end {
+        let word = rows.word(y, usize::from(tile));
+        let least = limit_with(limit, best);
+        let next = first_in_word::<M>(word, tile, y, rect, row_apart(rect, y), least);
+        best = merged(rect.y0, best, next);
+    }
+    best
+}
+
+/// As `first_in_tile`; the tile isn't searched if its cells are all too far.
+fn first_near_tile<M: Metric, R: Rows>(
+    rows: &mut R,
+    band: u16,
+    tile: u16,
+    rect: Rect,
+    limit: u64,
+) -> Option<Found>
+    requires bitmap { IsBitmap (R.cells rows.old) }
+    requires band { band < 64 }
+    requires tile { tile < words_across (R.cells rows.old).width }
+    ensures first { IsSpotBelow M.distance (IsInTile (R.cells rows.old) band tile) rect limit
+        result }
+    ensures rows { rows.new ≡ rows.old }
+{
+    let few = usize::from(tile) < rows.across();
+    prove!(few);
+    let away = rows_apart(rect, band);
+    if u64::from(M::of(columns_apart(rect, tile), away)) >= limit {
+        return None;
+    }
+    first_in_tile::<M, R>(rows, band, tile, rect, limit)
+}
+
+/// The least number of columns that a column of the tile lies outside the rectangle.
+pub fn columns_apart(rect: Rect, tile: u16) -> u16
+    requires { tile < 64 }
+    ensures few { result ≤ MOST_SIDE }
+    ensures apart { (a : ℕ) → a / WORD_CELLS ≡ tile → result ≤ column_gap rect a }
+{
+    let first = WORD_CELLS * tile;
+    let left = rect.x0.saturating_sub(first + (WORD_CELLS - 1));
+    let right = first.saturating_sub(rect.x1 - 1);
+    left.max(right)
+}
+
+/// The first of the obstacles of a band, seen from the rectangle, if its distance is below the
+/// limit.
+fn first_in_band<M: Metric, R: Rows>(
+    rows: &mut R,
+    band: u16,
+    rect: Rect,
+    limit: u64,
+) -> Option<Found>
+    requires bitmap { IsBitmap (R.cells rows.old) }
+    requires band { band < 64 }
+    ensures first { IsSpotBelow M.distance (IsInBand (R.cells rows.old) band) rect limit result }
+    ensures rows { rows.new ≡ rows.old }
+{
+    let (tiles, across) = (rows.tiles(band), rows.across());
+    if are_tiles_far::<M>(tiles, rect, rows_apart(rect, band), limit) {
+        return None;
+    }
+    let (mut tile, mut best) = (next_tile(tiles, 0), None);
+    'tiles: while usize::from(tile) < across {
+        let next = first_near_tile::<M, R>(rows, band, tile, rect, limit_with(limit, best));
+        best = merged(rect.y0, best, next);
+        tile = next_tile(tiles, tile + 1);
+    }
+    best
+}
+
+/// The first of the obstacles, seen from the rectangle, if its distance is below the limit, band by
+/// band.
+fn first_by_bands<M: Metric, R: Rows>(rows: &mut R, rect: Rect, limit: u64) -> Option<Found>
+    requires bitmap { IsBitmap (R.cells rows.old) }
+    ensures first { IsSpotBelow M.distance (IsObstacle (R.cells rows.old)) rect limit result }
+    ensures rows { rows.new ≡ rows.old }
+{
+    let bands = rows.bands();
+    let (mut band, mut best) = (next_tile(bands, 0), None);
+    'bands: while band < NO_TILE {
+        let next = first_in_band::<M, R>(rows, band, rect, limit_with(limit, best));
+        best = merged(rect.y0, best, next);
+        band = next_tile(bands, band + 1);
+    }
+    best
+}
+
+/// The first of the obstacles, seen from the rectangle, if its distance is below the limit.
+pub fn first_by_tiles<M: Metric, R: Rows>(rows: &mut R, rect: Rect, limit: u64) -> Option<Found>
+    requires bitmap { IsBitmap (R.cells rows.old) }
+    ensures first { IsSpotBelow M.distance (IsObstacle (R.cells rows.old)) rect limit result }
+    ensures rows { rows.new ≡ rows.old }
+{
+    let seed = seeded::<M, R>(rows, rect, limit);
+    first_by_bands::<M, R>(rows, rect, seed)
+}

@@ -1,0 +1,64 @@
+//! Searches for the nearest obstacle: by tiles where obstacles seem to be far away, and otherwise
+//! by rows.
+
+ghost use Rattle.std.specs.Prelude.{◌≡◌, ◌<◌};
+ghost use Rattle.bits.specs.Cells.{IsInside, IsObstacle};
+ghost use Rattle.clearance.specs.Nearest.{IsNearCell};
+ghost use Rattle.clearance.specs.Search.{IsLeastInBits, IsRectIn};
+
+use crate::by_tiles::first_by_tiles;
+use crate::found::Found;
+use crate::nearest::{cell_rect, nearest_by_rows};
+use crate::rows::{Rows, holds};
+use crate::search::{NO_LIMIT, least_by_rows};
+use crate::seed::seems_far;
+use metric::{Cell, Metric, Rect};
+
+/// The least of `limit` and of the distances of the rectangle's cells to the bitmap's obstacles.
+pub fn least_in_bits<M: Metric, R: Rows>(rows: &mut R, rect: Rect, limit: u64) -> u64
+    requires { IsRectIn (R.cells rows.old) rect }
+    ensures least { IsLeastInBits M.distance (IsObstacle (R.cells rows.old)) rect limit result }
+    ensures rows { rows.new ≡ rows.old }
+{
+    if seems_far::<M, R>(rows, rect, limit) {
+        least_by_tiles::<M, R>(rows, rect, limit)
+    } else {
+        least_by_rows::<M, R>(rows, rect, limit)
+    }
+}
+
+/// As `least_in_bits`, by tiles.
+fn least_by_tiles<M: Metric, R: Rows>(rows: &mut R, rect: Rect, limit: u64) -> u64
+    requires { IsRectIn (R.cells rows.old) rect }
+    ensures least { IsLeastInBits M.distance (IsObstacle (R.cells rows.old)) rect limit result }
+    ensures rows { rows.new ≡ rows.old }
+{
+    match first_by_tiles::<M, R>(rows, rect, limit) {
+        Some(found) => distance_of(found),
+        None => limit,
+    }
+}
+
+/// The distance of what is found, which is below every limit's end.
+fn distance_of(found: Found) -> u64
+    ensures is { result ≡ found.dist }
+    ensures few { result < NO_LIMIT }
+{
+    u64::from(found.dist)
+}
+
+/// The nearest obstacle of the cell; `None` if the map has no obstacle.
+pub fn nearest<M: Metric, R: Rows>(rows: &mut R, cell: Cell) -> Option<Found>
+    requires { IsInside (R.cells rows.old) cell.x cell.y }
+    ensures near { IsNearCell M.distance (IsObstacle (R.cells rows.old)) cell.x cell.y result }
+    ensures rows { rows.new ≡ rows.old }
+{
+    let inside = holds(rows, cell);
+    prove!(inside);
+    let here = cell_rect(cell);
+    if seems_far::<M, R>(rows, here, NO_LIMIT) {
+        first_by_tiles::<M, R>(rows, here, NO_LIMIT)
+    } else {
+        nearest_by_rows::<M, R>(rows, cell)
+    }
+}
