@@ -3,6 +3,7 @@ use Rattle.std.proofs.Common.{◌≡◌, ℕ, ◌+◌, ◌-◌, ◌*◌, ◌/◌
 use Rattle.std.proofs.Common.{Some, None, refl, sym, ap, subst, ◌∙◌, arith}
 use Rattle.std.specs.Int.{abs_diff, bit_at}
 use Rattle.std.proofs.lemmas.Bool.{cases_lt}
+use Rattle.std.proofs.lemmas.Nat.Bits.{bit_at-zero}
 use Rattle.metric.specs.Crossing.{StaysNearer}
 use Rattle.metric.specs.declared.rect.Rect.{Rect}
 use Rattle.metric.proofs.CellwiseLemmas.{IsAtMost-transitive}
@@ -11,7 +12,8 @@ use Rattle.clearance.specs.Frames.{key_found}
 use Rattle.clearance.specs.Rows.{IsFar}
 use Rattle.clearance.specs.Search.{column_gap, rect_distance, row_gap}
 use Rattle.clearance.specs.Spots.{AreLeftOf, AreParts, AreRightFrom, IsInWord, IsLastBit}
-use Rattle.clearance.specs.Spots.{IsMerged, IsSpotBelow, IsSpotIf, key_from, limit_with}
+use Rattle.clearance.specs.Spots.{IsMerged, IsSpotBelow, IsSpotIf, IsWithNext, key_from}
+use Rattle.clearance.specs.Spots.{limit_with}
 use Rattle.clearance.specs.declared.found.Found.{Found}
 use Rattle.clearance.proofs.Searches.{IsFar-greater}
 
@@ -360,3 +362,37 @@ IsSpotBelow-parts distance rect tile y word left right limit one other merged pa
       | inl less ↦ inr (here.0, here.1, (parts.all a here.1 here.2).0 less)
       | inr more ↦ inl (here.0, here.1, (parts.all a here.1 here.2).1 more)
     ]) first second both
+
+-- obstacles that are far leave the first of a set as it is
+pub IsSpotBelow-wider : (distance : ℕ → ℕ → ℕ) (One Other : ℕ → ℕ → Type 0) (rect : Rect)
+    (limit : ℕ) (best : Option Found)
+    → ((a b : ℕ) → One a b → Other a b)
+    → ((a b : ℕ) → Other a b → One a b ⊎ IsFar (rect_distance distance rect a b) limit)
+    → IsSpotBelow distance One rect limit best → IsSpotBelow distance Other rect limit best
+IsSpotBelow-wider distance One Other rect limit None there back first = λ a b other.
+    elim (back a b other) [ inl one ↦ first a b one | inr far ↦ far ]
+IsSpotBelow-wider distance One Other rect limit (Some best) there back first = record {
+  obstacle = there best.cell.x best.cell.y first.obstacle;
+  distance_is = first.distance_is;
+  nearer = first.nearer;
+  least = λ a b other. elim (back a b other) [
+    | inl one ↦ first.least a b one
+    | inr far ↦
+        let low = far.not_below in
+        let near = first.nearer in
+        record { order = inl (omega arith) }
+  ];
+}
+
+-- a word without a bit has no obstacle
+pub IsWithNext-blank : (distance : ℕ → ℕ → ℕ) (rect : Rect) (tile y word limit : ℕ)
+    (best : Option Found) → word ≡ 0
+    → IsWithNext distance (IsInWord tile y word) rect limit best best
+IsWithNext-blank distance rect tile y word limit best none = record {
+  next = None;
+  first = λ a b here.
+      let set : bit_at 0 (a % 64) ≡ 1 = rw none at (here.2) in
+      let nil = bit_at-zero (a % 64) in
+      absurd (omega arith);
+  both = refl;
+}

@@ -10,16 +10,17 @@ use Rattle.metric.proofs.Growing.{of_grows}
 use Rattle.bits.specs.Bands.{IsBanded, IsTiled}
 use Rattle.bits.specs.Cells.{Cells, IsBitmap, IsObstacle}
 use Rattle.bits.specs.Words.{words_across}
-use Rattle.clearance.specs.Bands.{AreTilesFar}
-use Rattle.clearance.specs.Rows.{IsMarked, words_of_row}
-use Rattle.clearance.specs.Search.{column_gap, row_gap}
+use Rattle.clearance.specs.Bands.{AreTilesFar, IsMarkedRow}
+use Rattle.clearance.specs.Rows.{IsFar, IsMarked, words_of_row}
+use Rattle.clearance.specs.Search.{column_gap, rect_distance, row_gap}
 use Rattle.clearance.specs.Spots.{IsInBand, IsInTile, IsInWord, IsMerged, IsSeed, IsSpotBelow}
 use Rattle.clearance.specs.Spots.{limit_with}
 use Rattle.clearance.specs.declared.found.Found.{Found}
 use Rattle.clearance.proofs.RowWords.{IsRowOf-words}
-use Rattle.clearance.proofs.Searches.{marked_obstacle, obstacle_marked, obstacle_within}
+use Rattle.clearance.proofs.Searches.{IsFar-greater, marked_obstacle, obstacle_marked, obstacle_within}
 use Rattle.clearance.proofs.SpotSearches.{IsSpotBelow-merged, IsSpotBelow-same}
-use Rattle.clearance.proofs.TileRows.{IsBandFar-tiles}
+use Rattle.clearance.proofs.SpotSearches.{IsSpotBelow-wider}
+use Rattle.clearance.proofs.TileRows.{AreBandsLive, IsBandFar-tiles}
 
 -- before any row of a tile has been searched, there is none
 pub IsSpotBelow-tile_none : (distance : ℕ → ℕ → ℕ) (cells : Cells) (rect : Rect)
@@ -145,37 +146,72 @@ IsSpotBelow-band_all distance cells rect band tile limit best bitmap ended =
     (IsInBand cells band) rect limit best (λ a b here. here.0)
     (λ a b here. let column = (obstacle_within cells bitmap a b here.0).0 in (here, omega arith))
 
--- before any band has been searched, there is none
+-- bands without those that are far away are live
+pub AreBandsLive-within : (distance : ℕ → ℕ → ℕ) → Grows distance → StaysNearer distance
+    → (cells : Cells) (rect : Rect) (bands left rows limit : ℕ) → IsBitmap cells
+    → IsBanded cells bands
+    → ((b : ℕ) → b < 4096 → row_gap rect b < rows → IsMarkedRow bands b → IsMarkedRow left b)
+    → (rows < 4096 → IsFar (distance 0 rows) limit)
+    → AreBandsLive distance cells rect 0 limit left
+AreBandsLive-within distance grows stays cells rect bands left rows limit bitmap banded kept far =
+    λ a b obstacle away.
+    let last = obstacle_within cells bitmap a b obstacle in
+    let column = last.2 in
+    let row = last.3 in
+    let right = rect.has_cells.right in
+    let bottom = rect.has_cells.bottom in
+    let some = rect.has_cells.rows in
+    elim (cases_lt (row_gap rect b) rows) [
+      | inl near ↦ inl (kept b (omega arith) near (banded a b obstacle))
+      | inr beyond ↦
+          let grown = of_grows distance grows stays 0 (column_gap rect a) rows (row_gap rect b)
+          (omega arith) (omega arith) beyond (omega arith) in
+          inr (IsFar-greater (distance 0 rows) (rect_distance distance rect a b) limit grown
+          (far (omega arith)))
+    ]
+
+-- before any band has been searched, none has an obstacle near
 pub IsSpotBelow-map_none : (distance : ℕ → ℕ → ℕ) (cells : Cells) (rect : Rect)
-    (bands band limit : ℕ) → IsBanded cells bands
+    (bands band limit : ℕ) → AreBandsLive distance cells rect 0 limit bands
     → ((k : ℕ) → 0 ≤ k → k < band → bit_at bands k ≡ 1 → ⊥)
     → IsSpotBelow distance (λ a b. IsObstacle cells a b × (b / 64 < band)) rect limit None
-IsSpotBelow-map_none distance cells rect bands band limit banded none = λ a b here.
-    absurd (none (b / 64) (omega arith) here.1 (banded a b here.0))
+IsSpotBelow-map_none distance cells rect bands band limit live none = λ a b here.
+    elim (live a b here.0 (omega arith)) [
+      | inl marked ↦ absurd (none (b / 64) (omega arith) here.1 marked)
+      | inr far ↦ far
+    ]
 
 -- a search of some bands goes on by one band
 pub IsSpotBelow-band_more : (distance : ℕ → ℕ → ℕ) (cells : Cells) (rect : Rect)
-    (bands band after limit : ℕ) (best next merged : Option Found) → IsBanded cells bands
+    (bands band after limit : ℕ) (best next merged : Option Found)
+    → AreBandsLive distance cells rect 0 limit bands
     → band < after → ((k : ℕ) → band + 1 ≤ k → k < after → bit_at bands k ≡ 1 → ⊥)
     → IsSpotBelow distance (λ a b. IsObstacle cells a b × (b / 64 < band)) rect limit best
     → IsSpotBelow distance (IsInBand cells band) rect (limit_with limit best) next
     → IsMerged rect.y0 best next merged
     → IsSpotBelow distance (λ a b. IsObstacle cells a b × (b / 64 < after)) rect limit merged
-IsSpotBelow-band_more distance cells rect bands band after limit best next merged banded order none
+IsSpotBelow-band_more distance cells rect bands band after limit best next merged live order none
     before own both =
-    IsSpotBelow-merged distance (λ a b. IsObstacle cells a b × (b / 64 < band))
-    (IsInBand cells band) (λ a b. IsObstacle cells a b × (b / 64 < after)) rect limit best
+    IsSpotBelow-wider distance (λ a b. IsObstacle cells a b × (b / 64 < band + 1))
+    (λ a b. IsObstacle cells a b × (b / 64 < after)) rect limit merged
+    (λ a b here. (here.0, let less = here.1 in omega arith))
+    (λ a b here. elim (cases_lt band (b / 64)) [
+      | inr own ↦ inl (here.0, omega arith)
+      | inl later ↦ elim (live a b here.0 (omega arith)) [
+        | inl marked ↦ absurd (none (b / 64) (omega arith) here.1 marked)
+        | inr far ↦ inr far
+      ]
+    ])
+    (IsSpotBelow-merged distance (λ a b. IsObstacle cells a b × (b / 64 < band))
+    (IsInBand cells band) (λ a b. IsObstacle cells a b × (b / 64 < band + 1)) rect limit best
     next merged
     (λ a b here. (here.0, let less = here.1 in omega arith))
     (λ a b here. (here.0, let same = here.1 in omega arith))
     (λ a b here. elim (cases_lt (b / 64) band) [
       | inl earlier ↦ inl (here.0, earlier)
-      | inr from ↦ elim (cases_lt band (b / 64)) [
-        | inl later ↦ absurd (none (b / 64) (omega arith) here.1 (banded a b here.0))
-        | inr same ↦ inr (here.0, omega arith)
-      ]
+      | inr from ↦ inr (here.0, let less = here.1 in omega arith)
     ])
-    before own both
+    before own both)
 
 -- once all bands have been searched, all obstacles have
 pub IsSpotBelow-map_all : (distance : ℕ → ℕ → ℕ) (cells : Cells) (rect : Rect) (band limit : ℕ)

@@ -96,3 +96,10 @@ pub record IsSeed (distance : ℕ → ℕ → ℕ) (cells : Cells) (rect : Rect)
   pub within : seed ≤ limit
   pub some : seed < limit → (a : ℕ) × (b : ℕ) × IsObstacle cells a b
       × (rect_distance distance rect a b < seed)
+
+-- the first of what is found and of a set of obstacles
+pub record IsWithNext (distance : ℕ → ℕ → ℕ) (Obstacle : ℕ → ℕ → Type 0) (rect : Rect) (limit : ℕ)
+    (best merged : Option Found) : Type 0 where
+  pub next : Option Found
+  pub first : IsSpotBelow distance Obstacle rect (limit_with limit best) next
+  pub both : IsMerged rect.y0 best next merged

@@ -4,10 +4,12 @@
 ghost use Rattle.std.specs.Prelude.{◌≡◌, ℕ, ◌/◌, ◌<◌, ◌≤◌, true};
 ghost use Rattle.bits.specs.Cells.{IsBitmap, IsObstacle};
 ghost use Rattle.bits.specs.Words.{words_across};
-ghost use Rattle.clearance.specs.Bands.{AreColumnsFar};
+ghost use Rattle.clearance.specs.Bands.{IsMarkedRow};
+ghost use Rattle.clearance.specs.Rows.{IsFar};
 ghost use Rattle.clearance.specs.Search.{column_gap, row_gap};
-ghost use Rattle.clearance.specs.Spots.{IsInBand, IsInTile, IsSeed, IsSpotBelow};
+ghost use Rattle.clearance.specs.Spots.{IsInBand, IsInTile, IsInWord, IsSpotBelow, IsWithNext};
 
+use crate::bit::{bits_from, bits_through};
 use crate::far_bands::rows_apart;
 use crate::far_columns::are_tiles_far;
 use crate::found::Found;
@@ -40,11 +42,31 @@ pub fn first_in_tile<M: Metric, R: Rows>(
     let mut best = None;
     'tile: for y in first..end {
         let word = rows.word(y, usize::from(tile));
-        let least = limit_with(limit, best);
-        let next = first_in_word::<M>(word, tile, y, rect, row_apart(rect, y), least);
-        best = merged(rect.y0, best, next);
+        best = with_word::<M>(best, word, tile, y, rect, limit);
     }
     best
+}
+
+/// The first of what is found and of the obstacles of a word of row `y`.
+#[inline(always)]
+fn with_word<M: Metric>(
+    best: Option<Found>,
+    word: u64,
+    tile: u16,
+    y: u16,
+    rect: Rect,
+    limit: u64,
+) -> Option<Found>
+    requires tile { tile < 64 }
+    requires row { y < MOST_SIDE }
+    ensures { IsWithNext M.distance (IsInWord tile y word) rect limit best result }
+{
+    if word == 0 {
+        return best;
+    }
+    let gap = row_apart(rect, y);
+    let next = first_in_word::<M>(word, tile, y, rect, gap, limit_with(limit, best));
+    merged(rect.y0, best, next)
 }
 
 /// As `first_in_tile`; the tile isn't searched if its cells are all too far.
@@ -109,6 +131,33 @@ fn first_in_band<M: Metric, R: Rows>(
     best
 }
 
+/// A number of rows so large that rows as far away have no distance below the limit, or the most
+/// of all.
+fn reach<M: Metric>(limit: u64) -> u16
+    ensures few { result ≤ MOST_SIDE }
+    ensures far { result < MOST_SIDE → IsFar (M.distance 0 result) limit }
+{
+    let mut rows = BAND_ROWS;
+    'rows: while rows < MOST_SIDE {
+        if u64::from(M::of(0, rows)) >= limit {
+            return rows;
+        }
+        rows += BAND_ROWS;
+    }
+    MOST_SIDE
+}
+
+/// The bands without those of which each row is at least this many rows outside the rectangle.
+fn bands_within(bands: u64, rect: Rect, rows: u16) -> u64
+    requires { rows ≤ MOST_SIDE }
+    ensures { (b : ℕ) → b < MOST_SIDE → row_gap rect b < rows → IsMarkedRow bands b
+        → IsMarkedRow result b }
+{
+    let first = rect.y0.saturating_sub(rows) / BAND_ROWS;
+    let last = (rect.y1 - 1 + rows).min(MOST_SIDE - 1) / BAND_ROWS;
+    bits_through(bits_from(bands, first), last)
+}
+
 /// The first of the obstacles, seen from the rectangle, if its distance is below the limit, band by
 /// band.
 fn first_by_bands<M: Metric, R: Rows>(rows: &mut R, rect: Rect, limit: u64) -> Option<Found>
@@ -116,7 +165,8 @@ fn first_by_bands<M: Metric, R: Rows>(rows: &mut R, rect: Rect, limit: u64) -> O
     ensures first { IsSpotBelow M.distance (IsObstacle (R.cells rows.old)) rect limit result }
     ensures rows { rows.new ≡ rows.old }
 {
-    let bands = rows.bands();
+    let marks = rows.bands();
+    let bands = bands_within(marks, rect, reach::<M>(limit));
     let (mut band, mut best) = (next_tile(bands, 0), None);
     'bands: while band < NO_TILE {
         let next = first_in_band::<M, R>(rows, band, rect, limit_with(limit, best));

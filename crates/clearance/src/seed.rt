@@ -39,28 +39,42 @@ fn nearer_tile<M: Metric>(best: NearTile, rect: Rect, band: u16, tile: u16) -> N
     }
 }
 
+/// The nearer of a tile and those of a band on both sides of the rectangle's first column.
+#[inline(always)]
+fn nearer_of_band<M: Metric, R: Rows>(rows: &R, best: NearTile, rect: Rect, band: u16) -> NearTile
+    requires best { best.band < 64 }
+    requires band { band < 64 }
+    ensures { result.band < 64 }
+{
+    let (tiles, own) = (rows.tiles(band), rect.x0 / WORD_CELLS);
+    let right = nearer_tile::<M>(best, rect, band, next_tile(tiles, own));
+    let after = after_last_tile(tiles, own);
+    if after == 0 {
+        return right;
+    }
+    nearer_tile::<M>(right, rect, band, after - 1)
+}
+
 /// The tile of which a cell may be nearest to the rectangle; tile 64 if none may have an obstacle.
 fn nearest_tile<M: Metric, R: Rows>(rows: &R, rect: Rect) -> NearTile
     ensures { result.band < 64 }
 {
-    let (bands, own) = (rows.bands(), rect.x0 / WORD_CELLS);
+    let (top, bottom) = (rect.y0 / BAND_ROWS, (rect.y1 - 1) / BAND_ROWS);
     let mut best = NearTile {
         band: 0,
         tile: NO_TILE,
         bound: NO_LIMIT,
     };
-    let mut band = next_tile(bands, 0);
-    'bands: while band < NO_TILE {
-        let tiles = rows.tiles(band);
-        best = nearer_tile::<M>(best, rect, band, next_tile(tiles, own));
-        let after = after_last_tile(tiles, own);
-        best = nearer_tile::<M>(
-            best,
-            rect,
-            band,
-            if after == 0 { NO_TILE } else { after - 1 },
-        );
-        band = next_tile(bands, band + 1);
+    'inside: for band in top..bottom + 1 {
+        best = nearer_of_band::<M, R>(rows, best, rect, band);
+    }
+    'outside: for step in 1..64 {
+        if u64::from(M::of(0, BAND_ROWS * (step - 1) + 1)) >= best.bound {
+            return best;
+        }
+        let above = top.saturating_sub(step);
+        best = nearer_of_band::<M, R>(rows, best, rect, above);
+        best = nearer_of_band::<M, R>(rows, best, rect, (bottom + step).min(63));
     }
     best
 }
@@ -83,16 +97,23 @@ pub fn seeded<M: Metric, R: Rows>(rows: &mut R, rect: Rect, limit: u64) -> u64
     limit_with(limit, found)
 }
 
-/// Whether no tile within 32 cells of the rectangle may have an obstacle, and an obstacle below the
-/// limit may be farther away: then it pays to search by tiles.
+/// The most rows of a rectangle for each tile near it that may have an obstacle, for a search by
+/// rows.
+const ROWS_A_TILE: u32 = 64;
+
+/// Whether few tiles within 32 cells of the rectangle may have an obstacle, none unless it has many
+/// rows, and an obstacle below the limit may be farther away: then it pays to search by tiles.
 pub fn seems_far<M: Metric, R: Rows>(rows: &R, rect: Rect, limit: u64) -> bool {
     if u64::from(M::of(0, FAR_GAP)) >= limit {
         return false;
     }
     let (left, right) = places_near(rect.x0, rect.x1);
     let (top, bottom) = places_near(rect.y0, rect.y1);
+    let most = u32::from(rect.y1 - rect.y0) / ROWS_A_TILE;
+    let mut count = 0;
     'bands: for band in top..bottom + 1 {
-        if bits_through(bits_from(rows.tiles(band), left), right) != 0 {
+        count += bits_through(bits_from(rows.tiles(band), left), right).count_ones();
+        if most < count {
             return false;
         }
     }

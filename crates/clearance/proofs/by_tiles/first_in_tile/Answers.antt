@@ -15,13 +15,13 @@ pub tile-preserved : goal.tile-preserved
 tile-preserved g c =
     let word = rw (c.tile.invariant.rows, c.from.ensures) at c.word-word.ensures.word in
     let in_band : c.tile.y / 64 ≡ c.args.band = omega arith in
+    let with = c.with_word-best.ensures in
     record {
       rows = c.word-word.ensures.rows ∙ c.tile.invariant.rows;
       first = IsSpotBelow-row_more g.M.Metric.distance (g.R.Rows.cells c.args.rows.now) c.args.rect
           c.args.band c.args.tile c.tile.y c.word-word.result c.args.limit c.tile.best
-          c.first_in_word-next.result c.merged-best.result c.requires.bitmap in_band word
-          c.tile.invariant.first
-          (rw (c.limit_with-least.ensures.is) at c.first_in_word-next.ensures) c.merged-best.ensures;
+          with.next c.with_word-best.result c.requires.bitmap in_band word
+          c.tile.invariant.first with.first with.both;
     }
 
 pub returns-clause-first : goal.returns-clause-first
