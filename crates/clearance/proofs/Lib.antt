@@ -1,4 +1,5 @@
 mod BandRows
+mod ClearBoxes
 mod Bits
 mod FarColumns
 mod Firsts

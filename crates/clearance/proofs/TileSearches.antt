@@ -17,7 +17,8 @@ use Rattle.clearance.specs.Spots.{IsInBand, IsInTile, IsInWord, IsMerged, IsSeed
 use Rattle.clearance.specs.Spots.{limit_with}
 use Rattle.clearance.specs.declared.found.Found.{Found}
 use Rattle.clearance.proofs.RowWords.{IsRowOf-words}
-use Rattle.clearance.proofs.Searches.{IsFar-greater, marked_obstacle, obstacle_marked, obstacle_within}
+use Rattle.clearance.proofs.Searches.{IsFar-greater, marked_obstacle, obstacle_marked}
+use Rattle.clearance.proofs.Searches.{obstacle_within}
 use Rattle.clearance.proofs.SpotSearches.{IsSpotBelow-merged, IsSpotBelow-same}
 use Rattle.clearance.proofs.SpotSearches.{IsSpotBelow-wider}
 use Rattle.clearance.proofs.TileRows.{AreBandsLive, IsBandFar-tiles}

@@ -11,6 +11,7 @@ mod bit;
 mod border;
 mod bound;
 mod by_tiles;
+mod clear;
 mod far;
 mod far_bands;
 mod far_columns;

@@ -4,6 +4,7 @@ ghost use Rattle.clearance.specs.Strips.{IsStripIn};
 
 use crate::band::{are_blank_bands, first_gap, next_gap};
 use crate::by_tiles::first_by_tiles;
+use crate::clear::is_clear_round;
 use crate::far_bands::near_bands;
 use crate::part::Part;
 use crate::rows::Rows;
@@ -75,6 +76,9 @@ impl Lines {
             result }
         ensures rows { rows.new ≡ rows.old }
     {
+        if is_clear_round::<M, R>(rows, rect, self.limit) {
+            return end;
+        }
         if seems_far::<M, R>(rows, rect, self.limit) {
             self.first_by_tiles::<M, R>(rows, rect, end)
         } else {

@@ -1,0 +1,142 @@
+//! Whether no obstacle lies close round a rectangle, by the words of a few rows.
+
+ghost use Rattle.std.specs.Prelude.{◌≡◌, ℕ, None, ◌+◌, ◌/◌, ◌%◌, ◌<◌, ◌≤◌, true};
+ghost use Rattle.std.specs.Int.{bit_at};
+ghost use Rattle.bits.specs.Cells.{IsBitmap, IsObstacle};
+ghost use Rattle.bits.specs.Words.{words_across};
+ghost use Rattle.clearance.specs.Rows.{IsFar};
+ghost use Rattle.clearance.specs.Search.{IsRectIn};
+ghost use Rattle.clearance.specs.Spots.{IsSpotBelow};
+
+use crate::bit::{bits_from, bits_through};
+use crate::rows::Rows;
+use metric::{MOST_SIDE, Metric, Rect, WORD_CELLS};
+
+/// Obstacles this many columns or rows away aren't close.
+const MOST_REACH: u16 = 32;
+
+/// Whether no obstacle is nearer to the rectangle than the limit, where a few columns and rows
+/// decide it: looks at the box of those that may have one nearer.
+pub fn is_clear_round<M: Metric, R: Rows>(rows: &mut R, rect: Rect, limit: u64) -> bool
+    requires { IsRectIn (R.cells rows.old) rect }
+    ensures clear { result ≡ true
+        → IsSpotBelow M.distance (IsObstacle (R.cells rows.old)) rect limit None }
+    ensures rows { rows.new ≡ rows.old }
+{
+    let (width, height, reach) = (rows.width(), rows.height(), small_reach::<M>(limit));
+    if reach >= MOST_REACH {
+        return false;
+    }
+    let left = (rect.x0 + 1).saturating_sub(reach);
+    let right = (rect.x1 - 1 + (reach - 1)).min(width - 1);
+    let top = (rect.y0 + 1).saturating_sub(reach);
+    let end = (rect.y1 + (reach - 1)).min(height);
+    is_blank_box(rows, left, right, top, end)
+}
+
+/// The least number of columns and rows, below 32, such that cells as far away are no nearer than
+/// the limit; 32 if there is none.
+fn small_reach<M: Metric>(limit: u64) -> u16
+    ensures some { 0 < result }
+    ensures few { result ≤ MOST_REACH }
+    ensures columns { result < MOST_REACH → IsFar (M.distance result 0) limit }
+    ensures rows { result < MOST_REACH → IsFar (M.distance 0 result) limit }
+{
+    if !is_reach::<M>(MOST_REACH - 1, limit) {
+        return MOST_REACH;
+    }
+    let (mut low, mut high) = (1, MOST_REACH - 1);
+    'halves: while low < high {
+        let middle = low + (high - low) / 2;
+        if is_reach::<M>(middle, limit) {
+            high = middle;
+        } else {
+            low = middle + 1;
+        }
+    }
+    high
+}
+
+/// Whether cells this many columns or rows away are no nearer than the limit.
+fn is_reach<M: Metric>(reach: u16, limit: u64) -> bool
+    requires { reach ≤ MOST_REACH }
+    ensures columns { result ≡ true → IsFar (M.distance reach 0) limit }
+    ensures rows { result ≡ true → IsFar (M.distance 0 reach) limit }
+{
+    u64::from(M::of(reach, 0)) >= limit && u64::from(M::of(0, reach)) >= limit
+}
+
+/// Whether no obstacle lies in these columns, `right` included, of these rows. False for columns of
+/// more than two words.
+fn is_blank_box<R: Rows>(rows: &mut R, left: u16, right: u16, top: u16, end: u16) -> bool
+    requires bitmap { IsBitmap (R.cells rows.old) }
+    requires columns { left ≤ right }
+    requires within { right < (R.cells rows.old).width }
+    requires rows { end ≤ (R.cells rows.old).height }
+    ensures blank { result ≡ true → (a b : ℕ) → IsObstacle (R.cells rows.old) a b → left ≤ a
+        → a ≤ right → top ≤ b → b < end → ⊥ }
+    ensures rows { rows.new ≡ rows.old }
+{
+    if left / WORD_CELLS + 1 < right / WORD_CELLS {
+        return false;
+    }
+    'rows: for y in top..end {
+        if !is_blank_in_row(rows, y, left, right) {
+            return false;
+        }
+    }
+    true
+}
+
+/// The same for columns of one row, of at most two words.
+#[inline(always)]
+fn is_blank_in_row<R: Rows>(rows: &mut R, y: u16, left: u16, right: u16) -> bool
+    requires bitmap { IsBitmap (R.cells rows.old) }
+    requires row { y < (R.cells rows.old).height }
+    requires columns { left ≤ right }
+    requires within { right < (R.cells rows.old).width }
+    requires few { right / WORD_CELLS ≤ left / WORD_CELLS + 1 }
+    ensures blank { result ≡ true → (a : ℕ) → IsObstacle (R.cells rows.old) a y → left ≤ a
+        → a ≤ right → ⊥ }
+    ensures rows { rows.new ≡ rows.old }
+{
+    let (first, last) = (left / WORD_CELLS, right / WORD_CELLS);
+    if !is_blank_in_word(rows, y, first, left, right) {
+        return false;
+    }
+    if first == last {
+        return true;
+    }
+    is_blank_in_word(rows, y, last, left, right)
+}
+
+/// The same for columns of one word.
+#[inline(always)]
+fn is_blank_in_word<R: Rows>(rows: &mut R, y: u16, index: u16, left: u16, right: u16) -> bool
+    requires bitmap { IsBitmap (R.cells rows.old) }
+    requires row { y < (R.cells rows.old).height }
+    requires index { index < words_across (R.cells rows.old).width }
+    requires from { left / WORD_CELLS ≤ index }
+    requires to { index ≤ right / WORD_CELLS }
+    requires few { right < MOST_SIDE }
+    ensures blank { result ≡ true → (a : ℕ) → IsObstacle (R.cells rows.old) a y
+        → a / WORD_CELLS ≡ index → left ≤ a → a ≤ right → ⊥ }
+    ensures rows { rows.new ≡ rows.old }
+{
+    let word = rows.word(y, usize::from(index));
+    cut_word(word, index, left, right) == 0
+}
+
+/// Clears the bits of a word that are columns to the left of one or to the right of another.
+#[inline(always)]
+fn cut_word(word: u64, index: u16, left: u16, right: u16) -> u64
+    requires from { left / WORD_CELLS ≤ index }
+    requires to { index ≤ right / WORD_CELLS }
+    requires few { right < MOST_SIDE }
+    ensures { (a : ℕ) → a / WORD_CELLS ≡ index → left ≤ a → a ≤ right
+        → bit_at result (a % WORD_CELLS) ≡ bit_at word (a % WORD_CELLS) }
+{
+    let first = WORD_CELLS * index;
+    let from = bits_from(word, left.saturating_sub(first));
+    bits_through(from, (right - first).min(WORD_CELLS - 1))
+}
