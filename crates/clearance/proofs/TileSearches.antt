@@ -1,5 +1,6 @@
 -- The obstacle that comes first, as more tiles and bands are searched.
 use Rattle.std.proofs.Common.{◌≡◌, ℕ, ◌+◌, ◌*◌, ◌/◌, ◌^◌, ◌<◌, ◌≤◌, inl, inr, Option}
+use Rattle.std.proofs.Common.{◌-◌, max}
 use Rattle.std.proofs.Common.{Some, None, get_or, sym, subst, arith}
 use Rattle.std.specs.Int.{bit_at}
 use Rattle.std.proofs.lemmas.Bool.{cases_lt}
@@ -23,14 +24,39 @@ use Rattle.clearance.proofs.SpotSearches.{IsSpotBelow-merged, IsSpotBelow-same}
 use Rattle.clearance.proofs.SpotSearches.{IsSpotBelow-wider}
 use Rattle.clearance.proofs.TileRows.{AreBandsLive, IsBandFar-tiles}
 
--- before any row of a tile has been searched, there is none
-pub IsSpotBelow-tile_none : (distance : ℕ → ℕ → ℕ) (cells : Cells) (rect : Rect)
-    (band tile limit : ℕ)
-    → IsSpotBelow distance (λ a b. IsInTile cells band tile a b × (b < 64 * band)) rect limit None
-IsSpotBelow-tile_none distance cells rect band tile limit = λ a b here.
+-- a row of a tile beyond the reach is far
+tile_row_far : (distance : ℕ → ℕ → ℕ) → Grows distance → StaysNearer distance
+    → (cells : Cells) (rect : Rect) (tile columns reach limit : ℕ) → IsBitmap cells
+    → ((a : ℕ) → a / 64 ≡ tile → columns ≤ column_gap rect a)
+    → (reach < 4097 → IsFar (distance columns reach) limit)
+    → (a b : ℕ) → IsObstacle cells a b → a / 64 ≡ tile → reach ≤ row_gap rect b
+    → IsFar (rect_distance distance rect a b) limit
+tile_row_far distance grows stays cells rect tile columns reach limit bitmap apart far a b obstacle
+    here beyond =
+    let last = obstacle_within cells bitmap a b obstacle in
+    let column = last.2 in
+    let row = last.3 in
+    let right = rect.has_cells.right in
+    let bottom = rect.has_cells.bottom in
+    let some = rect.has_cells.rows in
+    let grown = of_grows distance grows stays columns (column_gap rect a) reach (row_gap rect b)
+    (apart a here) (omega arith) beyond (omega arith) in
+    IsFar-greater (distance columns reach) (rect_distance distance rect a b) limit grown
+    (far (omega arith))
+
+-- before any row of a tile within the reach has been searched, none has an obstacle near
+pub IsSpotBelow-tile_start : (distance : ℕ → ℕ → ℕ) → Grows distance → StaysNearer distance
+    → (cells : Cells) (rect : Rect) (band tile columns reach from limit : ℕ) → IsBitmap cells
+    → ((a : ℕ) → a / 64 ≡ tile → columns ≤ column_gap rect a)
+    → (reach < 4097 → IsFar (distance columns reach) limit)
+    → from ≡ max (64 * band) (rect.y0 + 1 - reach)
+    → IsSpotBelow distance (λ a b. IsInTile cells band tile a b × (b < from)) rect limit None
+IsSpotBelow-tile_start distance grows stays cells rect band tile columns reach from limit bitmap
+    apart far from_is = λ a b here.
     let row = here.0.1 in
     let before = here.1 in
-    absurd (omega arith)
+    tile_row_far distance grows stays cells rect tile columns reach limit bitmap apart far a b
+    here.0.0 here.0.2 (omega arith)
 
 -- a search of some rows of a tile goes on by one row
 pub IsSpotBelow-row_more : (distance : ℕ → ℕ → ℕ) (cells : Cells) (rect : Rect)
@@ -65,16 +91,24 @@ IsSpotBelow-row_more distance cells rect band tile y word limit best next merged
     ])
     before row both
 
--- once all rows of a tile have been searched, all of its obstacles have
-pub IsSpotBelow-tile_all : (distance : ℕ → ℕ → ℕ) (cells : Cells) (rect : Rect)
-    (band tile y limit : ℕ) (best : Option Found) → IsBitmap cells
-    → ((b : ℕ) → b / 64 ≡ band → b < cells.height → b < y)
+-- once all rows of a tile within the reach have been searched, the others are far
+pub IsSpotBelow-tile_all : (distance : ℕ → ℕ → ℕ) → Grows distance → StaysNearer distance
+    → (cells : Cells) (rect : Rect) (band tile columns reach y limit : ℕ) (best : Option Found)
+    → IsBitmap cells → ((a : ℕ) → a / 64 ≡ tile → columns ≤ column_gap rect a)
+    → (reach < 4097 → IsFar (distance columns reach) limit)
+    → ((b : ℕ) → b / 64 ≡ band → b < cells.height → b < rect.y1 - 1 + reach → b < y)
     → IsSpotBelow distance (λ a b. IsInTile cells band tile a b × (b < y)) rect limit best
     → IsSpotBelow distance (IsInTile cells band tile) rect limit best
-IsSpotBelow-tile_all distance cells rect band tile y limit best bitmap ended =
-    IsSpotBelow-same distance (λ a b. IsInTile cells band tile a b × (b < y))
+IsSpotBelow-tile_all distance grows stays cells rect band tile columns reach y limit best bitmap
+    apart far ended =
+    IsSpotBelow-wider distance (λ a b. IsInTile cells band tile a b × (b < y))
     (IsInTile cells band tile) rect limit best (λ a b here. here.0)
-    (λ a b here. (here, ended b here.1 (obstacle_within cells bitmap a b here.0).1))
+    (λ a b here. elim (cases_lt b (rect.y1 - 1 + reach)) [
+      | inl within ↦
+          inl (here, ended b here.1 (obstacle_within cells bitmap a b here.0).1 within)
+      | inr beyond ↦ inr (tile_row_far distance grows stays cells rect tile columns reach limit
+          bitmap apart far a b here.0 here.2 (omega arith))
+    ])
 
 -- a tile whose cells are all far has no obstacle near
 pub IsSpotBelow-tile_far : (distance : ℕ → ℕ → ℕ) → Grows distance → StaysNearer distance

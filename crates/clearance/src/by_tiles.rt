@@ -22,7 +22,7 @@ use crate::tiles::{NO_TILE, next_tile};
 use metric::{BAND_ROWS, LAST_FRAMED, MOST_SIDE, Metric, Rect, WORD_CELLS};
 
 /// The first of the obstacles in a tile of a band, seen from the rectangle, if its distance is
-/// below the limit.
+/// below the limit. Searches the rows that have a cell as near.
 pub fn first_in_tile<M: Metric, R: Rows>(
     rows: &mut R,
     band: u16,
@@ -38,13 +38,47 @@ pub fn first_in_tile<M: Metric, R: Rows>(
     ensures rows { rows.new ≡ rows.old }
 {
     let first = BAND_ROWS * band;
-    let end = rows.height().min(first + BAND_ROWS);
+    let reach = rows_within::<M>(columns_apart(rect, tile), limit);
+    let from = first.max((rect.y0 + 1).saturating_sub(reach));
+    let end = rows
+        .height()
+        .min(first + BAND_ROWS)
+        .min(rect.y1 - 1 + reach);
     let mut best = None;
-    'tile: for y in first..end {
+    'tile: for y in from..end {
         let word = rows.word(y, usize::from(tile));
         best = with_word::<M>(best, word, tile, y, rect, limit);
     }
     best
+}
+
+/// The least number of rows such that cells of this many columns and as many rows away are no
+/// nearer than the limit; 4097 if there is none.
+fn rows_within<M: Metric>(columns: u16, limit: u64) -> u16
+    requires { columns ≤ MOST_SIDE }
+    ensures few { result ≤ LAST_FRAMED }
+    ensures far { result < LAST_FRAMED → IsFar (M.distance columns result) limit }
+{
+    let (mut low, mut high) = (0, LAST_FRAMED);
+    'halves: while low < high {
+        let middle = low + (high - low) / 2;
+        if is_away::<M>(columns, middle, limit) {
+            high = middle;
+        } else {
+            low = middle + 1;
+        }
+    }
+    high
+}
+
+/// Whether cells this many columns and rows away are no nearer than the limit.
+#[inline(always)]
+fn is_away<M: Metric>(columns: u16, rows: u16, limit: u64) -> bool
+    requires columns { columns ≤ MOST_SIDE }
+    requires rows { rows ≤ LAST_FRAMED }
+    ensures { result ≡ true → IsFar (M.distance columns rows) limit }
+{
+    u64::from(M::of(columns, rows)) >= limit
 }
 
 /// The first of what is found and of the obstacles of a word of row `y`.
