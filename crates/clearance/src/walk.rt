@@ -5,7 +5,7 @@ ghost use Rattle.std.specs.Prelude.{◌≡◌, None};
 ghost use Rattle.bits.specs.Cells.{IsBitmap, IsInside};
 ghost use Rattle.bits.specs.Edges.{IsBlocked};
 ghost use Rattle.clearance.specs.Answers.{IsLeastOf};
-ghost use Rattle.clearance.specs.Firsts.{IsFirstOrNone, IsLeastOver};
+ghost use Rattle.clearance.specs.Firsts.{IsBoundOver, IsFirstOrNone, IsLeastOver};
 ghost use Rattle.clearance.specs.Paths.{cells_behind, cells_of_path, cells_up_to, path_refusal};
 ghost use Rattle.clearance.specs.Segments.{IsStraight, IsWalk};
 
@@ -34,7 +34,8 @@ pub fn least_of_path<M: Metric, R: Rows>(
     let start = points[0];
     let inside = holds(rows, start);
     prove!(inside);
-    let least = least_along::<M, R>(rows, edge, start, points, NO_LIMIT);
+    let bound = bound_along::<M, R>(rows, edge, start, points, NO_LIMIT);
+    let least = least_along::<M, R>(rows, edge, start, points, NO_LIMIT, bound);
     if least >= NO_LIMIT {
         return None;
     }
@@ -61,7 +62,7 @@ pub fn first_of_path<M: Metric, R: Rows>(
 }
 
 /// The least of the limit and of the distances of the cells after a point, along all points that
-/// follow it.
+/// follow it. None of these distances is below the bound.
 ///
 /// Skips a stretch whose cells are all too far as a whole. Searches first the half that lies nearer
 /// to an obstacle, so that it lowers the limit for the other; of two pieces the second, which is
@@ -72,9 +73,12 @@ fn least_along<M: Metric, R: Rows>(
     from: Cell,
     points: &[Cell],
     limit: u64,
+    bound: u64,
 ) -> u64
     requires walk { IsWalk (R.cells rows.old) from points.now }
     requires bitmap { IsBitmap (R.cells rows.old) }
+    requires bound { IsBoundOver M.distance (IsBlocked (R.cells rows.old) edge)
+        (cells_behind from points.now) bound }
     ensures found { IsLeastOver M.distance (IsBlocked (R.cells rows.old) edge)
         (cells_behind from points.now) limit result }
     ensures rows { rows.new ≡ rows.old }
@@ -85,7 +89,7 @@ fn least_along<M: Metric, R: Rows>(
     if points.len() == 1 {
         return least_of_piece::<M, R>(rows, edge, from, points[0], limit);
     }
-    if bound_along::<M, R>(rows, edge, from, points, limit) >= limit {
+    if bound >= limit {
         return limit;
     }
     let (front, back) = points.split_at(points.len() / 2);
@@ -93,11 +97,11 @@ fn least_along<M: Metric, R: Rows>(
     let near = bound_along::<M, R>(rows, edge, from, front, limit);
     let other = bound_along::<M, R>(rows, edge, middle, back, limit);
     if other < near || points.len() == 2 {
-        let lowered = least_along::<M, R>(rows, edge, middle, back, limit);
-        return least_along::<M, R>(rows, edge, from, front, lowered);
+        let lowered = least_along::<M, R>(rows, edge, middle, back, limit, other);
+        return least_along::<M, R>(rows, edge, from, front, lowered, near);
     }
-    let least = least_along::<M, R>(rows, edge, from, front, limit);
-    least_along::<M, R>(rows, edge, middle, back, least)
+    let least = least_along::<M, R>(rows, edge, from, front, limit, near);
+    least_along::<M, R>(rows, edge, middle, back, least, other)
 }
 
 /// The first of the cells after a point, along all points that follow it, that has an obstacle at a

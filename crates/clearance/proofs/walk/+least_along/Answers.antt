@@ -24,11 +24,11 @@ returns-then-points-eq1-clause-found g t c =
     rw (cells_behind-one c.args.from c.args.points.now c.if-points-eq1.true)
     c.least_of_piece.ensures.found
 
-pub returns-then-bound_along-limit-clause-found : goal.returns-then-bound_along-limit-clause-found
-returns-then-bound_along-limit-clause-found g t c =
+pub returns-then-bound-limit-clause-found : goal.returns-then-bound-limit-clause-found
+returns-then-bound-limit-clause-found g t c =
     IsLeastOver-bound g.M.Metric.distance (IsBlocked (g.R.Rows.cells c.args.rows.now) c.args.edge)
-    (cells_behind c.args.from c.args.points.now) c.args.limit c.bound_along.result
-    c.bound_along.ensures.bound c.if-bound_along-limit.true
+    (cells_behind c.args.from c.args.points.now) c.args.limit c.args.bound
+    c.requires.bound c.if-bound-limit.true
 
 pub bound_along-near-requires : goal.bound_along-near-requires
 bound_along-near-requires g t c =
@@ -37,7 +37,7 @@ bound_along-near-requires g t c =
     (λ none. search rules) c.if-points-eq1.false in
     let walks = IsWalk-halves (g.R.Rows.cells c.args.rows.now) c.args.from c.args.points.now
     c.split_at.result.0.now c.split_at.result.1.now c.requires.walk are in
-    rw (c.bound_along.ensures.rows) (record { walk = walks.0; bitmap = c.requires.bitmap })
+    record { walk = walks.0; bitmap = c.requires.bitmap }
 
 pub bound_along-other-requires : goal.bound_along-other-requires
 bound_along-other-requires g t c =
@@ -46,11 +46,12 @@ bound_along-other-requires g t c =
     (λ none. search rules) c.if-points-eq1.false in
     let walks = IsWalk-halves (g.R.Rows.cells c.args.rows.now) c.args.from c.args.points.now
     c.split_at.result.0.now c.split_at.result.1.now c.requires.walk are in
-    rw (c.bound_along-near.ensures.rows, c.bound_along.ensures.rows)
+    rw (c.bound_along-near.ensures.rows)
     (record { walk = walks.1; bitmap = c.requires.bitmap })
 
 pub least_along-lowered-requires : goal.least_along-lowered-requires
 least_along-lowered-requires g t c =
+    let bound = rw (c.bound_along-near.ensures.rows) at c.bound_along-other.ensures.bound in
     let are = AreHalves-split c.args.points.now c.split_at.result.0.now c.split_at.result.1.now
     c.split_at.ensures.front c.split_at.ensures.back
     (λ none. search rules) c.if-points-eq1.false in
@@ -60,11 +61,14 @@ least_along-lowered-requires g t c =
     rw (
       c.bound_along-other.ensures.rows,
       c.bound_along-near.ensures.rows,
-      c.bound_along.ensures.rows,
-    ) (search rules)
+    ) (λ κs lives. (
+      search rules,
+      (lives.0, (lives.1, (walks.1, (c.requires.bitmap, bound)))),
+    ))
 
 pub least_along-requires : goal.least_along-requires
 least_along-requires g t c =
+    let bound = c.bound_along-near.ensures.bound in
     let are = AreHalves-split c.args.points.now c.split_at.result.0.now c.split_at.result.1.now
     c.split_at.ensures.front c.split_at.ensures.back
     (λ none. search rules) c.if-points-eq1.false in
@@ -75,11 +79,14 @@ least_along-requires g t c =
       c.least_along-lowered.ensures.rows,
       c.bound_along-other.ensures.rows,
       c.bound_along-near.ensures.rows,
-      c.bound_along.ensures.rows,
-    ) (search rules)
+    ) (λ κs lives. (
+      search rules,
+      (lives.0, (lives.1, (walks.0, (c.requires.bitmap, bound)))),
+    ))
 
 pub least_along-least-requires : goal.least_along-least-requires
 least_along-least-requires g t c =
+    let bound = c.bound_along-near.ensures.bound in
     let are = AreHalves-split c.args.points.now c.split_at.result.0.now c.split_at.result.1.now
     c.split_at.ensures.front c.split_at.ensures.back
     (λ none. search rules) c.if-points-eq1.false in
@@ -89,11 +96,14 @@ least_along-least-requires g t c =
     rw (
       c.bound_along-other.ensures.rows,
       c.bound_along-near.ensures.rows,
-      c.bound_along.ensures.rows,
-    ) (search rules)
+    ) (λ κs lives. (
+      search rules,
+      (lives.0, (lives.1, (walks.0, (c.requires.bitmap, bound)))),
+    ))
 
 pub least_along-requires-2 : goal.least_along-requires-2
 least_along-requires-2 g t c =
+    let bound = rw (c.bound_along-near.ensures.rows) at c.bound_along-other.ensures.bound in
     let are = AreHalves-split c.args.points.now c.split_at.result.0.now c.split_at.result.1.now
     c.split_at.ensures.front c.split_at.ensures.back
     (λ none. search rules) c.if-points-eq1.false in
@@ -104,8 +114,10 @@ least_along-requires-2 g t c =
       c.least_along-least.ensures.rows,
       c.bound_along-other.ensures.rows,
       c.bound_along-near.ensures.rows,
-      c.bound_along.ensures.rows,
-    ) (search rules)
+    ) (λ κs lives. (
+      search rules,
+      (lives.0, (lives.1, (walks.1, (c.requires.bitmap, bound)))),
+    ))
 
 pub returns-then-other-near-clause-found : goal.returns-then-other-near-clause-found
 returns-then-other-near-clause-found g t c =
@@ -122,13 +134,11 @@ returns-then-other-near-clause-found g t c =
     (rw (
       c.bound_along-other.ensures.rows,
       c.bound_along-near.ensures.rows,
-      c.bound_along.ensures.rows,
     ) at c.least_along-lowered.ensures.found)
     (rw (
       c.least_along-lowered.ensures.rows,
       c.bound_along-other.ensures.rows,
       c.bound_along-near.ensures.rows,
-      c.bound_along.ensures.rows,
     ) at c.least_along.ensures.found))
 
 pub returns-clause-found : goal.returns-clause-found
@@ -146,12 +156,10 @@ returns-clause-found g t c =
     (rw (
       c.bound_along-other.ensures.rows,
       c.bound_along-near.ensures.rows,
-      c.bound_along.ensures.rows,
     ) at c.least_along-least.ensures.found)
     (rw (
       c.least_along-least.ensures.rows,
       c.bound_along-other.ensures.rows,
       c.bound_along-near.ensures.rows,
-      c.bound_along.ensures.rows,
     ) at
     c.least_along-2.ensures.found))
