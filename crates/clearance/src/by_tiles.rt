@@ -15,7 +15,6 @@ use crate::far_columns::are_tiles_far;
 use crate::found::Found;
 use crate::part::row_apart;
 use crate::rows::Rows;
-use crate::search::NO_LIMIT;
 use crate::seed::seeded;
 use crate::spot::{first_in_word, limit_with, merged};
 use crate::tiles::{NO_TILE, next_tile};

@@ -11,7 +11,7 @@ use crate::rows::Rows;
 use crate::search::{FAR_GAP, NO_LIMIT};
 use crate::spot::limit_with;
 use crate::tiles::{NO_TILE, after_last_tile, next_tile};
-use metric::{BAND_ROWS, LAST_FRAMED, MOST_SIDE, Metric, Rect, WORD_CELLS};
+use metric::{BAND_ROWS, MOST_SIDE, Metric, Rect, WORD_CELLS};
 
 /// A tile of a band, and a bound for the distances of its cells.
 #[derive(Clone, Copy, Debug, PartialEq, Eq)]

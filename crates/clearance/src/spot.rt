@@ -10,7 +10,7 @@ use crate::bit::{bits_below, bits_from, highest_bit, lowest_bit};
 use crate::found::Found;
 use crate::frame::better_of;
 use crate::search::NO_LIMIT;
-use metric::{Cell, LAST_FRAMED, MOST_SIDE, Metric, Rect, WORD_CELLS};
+use metric::{Cell, LAST_FRAMED, Metric, Rect, WORD_CELLS};
 
 /// The limit, or one above the distance of what is found: an obstacle equally near may come first.
 #[inline(always)]
