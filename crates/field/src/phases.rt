@@ -58,14 +58,9 @@ impl Phases {
             batch.now.bitmap.now.width line.new }
         ensures ready { IsNextLine batch.now self.new (y + 1) }
     {
-        self.columns.look(batch, y);
-        let framed = y + batch.edge.shift();
-        distances_from::<M>(
-            &self.columns.entries,
-            framed,
-            batch.edge,
-            &mut self.stack,
-            line,
-        );
+        let Phases { columns, stack } = self;
+        columns.look(batch, y);
+        let edge = batch.edge;
+        distances_from::<M>(&columns.entries, y + edge.shift(), edge, stack, line);
     }
 }
