@@ -1,5 +1,5 @@
-//! What is written for a cell of a row: its nearest obstacle, a part from which that follows, or its
-//! distance alone.
+//! What is written for a cell of a row: its nearest obstacle, a part from which that follows, or
+//! its distance alone.
 
 ghost use Rattle.std.specs.Prelude.{◌≡◌, ℕ, negsuc, pos, ◌≤ℤ◌, Option, Some, None};
 ghost use Rattle.metric.specs.Nearest.{spot_distance};

@@ -1,5 +1,6 @@
 -- The distances of the nearest obstacles of rows, and that they are distances within a map.
-use Rattle.std.proofs.Common.{◌≡◌, ℕ, zero, suc, ◌+◌, ◌<◌, ◌≤◌, ◌∙◌, sym, ◌⊎◌, inl, inr, ℤ, pos, negsuc, ◌≤ℤ◌}
+use Rattle.std.proofs.Common.{◌≡◌, ℕ, zero, suc, ◌+◌, ◌<◌, ◌≤◌, ◌∙◌, sym, ◌⊎◌, inl, inr}
+use Rattle.std.proofs.Common.{ℤ, pos, negsuc, ◌≤ℤ◌}
 use Rattle.std.proofs.Common.{◌-◌, ◌*◌, ◌/◌, ◌%◌, List, [], ◌++◌, length, slice_index, map, refl}
 use Rattle.std.proofs.Common.{slice_index_or, Option, None, Some, arith, length-append}
 use Rattle.std.proofs.lemmas.List.{get_or_append_left, get_or-append-add, get_or_past}

@@ -76,11 +76,10 @@ impl Script {
         self.put(b"\n")
     }
 
-    /// Makes a path of this many points between obstacles, each at most 24 cells from the one before
-    /// it.
-    pub fn go(&mut self, random: &mut Random, image: &Image, count: u32) -> Result<(), AllocError> {
+    /// Makes a path of this many points between obstacles, each at most 24 cells from the last.
+    pub fn go(&mut self, random: &mut Random, map: &Image, count: u32) -> Result<(), AllocError> {
         self.way.clear();
-        let mut at = image.some_free(random);
+        let mut at = map.some_free(random);
         let mut back = [random.below(2) == 0, random.below(2) == 0];
         for turn in 0..count {
             let across = turn % 2 == 0;
@@ -89,7 +88,7 @@ impl Script {
                 across,
                 back: if across { along } else { down },
             };
-            let next = image.walk(at, way, random.between(1, 24));
+            let next = map.walk(at, way, random.between(1, 24));
             if next == at || random.below(8) == 0 {
                 (along, down) = (along != across, down == across);
                 back = [along, down];

@@ -42,8 +42,8 @@ impl<M: Metric> Model for Table<M> {
 }
 
 impl<M: Metric + Sync> Table<M> {
-    /// The nearest obstacles of the cells of this bitmap with this edge, if asked for, or else their
-    /// distances, computed by this many workers, or by one if there are few cells.
+    /// The nearest obstacles of the cells of this bitmap with this edge, if asked for, or else
+    /// their distances, computed by this many workers, or by one if there are few cells.
     pub fn of<T: Threads + Sync>(
         rt: &T,
         alloc: Global,
@@ -141,8 +141,8 @@ impl<M: Metric + Sync> Table<M> {
         }
     }
 
-    /// Fills a line with the distances of the cells of row `y`, of a table that has no obstacles, in
-    /// the metric's unit; `u32::MAX` where there is no obstacle.
+    /// Fills a line with the distances of the cells of row `y`, of a table that has no obstacles,
+    /// in the metric's unit; `u32::MAX` where there is no obstacle.
     pub fn fill_distances(&self, y: u16, distances: &mut [u32])
         requires nearest { self.now.nearest ≡ false }
         requires row { y < self.now.height }

@@ -1,6 +1,6 @@
 -- One span less is left, and its cells are filled.
-use Rattle.std.proofs.Common.{◌≡◌, ◌+◌, ◌-◌, ◌<◌, ◌≤◌, ◌∙◌, ℕ, ◌⊎◌, List, length, inl, inr, refl, None, Some}
-use Rattle.std.proofs.Common.{arith, rules}
+use Rattle.std.proofs.Common.{◌≡◌, ◌+◌, ◌-◌, ◌<◌, ◌≤◌, ◌∙◌, ℕ, ◌⊎◌, List, length, inl, inr, refl}
+use Rattle.std.proofs.Common.{None, Some, arith, rules}
 use Rattle.std.proofs.lemmas.Bool.{cases_lt}
 use Rattle.metric.specs.Edge.{shift}
 use Rattle.envelope.specs.Columns.{IsAmong, IsColumnFrom, gap_of, near_from}

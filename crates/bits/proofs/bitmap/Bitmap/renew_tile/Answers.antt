@@ -1,7 +1,7 @@
 -- The write changes the tile's cells, and no other; none past the edge. Its mark is that of its new
 -- cells. Where neither the new cells nor the old ones have an obstacle, nothing changes.
-use Rattle.std.proofs.Common.{◌≡◌, ◌/◌, ◌%◌, List, ℕ, vec_len, length, sym, subst, ap, ◌∙◌, refl, arith}
-use Rattle.std.proofs.Common.{rules, true, false}
+use Rattle.std.proofs.Common.{◌≡◌, ◌/◌, ◌%◌, List, ℕ, vec_len, length, sym, subst, ap, ◌∙◌}
+use Rattle.std.proofs.Common.{refl, arith, rules, true, false}
 use Rattle.std.proofs.lemmas.List.{with_items_is}
 use Rattle.bits.specs.Bands.{IsBanded, AreBandsKept, AreTiled}
 use Rattle.bits.specs.Cells.{Cells}
