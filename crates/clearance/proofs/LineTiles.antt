@@ -1,5 +1,6 @@
 -- The first line of a strip that has an obstacle near, as obstacles are found by tiles.
-use Rattle.std.proofs.Common.{◌≡◌, ℕ, pos, ◌-◌, ◌<◌, ◌≤◌, min, max, None, refl, arith}
+use Rattle.std.proofs.Common.{◌≡◌, ℕ, ℤ, pos, ◌-◌, ◌<◌, ◌≤◌, inl, inr, min, max, None, refl, arith}
+use Rattle.std.proofs.lemmas.Bool.{cases_lt}
 use Rattle.std.specs.Int.{abs_diff}
 use Rattle.metric.specs.Crossing.{StaysNearer}
 use Rattle.metric.specs.Distance.{Grows}
@@ -76,3 +77,23 @@ IsFirstBefore-tiles distance grows stays cells lines end line rect bitmap of ord
     (IsLeastBelow-open distance cells rect lines.limit lines.limit
     (IsLeastInBits-none distance grows stays cells rect lines.limit bitmap none)) (omega arith) in
     record { from = far.from; within = order; near = near; before = far.before }
+
+-- the first of the lines before one that has an obstacle near is the first of all
+pub IsFirstBefore-longer : (distance : ℕ → ℕ → ℕ) (Obstacle : ℤ → ℤ → Type 0) (lines : Lines)
+    (end line first : ℕ) → line ≤ end
+    → (line < end → IsLineNear distance Obstacle lines.strip lines.limit line)
+    → IsFirstBefore distance Obstacle lines line first
+    → IsFirstBefore distance Obstacle lines end first
+IsFirstBefore-longer distance Obstacle lines end line first order near found =
+    let within = found.within in
+    record {
+      from = found.from;
+      within = omega (arith, within, order);
+      near = λ some. elim (cases_lt first line) [
+        | inl less ↦ found.near less
+        | inr last ↦
+            let same : first ≡ line = omega (arith, within, last) in
+            rw same (near (rw same at some))
+      ];
+      before = found.before;
+    }

@@ -14,6 +14,9 @@ use crate::segment::step_towards;
 use crate::strip::Strip;
 use metric::{Edge, LAST_FRAMED, Metric, Rect};
 
+/// The most searches by tiles for the lines of a strip.
+const MOST_TURNS: u8 = 4;
+
 /// The lines of a strip from one on, and the limit: an obstacle is near a line if its distance is
 /// below it.
 #[derive(Clone, Copy, Debug, PartialEq, Eq)]
@@ -87,7 +90,8 @@ impl Lines {
     }
 
     /// As `first_in_bits`, by tiles. Each row in which an obstacle is found near leaves fewer lines
-    /// for the next search.
+    /// for the next search; after a few of them the lines that are left are searched by rows, so
+    /// that no order of obstacles asks for many.
     fn first_by_tiles<M: Metric, R: Rows>(self, rows: &mut R, rect: Rect, end: u16) -> u16
         requires strip { IsStripIn (R.cells rows.old) self.strip }
         requires lines { IsRectOf self end rect }
@@ -96,7 +100,10 @@ impl Lines {
         ensures rows { rows.new ≡ rows.old }
     {
         let (mut line, mut left) = (end, rect);
-        'lines: while let Some(found) = first_by_tiles::<M, R>(rows, left, self.limit) {
+        'turns: for _turn in 0..MOST_TURNS {
+            let Some(found) = first_by_tiles::<M, R>(rows, left, self.limit) else {
+                return line;
+            };
             let next = self.first_by_quarters::<M, R>(rows, Part::Row(found.cell.y), line - 1);
             if next <= self.first {
                 return next;
@@ -104,7 +111,7 @@ impl Lines {
             left = self.rect_left(left, line, next);
             line = next;
         }
-        line
+        self.first_by_rows::<M, R>(rows, left, line)
     }
 
     /// As `first_in_bits`, by rows.

@@ -6,8 +6,8 @@ use Rattle.clearance.specs.Lines.{IsRectOf}
 use Rattle.clearance.specs.Strips.{IsLineNear}
 use Rattle.clearance.proofs.lines.Lines.first_by_tiles.Given as goal
 
-abbrev pub invariant-lines : goal.invariant-lines
-invariant-lines g l = record {
+abbrev pub invariant-turns : goal.invariant-turns
+invariant-turns g l = record {
   rows : l.rows ≡ l.fn.rows;
   left : IsRectOf l.self l.line l.left;
   order : l.line ≤ l.end;
@@ -15,6 +15,3 @@ invariant-lines g l = record {
       → IsLineNear g.M.Metric.distance (IsBlocked (g.R.Rows.cells l.fn.rows) Open) l.self.strip
       l.self.limit l.line;
 }
-
-abbrev pub decreases-lines : goal.decreases-lines
-decreases-lines g l = l.line
