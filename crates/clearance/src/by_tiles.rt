@@ -72,7 +72,7 @@ fn rows_within<M: Metric>(columns: u16, limit: u64) -> u16
 
 /// Whether cells this many columns and rows away are no nearer than the limit.
 #[inline(always)]
-fn is_away<M: Metric>(columns: u16, rows: u16, limit: u64) -> bool
+pub fn is_away<M: Metric>(columns: u16, rows: u16, limit: u64) -> bool
     requires columns { columns ≤ MOST_SIDE }
     requires rows { rows ≤ LAST_FRAMED }
     ensures { result ≡ true → IsFar (M.distance columns rows) limit }

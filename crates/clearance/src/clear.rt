@@ -13,17 +13,20 @@ use crate::rows::Rows;
 use metric::{MOST_SIDE, Metric, Rect, WORD_CELLS};
 
 /// Obstacles this many columns or rows away aren't close.
-const MOST_REACH: u16 = 32;
+pub const MOST_REACH: u16 = 32;
 
-/// Whether no obstacle is nearer to the rectangle than the limit, where a few columns and rows
-/// decide it: looks at the box of those that may have one nearer.
-pub fn is_clear_round<M: Metric, R: Rows>(rows: &mut R, rect: Rect, limit: u64) -> bool
-    requires { IsRectIn (R.cells rows.old) rect }
-    ensures clear { result ≡ true
+/// Whether no obstacle lies less than this many columns and rows outside the rectangle: looks at
+/// the box of those that may. False for 32 or more.
+pub fn is_clear_within<M: Metric, R: Rows>(rows: &mut R, rect: Rect, reach: u16) -> bool
+    requires rect { IsRectIn (R.cells rows.old) rect }
+    requires some { 0 < reach }
+    ensures few { result ≡ true → reach < MOST_REACH }
+    ensures clear { result ≡ true → (limit : ℕ) → IsFar (M.distance reach 0) limit
+        → IsFar (M.distance 0 reach) limit
         → IsSpotBelow M.distance (IsObstacle (R.cells rows.old)) rect limit None }
     ensures rows { rows.new ≡ rows.old }
 {
-    let (width, height, reach) = (rows.width(), rows.height(), small_reach::<M>(limit));
+    let (width, height) = (rows.width(), rows.height());
     if reach >= MOST_REACH {
         return false;
     }
@@ -36,7 +39,7 @@ pub fn is_clear_round<M: Metric, R: Rows>(rows: &mut R, rect: Rect, limit: u64) 
 
 /// The least number of columns and rows, below 32, such that cells as far away are no nearer than
 /// the limit; 32 if there is none.
-fn small_reach<M: Metric>(limit: u64) -> u16
+pub fn small_reach<M: Metric>(limit: u64) -> u16
     ensures some { 0 < result }
     ensures few { result ≤ MOST_REACH }
     ensures columns { result < MOST_REACH → IsFar (M.distance result 0) limit }
@@ -44,6 +47,9 @@ fn small_reach<M: Metric>(limit: u64) -> u16
 {
     if !is_reach::<M>(MOST_REACH - 1, limit) {
         return MOST_REACH;
+    }
+    if is_reach::<M>(1, limit) {
+        return 1;
     }
     let (mut low, mut high) = (1, MOST_REACH - 1);
     'halves: while low < high {
@@ -129,7 +135,7 @@ fn is_blank_in_word<R: Rows>(rows: &mut R, y: u16, index: u16, left: u16, right:
 
 /// Clears the bits of a word that are columns to the left of one or to the right of another.
 #[inline(always)]
-fn cut_word(word: u64, index: u16, left: u16, right: u16) -> u64
+pub fn cut_word(word: u64, index: u16, left: u16, right: u16) -> u64
     requires from { left / WORD_CELLS ≤ index }
     requires to { index ≤ right / WORD_CELLS }
     requires few { right < MOST_SIDE }

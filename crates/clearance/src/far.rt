@@ -7,7 +7,7 @@ ghost use Rattle.clearance.specs.Nearest.{IsNearCell};
 ghost use Rattle.clearance.specs.Search.{IsLeastInBits, IsRectIn};
 
 use crate::by_tiles::first_by_tiles;
-use crate::clear::is_clear_round;
+use crate::clear::{is_clear_within, small_reach};
 use crate::found::Found;
 use crate::nearest::{cell_rect, nearest_by_rows};
 use crate::rows::{Rows, holds};
@@ -21,13 +21,14 @@ pub fn least_in_bits<M: Metric, R: Rows>(rows: &mut R, rect: Rect, limit: u64) -
     ensures least { IsLeastInBits M.distance (IsObstacle (R.cells rows.old)) rect limit result }
     ensures rows { rows.new ≡ rows.old }
 {
-    if is_clear_round::<M, R>(rows, rect, limit) {
+    let reach = small_reach::<M>(limit);
+    if is_clear_within::<M, R>(rows, rect, reach) {
         return limit;
     }
     if seems_far::<M, R>(rows, rect, limit) {
         least_by_tiles::<M, R>(rows, rect, limit)
     } else {
-        least_by_rows::<M, R>(rows, rect, limit)
+        least_by_rows::<M, R>(rows, rect, limit, reach)
     }
 }
 

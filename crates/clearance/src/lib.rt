@@ -7,6 +7,7 @@
 
 mod area;
 mod band;
+mod beside;
 mod bit;
 mod border;
 mod bound;

@@ -10,7 +10,7 @@ use crate::far_bands::rows_apart;
 use crate::rows::Rows;
 use crate::search::{FAR_GAP, NO_LIMIT};
 use crate::spot::limit_with;
-use crate::tiles::{NO_TILE, after_last_tile, next_tile};
+use crate::tiles::{NO_TILE, after_last_tile, is_marked_tile, next_tile};
 use metric::{BAND_ROWS, MOST_SIDE, Metric, Rect, WORD_CELLS};
 
 /// A tile of a band, and a bound for the distances of its cells.
@@ -107,9 +107,12 @@ pub fn seems_far<M: Metric, R: Rows>(rows: &R, rect: Rect, limit: u64) -> bool {
     if u64::from(M::of(0, FAR_GAP)) >= limit {
         return false;
     }
+    let most = u32::from(rect.y1 - rect.y0) / ROWS_A_TILE;
+    if most == 0 && is_marked_tile(rows.tiles(rect.y0 / BAND_ROWS), rect.x0 / WORD_CELLS) {
+        return false;
+    }
     let (left, right) = places_near(rect.x0, rect.x1);
     let (top, bottom) = places_near(rect.y0, rect.y1);
-    let most = u32::from(rect.y1 - rect.y0) / ROWS_A_TILE;
     let mut count = 0;
     'bands: for band in top..bottom + 1 {
         count += bits_through(bits_from(rows.tiles(band), left), right).count_ones();
