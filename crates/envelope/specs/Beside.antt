@@ -1,7 +1,7 @@
 -- What is known of cells whose columns are searched in vectors, from the nearest outwards: this
 -- project's own rule. Each column has a place, 128 after its number, so that there are places on
 -- both sides of all columns.
-use Rattle.std.specs.Prelude.{◌≡◌, ℕ, ◌+◌, ◌-◌, ◌<◌, ◌≤◌, List, length, slice_index, Some}
+use Rattle.std.specs.Prelude.{◌≡◌, ℕ, ◌+◌, ◌-◌, ◌/◌, ◌<◌, ◌≤◌, List, length, slice_index, Some}
 use Rattle.std.specs.Int.{abs_diff}
 use Rattle.metric.specs.Edge.{spot_of}
 use Rattle.metric.specs.declared.edge.Edge.{Edge}
@@ -20,6 +20,12 @@ pub record AreColumnParts (part : ℕ → ℕ) (entries : List ℕ) (y : ℕ) (p
   pub before : (p : ℕ) → p < 128 → slice_index parts p ≡ 32400
   pub behind : (p : ℕ) → length entries + 128 ≤ p → p < length entries + 272
       → slice_index parts p ≡ 32400
+
+-- the reaches of up to 97 columns, each eight times
+pub record AreReaches (reach : ℕ → ℕ) (reaches : List ℕ) : Type 0 where
+  pub as_many : length reaches ≡ 784
+  pub few : (p : ℕ) → p < 784 → slice_index reaches p ≤ 9409
+  pub each : (p : ℕ) → p < 784 → slice_index reaches p ≡ reach (p / 8)
 
 -- the 16-bit distance from the cell of one place to the obstacle of another
 abbrev pub small_distance : (ℕ → ℕ → ℕ) → (ℕ → ℕ → ℕ) → List ℕ → ℕ → ℕ → ℕ

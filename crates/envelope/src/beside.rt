@@ -10,7 +10,9 @@
 ghost use Rattle.std.specs.Prelude.{◌≡◌, ℕ, negsuc, pos, ◌+◌, ◌-◌, ◌*◌, ◌≤ℤ◌, ◌<◌, ◌≤◌, ◌⊎◌};
 ghost use Rattle.std.specs.Prelude.{length, slice_index, slice_index_or, Some, IfSome};
 ghost use Rattle.metric.specs.Edge.{shift, spot_of};
-ghost use Rattle.envelope.specs.Beside.{AreBestNear, AreDecided, AreColumnParts, AreSmall, AreTold};
+ghost use Rattle.metric.specs.Lanes.{AreUpTo};
+ghost use Rattle.envelope.specs.Beside.{AreBestNear, AreDecided, AreColumnParts, AreReaches};
+ghost use Rattle.envelope.specs.Beside.{AreSmall, AreTold};
 ghost use Rattle.envelope.specs.Columns.{AreEntries, AreSaid, IsSaid};
 ghost use Rattle.envelope.specs.Pieces.{IsLeftBound, IsRightBound};
 
@@ -34,6 +36,9 @@ const NO_PART: u16 = 32400;
 
 /// The most columns searched on each side before a cell is given up.
 const FARTHEST: u16 = 96;
+
+/// How many reaches a row needs, each eight times.
+const REACHES: usize = 8 * 98;
 
 /// The steps outwards that a row may always take.
 const FREE_STEPS: u32 = 150;
@@ -76,19 +81,21 @@ pub fn fill_beside<M: Metric, A: CellValue, B: Border>(
 {
     let parts = &mut parts[..entries.len() + SPARE];
     set_parts::<M>(entries, y, parts);
+    let mut reaches = [0u16; REACHES];
+    set_reaches::<M>(&mut reaches);
     let mut left = steps_for(entries);
     let before = usize::from(B::EDGE.shift());
     let mut start = 0;
     'cells: while start < answers.len() {
         let at = start + before;
-        if let Some((low, high, steps)) = search::<M>(parts, at + FIRST, left) {
+        if let Some((low, high, steps)) = search::<M>(parts, &reaches, at + FIRST, left) {
             fill_eight::<M, A, B>(entries, y, start, low, answers);
             fill_eight::<M, A, B>(entries, y, start + 8, high, answers);
             left = left.saturating_sub(steps);
             start += 16;
         } else {
-            let first = first_column::<M>(entries, y, parts, at);
-            let (end, last, steps) = next_found::<M>(entries, y, parts, at, left);
+            let first = first_column::<M>(entries, y, parts, &reaches, at);
+            let (end, last, steps) = next_found::<M>(entries, y, parts, &reaches, at, left);
             let piece = Piece {
                 from: at,
                 end,
@@ -106,17 +113,24 @@ pub fn fill_beside<M: Metric, A: CellValue, B: Border>(
 /// The column nearest to the cell before `start`, if it is found close by with its neighbours;
 /// otherwise the first column.
 #[inline(never)]
-fn first_column<M: Metric>(entries: &[u16], y: u16, parts: &[u16], start: usize) -> usize
+fn first_column<M: Metric>(
+    entries: &[u16],
+    y: u16,
+    parts: &[u16],
+    reaches: &[u16],
+    start: usize,
+) -> usize
     requires laned { 0 < M.reach_of 1 }
     requires entries { AreEntries entries.now y }
     requires parts { AreColumnParts M.part_of entries.now y parts.now }
+    requires reaches { AreReaches M.reach_of reaches.now }
     requires start { start < length entries.now }
     ensures { IsLeftBound M.distance entries.now y start result }
 {
     if start < 16 {
         return 0;
     }
-    match search::<M>(parts, start - 16 + FIRST, FARTHEST) {
+    match search::<M>(parts, reaches, start - 16 + FIRST, FARTHEST) {
         Some((_, high, _)) => column_of(start - 1, high.away, 7),
         None => 0,
     }
@@ -130,19 +144,21 @@ fn next_found<M: Metric>(
     entries: &[u16],
     y: u16,
     parts: &[u16],
+    reaches: &[u16],
     start: usize,
     most: u16,
 ) -> (usize, usize, u16)
     requires laned { 0 < M.reach_of 1 }
     requires entries { AreEntries entries.now y }
     requires parts { AreColumnParts M.part_of entries.now y parts.now }
+    requires reaches { AreReaches M.reach_of reaches.now }
     requires start { start < length entries.now }
     ensures further { start < result.0 }
     ensures bound { IsRightBound M.distance entries.now y result.0 result.1 }
 {
     let (mut at, mut apart, mut steps) = (start + 16, 16, FARTHEST);
     'groups: while at < entries.len() && steps < most {
-        if let Some((low, _, more)) = search::<M>(parts, at + FIRST, most - steps) {
+        if let Some((low, _, more)) = search::<M>(parts, reaches, at + FIRST, most - steps) {
             return (
                 at,
                 column_of(at, low.away, 0) + 1,
@@ -196,12 +212,40 @@ fn set_parts<M: Metric>(entries: &[u16], y: u16, parts: &mut [u16])
     }
 }
 
+/// Sets the reaches of up to 97 columns, each eight times.
+#[inline(never)]
+fn set_reaches<M: Metric>(reaches: &mut [u16])
+    requires { length reaches.old ≡ REACHES }
+    ensures { AreReaches M.reach_of reaches.new }
+{
+    'places: for place in 0..REACHES {
+        reaches[place] = M::reach((place / 8) as u16);
+    }
+}
+
+/// The reach of this many columns, in eight lanes.
+#[inline(always)]
+fn reach_at<M: Metric>(reaches: &[u16], k: u16) -> u16x8
+    requires reaches { AreReaches M.reach_of reaches.now }
+    requires few { k ≤ 97 }
+    ensures each { (i : ℕ) → i < 8 → slice_index result i ≡ M.reach_of k }
+    ensures few { AreUpTo 9409 result }
+{
+    load(reaches, 8 * usize::from(k))
+}
+
 /// The nearest columns of sixteen cells, from the one at `at` on, and how many steps that took;
 /// `None` if one of them has none within this many steps, or close by.
 #[inline(always)]
-fn search<M: Metric>(parts: &[u16], at: usize, most: u16) -> Option<(Eight, Eight, u16)>
+fn search<M: Metric>(
+    parts: &[u16],
+    reaches: &[u16],
+    at: usize,
+    most: u16,
+) -> Option<(Eight, Eight, u16)>
     requires laned { 0 < M.reach_of 1 }
     requires small { AreSmall parts.now }
+    requires reaches { AreReaches M.reach_of reaches.now }
     requires left { 128 ≤ at }
     requires right { at + 144 ≤ length parts.now }
     ensures low { IfSome result
@@ -212,15 +256,15 @@ fn search<M: Metric>(parts: &[u16], at: usize, most: u16) -> Option<(Eight, Eigh
     let mut low = look_here::<M>(parts, at);
     let mut high = look_here::<M>(parts, at + 8);
     let mut k = 1u16;
-    let end = most.min(FARTHEST);
+    let end = most.min(FARTHEST - 2);
     'columns: while k < end {
         let reach = M::reach(k);
         if are_below(low.best, reach) && are_below(high.best, reach) {
             return Some((low, high, k));
         }
-        low = look_twice::<M>(parts, at, k, low);
-        high = look_twice::<M>(parts, at + 8, k, high);
-        k += 2;
+        low = look_four_times::<M>(parts, reaches, at, k, low);
+        high = look_four_times::<M>(parts, reaches, at + 8, k, high);
+        k += 4;
     }
     None
 }
@@ -239,39 +283,64 @@ fn look_here<M: Metric>(parts: &[u16], at: usize) -> Eight
     }
 }
 
-/// Also the columns `k` and `k + 1` columns to either side of eight cells.
+/// Also the columns `k` to `k + 3` columns to either side of eight cells.
 #[inline(always)]
-fn look_twice<M: Metric>(parts: &[u16], at: usize, k: u16, eight: Eight) -> Eight
+fn look_four_times<M: Metric>(
+    parts: &[u16],
+    reaches: &[u16],
+    at: usize,
+    k: u16,
+    eight: Eight,
+) -> Eight
     requires laned { 0 < M.reach_of 1 }
     requires small { AreSmall parts.now }
+    requires reaches { AreReaches M.reach_of reaches.now }
     requires left { 128 ≤ at }
     requires right { at + 136 ≤ length parts.now }
     requires some { 1 ≤ k }
-    requires few { k ≤ 96 }
+    requires few { k ≤ 93 }
+    requires found { AreBestNear M.distance M.joined parts.now at k eight.best eight.away }
+    ensures { AreBestNear M.distance M.joined parts.now at (k + 4) result.best result.away }
+{
+    let next = look_twice::<M>(parts, reaches, at, k, eight);
+    look_twice::<M>(parts, reaches, at, k + 2, next)
+}
+
+/// Also the columns `k` and `k + 1` columns to either side of eight cells.
+#[inline(always)]
+fn look_twice<M: Metric>(parts: &[u16], reaches: &[u16], at: usize, k: u16, eight: Eight) -> Eight
+    requires laned { 0 < M.reach_of 1 }
+    requires small { AreSmall parts.now }
+    requires reaches { AreReaches M.reach_of reaches.now }
+    requires left { 128 ≤ at }
+    requires right { at + 136 ≤ length parts.now }
+    requires some { 1 ≤ k }
+    requires few { k ≤ 95 }
     requires found { AreBestNear M.distance M.joined parts.now at k eight.best eight.away }
     ensures { AreBestNear M.distance M.joined parts.now at (k + 2) result.best result.away }
 {
-    let next = look_aside::<M>(parts, at, k, eight.best, eight.away);
-    look_aside::<M>(parts, at, k + 1, next.best, next.away)
+    let next = look_aside::<M>(parts, reaches, at, k, eight);
+    look_aside::<M>(parts, reaches, at, k + 1, next)
 }
 
 /// Also the columns `k` columns to either side of eight cells. On the left a column wins if it
 /// isn't worse, on the right if it is better.
 #[inline(always)]
-fn look_aside<M: Metric>(parts: &[u16], at: usize, k: u16, best: u16x8, away: u16x8) -> Eight
+fn look_aside<M: Metric>(parts: &[u16], reaches: &[u16], at: usize, k: u16, eight: Eight) -> Eight
     requires laned { 0 < M.reach_of 1 }
     requires small { AreSmall parts.now }
+    requires reaches { AreReaches M.reach_of reaches.now }
     requires left { 128 ≤ at }
     requires right { at + 136 ≤ length parts.now }
     requires some { 1 ≤ k }
     requires few { k ≤ 97 }
-    requires found { AreBestNear M.distance M.joined parts.now at k best away }
+    requires found { AreBestNear M.distance M.joined parts.now at k eight.best eight.away }
     ensures { AreBestNear M.distance M.joined parts.now at (k + 1) result.best result.away }
 {
-    let reach = all_of(M::reach(k));
+    let reach = reach_at::<M>(reaches, k);
     let left = M::join(load(parts, at - usize::from(k)), reach);
-    let better = least(best, left);
-    let to_left = chosen(better, left, all_of(128 - k), away);
+    let better = least(eight.best, left);
+    let to_left = chosen(better, left, all_of(128 - k), eight.away);
     let right = M::join(load(parts, at + usize::from(k)), reach);
     let best = least(better, right);
     Eight {
@@ -302,10 +371,43 @@ fn fill_eight<M: Metric, A: CellValue, B: Border>(
     ensures others { (x : ℕ) → (x < start) ⊎ (start + 8 ≤ x)
         → slice_index_or answers.new x A.unset ≡ slice_index_or answers.old x A.unset }
 {
+    let count = (answers.len().max(start) - start).min(8);
+    if count == 8 {
+        fill_lanes::<M, A, B>(entries, y, start, eight, 8, answers);
+    } else {
+        fill_lanes::<M, A, B>(entries, y, start, eight, count, answers);
+    }
+}
+
+/// Fills as many cells, up to eight.
+// Inlined, so that a constant count makes a loop that the compiler unrolls.
+#[inline(always)]
+fn fill_lanes<M: Metric, A: CellValue, B: Border>(
+    entries: &[u16],
+    y: u16,
+    start: usize,
+    eight: Eight,
+    count: usize,
+    answers: &mut [A],
+)
+    requires entries { AreEntries entries.now y }
+    requires row { shift B.EDGE ≤ y }
+    requires width { length answers.old + 2 * shift B.EDGE ≡ length entries.now }
+    requires start { start ≤ 4113 }
+    requires count { count ≤ 8 }
+    requires inside { 0 < count → start + count ≤ length answers.old }
+    requires told { AreTold M.distance entries.now y B.EDGE
+        (start + shift B.EDGE) eight.best eight.away }
+    ensures len { length answers.new ≡ length answers.old }
+    ensures filled { (x : ℕ) → start ≤ x → x < start + count
+        → IsSaid A.says M.distance entries.now y B.EDGE x
+        (slice_index_or answers.new x A.unset) }
+    ensures others { (x : ℕ) → (x < start) ⊎ (start + 8 ≤ x)
+        → slice_index_or answers.new x A.unset ≡ slice_index_or answers.old x A.unset }
+{
     let (best, away) = (eight.best.to_array(), eight.away.to_array());
     let edge = B::EDGE;
     let first = usize::from(edge.shift());
-    let count = (answers.len().max(start) - start).min(8);
     'cells: for lane in 0..count {
         let x = start + lane + first;
         answers[start + lane] = A::with(near(entries, edge, x, best[lane], away[lane]));

@@ -11,7 +11,7 @@ returns g c i within =
     let left_at : c.args.at - c.from.result + i ≡ at + i - k =
     omega (arith, c.from.ensures, c.requires.left, c.requires.few) in
     let right_at : at + c.from-2.result + i ≡ at + i + k = omega (arith, c.from-2.ensures) in
-    let reach = c.all_of-reach.ensures i within ∙ c.reach.ensures.reach
+    let reach = c.reach_at-reach.ensures.each i within
     ∙ g.met.M.Metric.reaches c.requires.laned k c.requires.few in
     let left = c.join-left.ensures i within
     ∙ ap₂ g.M.Metric.joined (c.load.ensures i within ∙ ap (slice_index parts) left_at) reach in
@@ -19,8 +19,9 @@ returns g c i within =
     ∙ ap₂ g.M.Metric.joined (c.load-2.ensures i within ∙ ap (slice_index parts) right_at) reach in
     let to_left = rw (c.all_of.ensures i within) at (c.chosen-to_left.ensures i within) in
     let to_right = rw (c.all_of-2.ensures i within) at (c.chosen.ensures i within) in
-    best_wider g.M.Metric.distance g.M.Metric.joined parts (at + i) k (slice_index c.args.best i)
-    (slice_index c.args.away i) (slice_index c.join-left.result i)
+    best_wider g.M.Metric.distance g.M.Metric.joined parts (at + i) k
+    (slice_index c.args.eight.best i)
+    (slice_index c.args.eight.away i) (slice_index c.join-left.result i)
     (slice_index c.join-right.result i)
     (slice_index c.least-better.result i) (slice_index c.chosen-to_left.result i)
     (slice_index c.least-best.result i) (slice_index c.chosen.result i)

@@ -1,6 +1,6 @@
 -- The spans that are left are those of the cells before the end, and the cells of the piece from
 -- there on are filled.
-use Rattle.std.proofs.Common.{◌≡◌, ℕ, ◌+◌, ◌-◌, ◌<◌, ◌≤◌, ◌⊎◌, length, slice_index_or}
+use Rattle.std.proofs.Common.{◌≡◌, ℕ, ◌+◌, ◌<◌, ◌≤◌, ◌⊎◌, length, slice_index_or}
 use Rattle.metric.specs.Edge.{shift}
 use Rattle.envelope.specs.Columns.{IsColumnFrom, IsSaid, gap_of}
 use Rattle.envelope.specs.Envelope.{IsEnvelope}

@@ -1,8 +1,7 @@
 -- The cells so far are filled, and all others are as before.
-use Rattle.std.proofs.Common.{◌≡◌, ℕ, ◌+◌, ◌-◌, ◌<◌, ◌≤◌, ◌⊎◌, length, slice_index_or}
-use Rattle.metric.specs.Edge.{shift}
+use Rattle.std.proofs.Common.{◌≡◌, ℕ, ◌+◌, ◌<◌, ◌≤◌, ◌⊎◌, length, slice_index_or}
 use Rattle.envelope.specs.Columns.{IsSaid}
-use Rattle.envelope.proofs.beside.fill_eight.Given as goal
+use Rattle.envelope.proofs.beside.fill_lanes.Given as goal
 
 abbrev pub invariant-cells : goal.invariant-cells
 invariant-cells g l = record {

@@ -1,10 +1,10 @@
 -- One more cell is filled with what was found.
-use Rattle.std.proofs.Common.{◌≡◌, ◌+◌, ◌-◌, ◌<◌, length, Some, ◌∙◌, arith, rules}
+use Rattle.std.proofs.Common.{◌≡◌, ◌+◌, ◌<◌, length, Some, ◌∙◌, arith, rules}
 use Rattle.metric.specs.Edge.{shift}
 use Rattle.envelope.specs.Columns.{IsNearColumn, IsSaid}
 use Rattle.envelope.proofs.Filling.{set_more}
 use Rattle.envelope.proofs.Nears.{said_kept}
-use Rattle.envelope.proofs.beside.fill_eight.Goals as goal
+use Rattle.envelope.proofs.beside.fill_lanes.Goals as goal
 
 pub cells-preserved : goal.cells-preserved
 cells-preserved g c =
@@ -17,10 +17,10 @@ cells-preserved g c =
     let where_is : p + c.from-first.result ≡ c.args.start + shift edge + c.cells.lane =
     omega (arith, first) in
     let place : c.args.start + shift edge + c.cells.lane ≡ p + shift edge = omega arith in
+    let some = c.requires.inside (omega (arith, c.cells-test.true)) in
     let inside : p < length c.cells.answers =
-    omega (arith, c.cells.invariant.width, c.cells-test.true, c.max.ensures, c.min-count.ensures)
-    in
-    let found = c.requires.told c.cells.lane (omega (arith, c.cells-test.true, c.min-count.ensures))
+    omega (arith, some, c.cells.invariant.width, c.cells-test.true) in
+    let found = c.requires.told c.cells.lane (omega (arith, c.cells-test.true, c.requires.count))
     (omega (arith, inside, c.cells.invariant.width, c.requires.width)) in
     let near : IsNearColumn distance c.args.entries.now c.args.y edge (p + shift edge)
     (Some c.near.result) = rw (← place, rw (where_is, c.EDGE-edge.ensures) at c.near.ensures.near)
