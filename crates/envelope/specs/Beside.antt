@@ -27,6 +27,12 @@ pub record AreReaches (reach : ℕ → ℕ) (reaches : List ℕ) : Type 0 where
   pub few : (p : ℕ) → p < 784 → slice_index reaches p ≤ 9409
   pub each : (p : ℕ) → p < 784 → slice_index reaches p ≡ reach (p / 8)
 
+-- the offsets, from 128 columns to the left of each of eight cells, of the columns as far to the
+-- left and to the right
+abbrev pub AreSides : ℕ → List ℕ → List ℕ → Type 0
+AreSides k left right =
+    (i : ℕ) → i < 8 → (slice_index left i + k ≡ 128) × (slice_index right i ≡ 128 + k)
+
 -- the 16-bit distance from the cell of one place to the obstacle of another
 abbrev pub small_distance : (ℕ → ℕ → ℕ) → (ℕ → ℕ → ℕ) → List ℕ → ℕ → ℕ → ℕ
 small_distance distance joined parts place other =

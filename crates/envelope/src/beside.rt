@@ -12,14 +12,14 @@ ghost use Rattle.std.specs.Prelude.{length, slice_index, slice_index_or, Some, I
 ghost use Rattle.metric.specs.Edge.{shift, spot_of};
 ghost use Rattle.metric.specs.Lanes.{AreUpTo};
 ghost use Rattle.envelope.specs.Beside.{AreBestNear, AreDecided, AreColumnParts, AreReaches};
-ghost use Rattle.envelope.specs.Beside.{AreSmall, AreTold};
+ghost use Rattle.envelope.specs.Beside.{AreSides, AreSmall, AreTold};
 ghost use Rattle.envelope.specs.Columns.{AreEntries, AreSaid, IsSaid};
 ghost use Rattle.envelope.specs.Pieces.{IsLeftBound, IsRightBound};
 
 use crate::answer::CellValue;
 use crate::border::Border;
 use crate::cover::Span;
-use crate::lanes::{all_of, are_below, chosen, least, load};
+use crate::lanes::{all_of, are_below, chosen, difference, least, load, sum};
 use crate::piece::{Piece, fill_piece};
 use column::NONE;
 use metric::{Edge, FRAMED_SIDE, LAST_FRAMED, Metric, Near};
@@ -57,6 +57,42 @@ const MOST_STEPS: u32 = 20_000;
 struct Eight {
     best: u16x8,
     away: u16x8,
+}
+
+/// The offsets of columns to the left and to the right of eight cells.
+#[derive(Clone, Copy)]
+struct Sides {
+    left: u16x8,
+    right: u16x8,
+}
+
+impl Sides {
+    ghost use Rattle.envelope.specs.Beside.{AreSides};
+
+    /// The columns next to the cells.
+    #[inline(always)]
+    fn next() -> Sides
+        ensures { AreSides 1 result.left result.right }
+    {
+        Sides {
+            left: all_of(127),
+            right: all_of(129),
+        }
+    }
+
+    /// The columns `more` columns farther away than these, which are `_k` columns away.
+    #[inline(always)]
+    fn farther(self, _k: u16, more: u16) -> Sides
+        requires sides { AreSides _k self.left self.right }
+        requires few { _k + more ≤ 128 }
+        ensures { AreSides (_k + more) result.left result.right }
+    {
+        let more = all_of(more);
+        Sides {
+            left: difference(self.left, more),
+            right: sum(self.right, more),
+        }
+    }
 }
 
 /// Fills the row with the obstacle of the column nearest to each cell. Returns whether most cells
@@ -255,15 +291,16 @@ fn search<M: Metric>(
 {
     let mut low = look_here::<M>(parts, at);
     let mut high = look_here::<M>(parts, at + 8);
-    let mut k = 1u16;
+    let (mut k, mut sides) = (1u16, Sides::next());
     let end = most.min(FARTHEST - 2);
     'columns: while k < end {
         let reach = M::reach(k);
         if are_below(low.best, reach) && are_below(high.best, reach) {
             return Some((low, high, k));
         }
-        low = look_four_times::<M>(parts, reaches, at, k, low);
-        high = look_four_times::<M>(parts, reaches, at + 8, k, high);
+        low = look_four_times::<M>(parts, reaches, at, k, sides, low);
+        high = look_four_times::<M>(parts, reaches, at + 8, k, sides, high);
+        sides = sides.farther(k, 4);
         k += 4;
     }
     None
@@ -290,11 +327,13 @@ fn look_four_times<M: Metric>(
     reaches: &[u16],
     at: usize,
     k: u16,
+    sides: Sides,
     eight: Eight,
 ) -> Eight
     requires laned { 0 < M.reach_of 1 }
     requires small { AreSmall parts.now }
     requires reaches { AreReaches M.reach_of reaches.now }
+    requires sides { AreSides k sides.left sides.right }
     requires left { 128 ≤ at }
     requires right { at + 136 ≤ length parts.now }
     requires some { 1 ≤ k }
@@ -302,16 +341,24 @@ fn look_four_times<M: Metric>(
     requires found { AreBestNear M.distance M.joined parts.now at k eight.best eight.away }
     ensures { AreBestNear M.distance M.joined parts.now at (k + 4) result.best result.away }
 {
-    let next = look_twice::<M>(parts, reaches, at, k, eight);
-    look_twice::<M>(parts, reaches, at, k + 2, next)
+    let next = look_twice::<M>(parts, reaches, at, k, sides, eight);
+    look_twice::<M>(parts, reaches, at, k + 2, sides.farther(k, 2), next)
 }
 
 /// Also the columns `k` and `k + 1` columns to either side of eight cells.
 #[inline(always)]
-fn look_twice<M: Metric>(parts: &[u16], reaches: &[u16], at: usize, k: u16, eight: Eight) -> Eight
+fn look_twice<M: Metric>(
+    parts: &[u16],
+    reaches: &[u16],
+    at: usize,
+    k: u16,
+    sides: Sides,
+    eight: Eight,
+) -> Eight
     requires laned { 0 < M.reach_of 1 }
     requires small { AreSmall parts.now }
     requires reaches { AreReaches M.reach_of reaches.now }
+    requires sides { AreSides k sides.left sides.right }
     requires left { 128 ≤ at }
     requires right { at + 136 ≤ length parts.now }
     requires some { 1 ≤ k }
@@ -319,17 +366,25 @@ fn look_twice<M: Metric>(parts: &[u16], reaches: &[u16], at: usize, k: u16, eigh
     requires found { AreBestNear M.distance M.joined parts.now at k eight.best eight.away }
     ensures { AreBestNear M.distance M.joined parts.now at (k + 2) result.best result.away }
 {
-    let next = look_aside::<M>(parts, reaches, at, k, eight);
-    look_aside::<M>(parts, reaches, at, k + 1, next)
+    let next = look_aside::<M>(parts, reaches, at, k, sides, eight);
+    look_aside::<M>(parts, reaches, at, k + 1, sides.farther(k, 1), next)
 }
 
 /// Also the columns `k` columns to either side of eight cells. On the left a column wins if it
 /// isn't worse, on the right if it is better.
 #[inline(always)]
-fn look_aside<M: Metric>(parts: &[u16], reaches: &[u16], at: usize, k: u16, eight: Eight) -> Eight
+fn look_aside<M: Metric>(
+    parts: &[u16],
+    reaches: &[u16],
+    at: usize,
+    k: u16,
+    sides: Sides,
+    eight: Eight,
+) -> Eight
     requires laned { 0 < M.reach_of 1 }
     requires small { AreSmall parts.now }
     requires reaches { AreReaches M.reach_of reaches.now }
+    requires sides { AreSides k sides.left sides.right }
     requires left { 128 ≤ at }
     requires right { at + 136 ≤ length parts.now }
     requires some { 1 ≤ k }
@@ -340,12 +395,12 @@ fn look_aside<M: Metric>(parts: &[u16], reaches: &[u16], at: usize, k: u16, eigh
     let reach = reach_at::<M>(reaches, k);
     let left = M::join(load(parts, at - usize::from(k)), reach);
     let better = least(eight.best, left);
-    let to_left = chosen(better, left, all_of(128 - k), eight.away);
+    let to_left = chosen(better, left, sides.left, eight.away);
     let right = M::join(load(parts, at + usize::from(k)), reach);
     let best = least(better, right);
     Eight {
         best,
-        away: chosen(best, better, to_left, all_of(128 + k)),
+        away: chosen(best, better, to_left, sides.right),
     }
 }
 

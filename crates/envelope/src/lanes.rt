@@ -1,7 +1,7 @@
 //! Vectors of eight 16-bit numbers: the lanes of the row phase without branches.
 
-ghost use Rattle.std.specs.Prelude.{◌≡◌, ℕ, ◌+◌, ◌<◌, ◌≤◌, ◌==◌, min, length, slice_index, true};
-ghost use Rattle.std.specs.Prelude.{if◌then◌else◌};
+ghost use Rattle.std.specs.Prelude.{◌≡◌, ℕ, ◌+◌, ◌-◌, ◌<◌, ◌≤◌, ◌==◌, min, length, true};
+ghost use Rattle.std.specs.Prelude.{slice_index, if◌then◌else◌};
 
 use std::simd::prelude::*;
 
@@ -20,6 +20,24 @@ pub fn all_of(number: u16) -> u16x8
     ensures { (i : ℕ) → i < 8 → slice_index result i ≡ number }
 {
     u16x8::splat(number)
+}
+
+/// In each of eight lanes, the sum of two numbers.
+#[inline(always)]
+pub fn sum(a: u16x8, b: u16x8) -> u16x8
+    requires { (i : ℕ) → i < 8 → slice_index a i + slice_index b i < 65536 }
+    ensures { (i : ℕ) → i < 8 → slice_index result i ≡ slice_index a i + slice_index b i }
+{
+    a + b
+}
+
+/// In each of eight lanes, the difference of two numbers.
+#[inline(always)]
+pub fn difference(a: u16x8, b: u16x8) -> u16x8
+    requires { (i : ℕ) → i < 8 → slice_index b i ≤ slice_index a i }
+    ensures { (i : ℕ) → i < 8 → slice_index result i ≡ slice_index a i - slice_index b i }
+{
+    a - b
 }
 
 /// In each of eight lanes, the lesser of two numbers.

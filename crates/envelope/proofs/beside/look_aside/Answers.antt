@@ -17,8 +17,10 @@ returns g c i within =
     ∙ ap₂ g.M.Metric.joined (c.load.ensures i within ∙ ap (slice_index parts) left_at) reach in
     let right = c.join-right.ensures i within
     ∙ ap₂ g.M.Metric.joined (c.load-2.ensures i within ∙ ap (slice_index parts) right_at) reach in
-    let to_left = rw (c.all_of.ensures i within) at (c.chosen-to_left.ensures i within) in
-    let to_right = rw (c.all_of-2.ensures i within) at (c.chosen.ensures i within) in
+    let sides = c.requires.sides i within in
+    let left_side : slice_index c.args.sides.left i ≡ 128 - k = omega (arith, sides.0) in
+    let to_left = rw left_side at (c.chosen-to_left.ensures i within) in
+    let to_right = rw sides.1 at (c.chosen.ensures i within) in
     best_wider g.M.Metric.distance g.M.Metric.joined parts (at + i) k
     (slice_index c.args.eight.best i)
     (slice_index c.args.eight.away i) (slice_index c.join-left.result i)
