@@ -1,17 +1,19 @@
 -- Lines are carried from row to row, and the nearest obstacle is found between two of them.
 use Rattle.std.proofs.Common.{◌≡◌, ℕ, ◌+◌, ◌-◌, ◌*◌, ◌<◌, ◌≤◌, ◌⊎◌, ◌∙◌, min, inl, inr, Bool, true}
-use Rattle.std.proofs.Common.{false, List, Option, Some, None, length, get_or, arith, refl}
+use Rattle.std.proofs.Common.{◌≢◌, false, List, Option, Some, None, length, get_or}
+use Rattle.std.proofs.Common.{arith, refl, sym}
 use Rattle.std.specs.Int.{abs_diff}
-use Rattle.std.proofs.lemmas.Bool.{cases_lt, cases_eq}
+use Rattle.std.proofs.lemmas.Bool.{cases_lt, cases_eq, false≢true}
 use Rattle.metric.specs.Edge.{shift}
 use Rattle.metric.specs.declared.edge.Edge.{Edge}
 use Rattle.bits.specs.Cells.{Cells, IsBitmap, has}
+use Rattle.bits.proofs.CellsLemmas.{has-cells_where_below}
 use Rattle.bits.proofs.Framing.{shift_few}
 use Rattle.column.specs.Capped.{capped}
 use Rattle.column.specs.Columns.{IsNearestRow, IsRowOfTable, row_of}
 use Rattle.column.specs.Lines.{AreBandLines, AreLinesBehind, IsLineBefore, IsLineFrom, IsRowBefore}
 use Rattle.column.specs.Lines.{IsRowFrom}
-use Rattle.column.specs.Marks.{marked, nearer}
+use Rattle.column.specs.Marks.{IsEntry, marked, nearer}
 use Rattle.column.proofs.Places.{place_below}
 use Rattle.column.proofs.Nearest.{IsRowAtMost-by, nearer_by, row_of-none, row_of-some}
 
@@ -173,6 +175,42 @@ before_wins cells x y above below wins before behind =
             IsRowAtMost-by y above b (omega arith) (λ same. omega arith)
       ],
     )
+
+-- an obstacle of a map with its frame is in one of its rows
+capped_row : (edge : Edge) (cells : Cells) (x y : ℕ) → IsBitmap cells
+    → has (capped edge cells) x y ≡ true → y ≤ 4097
+capped_row edge cells x y bitmap black =
+    let few = bitmap.height_is.few in
+    let most = shift_few edge in
+    elim (cases_lt y (cells.height + 2 * shift edge)) [
+      | inl inside ↦ omega (arith, inside, few, most)
+      | inr outside ↦
+          let free : has (capped edge cells) x y ≡ false =
+          has-cells_where_below cells.width (cells.height + 2 * shift edge) _ x y outside in
+          absurd (false≢true (sym free ∙ black))
+    ]
+
+-- an entry that stands for an obstacle's row, or for none
+entry_of : (edge : Edge) (cells : Cells) (x entry : ℕ) → IsBitmap cells
+    → (entry ≢ 65535 → has (capped edge cells) x entry ≡ true) → IsEntry entry
+entry_of edge cells x entry bitmap black = elim (cases_eq entry 65535) [
+  | inl none ↦ inl none
+  | inr some ↦ inr (capped_row edge cells x entry bitmap (black some))
+]
+
+-- an entry of the obstacles before a row
+pub before_entry : (edge : Edge) (cells : Cells) (y x : ℕ) (line : List ℕ) → IsBitmap cells
+    → IsLineBefore (capped edge cells) y line → x < cells.width → IsEntry (get_or line x 0)
+before_entry edge cells y x line bitmap before column =
+    entry_of edge cells x (get_or line x 0) bitmap
+    (λ some. (rw (row_of-some (get_or line x 0) some) at (before.each x column)).0)
+
+-- an entry of the obstacles from a row on
+pub from_entry : (edge : Edge) (cells : Cells) (y x : ℕ) (line : List ℕ) → IsBitmap cells
+    → IsLineFrom (capped edge cells) y line → x < cells.width → IsEntry (get_or line x 0)
+from_entry edge cells y x line bitmap behind column =
+    entry_of edge cells x (get_or line x 0) bitmap
+    (λ some. (rw (row_of-some (get_or line x 0) some) at (behind.each x column)).0)
 
 -- the nearer one of the entry at or above a row and the entry below it is the nearest of all
 nearest_between : (cells : Cells) (x y above below : ℕ) → IsRowBefore cells x (y + 1) (row_of above)

@@ -1,6 +1,6 @@
 -- What reading rows does to the entries of a row: this project's own rule.
-use Rattle.std.specs.Prelude.{◌≡◌, ℕ, ◌*◌, ◌/◌, ◌%◌, ◌<◌, ◌≤◌, ◌==◌, nat_lt, Bool, List, length}
-use Rattle.std.specs.Prelude.{slice_index, Option, Some, None, if◌then◌else◌}
+use Rattle.std.specs.Prelude.{◌≡◌, ℕ, ◌*◌, ◌/◌, ◌%◌, ◌<◌, ◌≤◌, ◌⊎◌, ◌==◌, nat_lt, Bool, List}
+use Rattle.std.specs.Prelude.{length, slice_index, Option, Some, None, if◌then◌else◌}
 use Rattle.std.specs.Int.{abs_diff, bit_at}
 use Rattle.bits.specs.Cells.{Cells, IsObstacle}
 use Rattle.column.specs.Columns.{IsNearestRow, row_of}
@@ -12,6 +12,10 @@ marked black y entry = if black then y else entry
 -- whether a row's words have a 1 for column x
 abbrev pub is_marked : List ℕ → ℕ → Bool
 is_marked words x = bit_at (slice_index words (x / 64)) (x % 64) == 1
+
+-- an entry is a row of a map with its frame, or means no row
+abbrev pub IsEntry : ℕ → Type 0
+IsEntry entry = (entry ≡ 65535) ⊎ (entry ≤ 4097)
 
 -- the nearer of the nearest at or above row y and that of the row below, the upper on a tie
 abbrev pub nearer : ℕ → ℕ → ℕ → ℕ

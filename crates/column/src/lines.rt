@@ -8,14 +8,14 @@ ghost use Rattle.bits.specs.Edges.{framed};
 ghost use Rattle.column.specs.Capped.{capped};
 ghost use Rattle.column.specs.Columns.{IsRowOfTable};
 ghost use Rattle.column.specs.Lines.{AreBandLines, AreLinesBehind, IsLineBefore, IsLineFrom};
-ghost use Rattle.column.specs.Marks.{marked, nearer};
+ghost use Rattle.column.specs.Marks.{IsEntry, marked, nearer};
 
 use crate::batch::Batch;
 use crate::cap::mark_sides;
 use crate::row::{mark_row, nearer};
 use crate::sought::{seek_before, seek_from};
 use bits::Bitmap;
-use metric::{BAND_ROWS, Edge};
+use metric::{BAND_ROWS, Edge, LAST_FRAMED};
 
 /// Rows per band.
 pub const BAND: u16 = BAND_ROWS;
@@ -147,8 +147,11 @@ pub fn put_line(line: &[u16], start: usize, lines: &mut [u16])
 /// Takes for each column the nearer of two entries, seen from row `y`; the first one on a tie.
 #[inline(never)]
 fn pick_line(y: u16, above: &[u16], below: &[u16], entries: &mut [u16])
+    requires row { y ≤ LAST_FRAMED }
     requires above { length above.now ≡ length entries.old }
     requires below { length below.now ≡ length entries.old }
+    requires rows_above { (x : ℕ) → x < length entries.old → IsEntry (slice_index above.now x) }
+    requires rows_below { (x : ℕ) → x < length entries.old → IsEntry (slice_index below.now x) }
     ensures len { length entries.new ≡ length entries.old }
     ensures nearer { (x : ℕ) → x < length entries.old → slice_index entries.new x
         ≡ nearer y (slice_index above.now x) (slice_index below.now x) }

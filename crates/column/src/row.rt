@@ -2,10 +2,9 @@
 
 ghost use Rattle.std.specs.Prelude.{◌≡◌, ℕ, ◌+◌, ◌*◌, ◌<◌, ◌≤◌, ◌==◌, ◌⊎◌, length, slice_index};
 ghost use Rattle.std.specs.Int.{bit_at};
-ghost use Rattle.column.specs.Marks.{is_marked, marked, nearer};
+ghost use Rattle.column.specs.Marks.{IsEntry, is_marked, marked, nearer};
 
-use crate::NONE;
-use metric::WORD_BITS;
+use metric::{LAST_FRAMED, WORD_BITS};
 use std::simd::prelude::*;
 
 /// The lowest eight bits, one each.
@@ -106,15 +105,15 @@ fn mark_last(bits: u16, y: u16, first: usize, row: &mut [u16])
     }
 }
 
-/// The nearer of two entries, seen from row `y`; the first one on a tie.
+/// The nearer of two entries, seen from row `y`; the first one on a tie. Rows count the frame, and
+/// the mark for no row is farther than any.
 pub fn nearer(y: u16, above: u16, below: u16) -> u16
+    requires row { y ≤ LAST_FRAMED }
+    requires above { IsEntry above }
+    requires below { IsEntry below }
     ensures { result ≡ nearer y above below }
 {
-    if below == NONE {
-        above
-    } else if above == NONE {
-        below
-    } else if y.abs_diff(below) < y.abs_diff(above) {
+    if y.abs_diff(below) < y.abs_diff(above) {
         below
     } else {
         above

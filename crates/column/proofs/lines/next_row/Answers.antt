@@ -1,10 +1,28 @@
 -- The map's own columns are picked, and the frame's are set.
-use Rattle.std.proofs.Common.{◌≡◌, ◌≤◌, ◌+◌, ◌∙◌, length, arith, rules}
+use Rattle.std.proofs.Common.{◌≡◌, ◌<◌, ◌≤◌, ◌+◌, ◌∙◌, length, arith, rules}
 use Rattle.metric.specs.Edge.{shift}
 use Rattle.column.specs.Capped.{capped}
 use Rattle.column.proofs.Caps.{IsRowOfTable-framed, written_inside}
 use Rattle.column.proofs.LineLemmas.{IsLineBefore-marked, IsRowOfTable-between}
+use Rattle.column.proofs.LineLemmas.{before_entry, from_entry}
 use Rattle.column.proofs.lines.next_row.Goals as goal
+
+pub pick_line-requires-clause-rows_above : goal.pick_line-requires-clause-rows_above
+pick_line-requires-clause-rows_above c x inside =
+    let edge = c.args.edge in
+    let cells = c.args.bitmap.now in
+    let before = IsLineBefore-marked edge cells c.args.y c.args.before.now c.mark_line.new.line
+    c.requires.bitmap c.requires.row c.mark_line.ensures.len c.mark_line.ensures.marked
+    c.requires.before in
+    let column : x < cells.width = search rules in
+    before_entry edge cells (c.args.y + 1 + shift edge) x c.mark_line.new.line c.requires.bitmap
+    before column
+
+pub pick_line-requires-clause-rows_below : goal.pick_line-requires-clause-rows_below
+pick_line-requires-clause-rows_below c x inside =
+    let column : x < c.args.bitmap.now.width = search rules in
+    from_entry c.args.edge c.args.bitmap.now (c.args.y + 1 + shift c.args.edge) x
+    c.args.behind.now c.requires.bitmap c.requires.behind column
 
 pub returns-clause-before : goal.returns-clause-before
 returns-clause-before c =
