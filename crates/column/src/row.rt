@@ -74,8 +74,7 @@ fn mark_eight(bits: u16, y: u16, first: usize, row: &mut [u16])
         → slice_index row.new x ≡ slice_index row.old x }
 {
     let entries = u16x8::from_slice(&row[first..]);
-    let marked = marked_lanes(bits, y, entries).to_array();
-    row[first..first + 8].copy_from_slice(&marked);
+    marked_lanes(bits, y, entries).copy_to_slice(&mut row[first..]);
 }
 
 /// Eight entries, with row `y` in those of obstacles.
