@@ -29,8 +29,7 @@ fn put_eight(eight: u8, first: usize, digits: &mut [u8])
     ensures pixels { (i : ℕ) → i < 8 → slice_index digits.new (first + i) ≡ 48 + bit_at eight i }
     ensures others { (x : ℕ) → x < first → slice_index digits.new x ≡ slice_index digits.old x }
 {
-    let eight_digits = digits_of(eight).to_array();
-    digits[first..first + 8].copy_from_slice(&eight_digits);
+    digits_of(eight).copy_to_slice(&mut digits[first..]);
 }
 
 /// Writes the digits of a word's pixels from index `first` on.
