@@ -3,6 +3,8 @@
 ghost use Rattle.std.specs.Prelude.{◌≡◌, ◌+◌, ◌<◌, ◌≤◌, ◌∷◌, ◌++◌, [], length, take};
 ghost use Rattle.engines.specs.dist.Putting.{Puts};
 
+use std::simd::Simd;
+
 /// Writes a byte, and returns the index of the next one.
 #[inline(always)]
 pub fn put_byte(text: &mut [u8], at: usize, byte: u8) -> usize
@@ -21,6 +23,6 @@ pub fn put_front<const N: usize>(text: &mut [u8], at: usize, bytes: [u8; N], cou
     requires room { at + N ≤ length text.old }
     ensures { Puts text.old at (take count bytes.entry) text.new result }
 {
-    text[at..at + N].copy_from_slice(&bytes);
+    Simd::<u8, N>::from_array(bytes).copy_to_slice(&mut text[at..]);
     at + count
 }
