@@ -254,8 +254,8 @@ fn set_reaches<M: Metric>(reaches: &mut [u16])
     requires { length reaches.old ≡ REACHES }
     ensures { AreReaches M.reach_of reaches.new }
 {
-    'places: for place in 0..REACHES {
-        reaches[place] = M::reach((place / 8) as u16);
+    'places: for place in 0..REACHES as u16 {
+        reaches[usize::from(place)] = M::reach(place / 8);
     }
 }
 
