@@ -1,7 +1,6 @@
 //! Reads a version from the shared words.
 
 ghost use Rattle.std.specs.Prelude.{◌≡◌, ◌<◌, true, Some, slice_index};
-ghost use Rattle.bits.specs.TileWords.{tile_words};
 ghost use Rattle.bits.specs.Words.{words_across};
 ghost use Rattle.clearance.specs.Rows.{words_of_row};
 ghost use Rattle.map_core.specs.Words.{tiles};
@@ -11,36 +10,16 @@ ghost use Rattle.session.specs.Sessions.{bitmap_seen, HasSlot};
 use bits::Bitmap;
 use shelf::{ReaderSeat, StoreName};
 
-/// Reads the words of the tile at a position of the held version: its block number, and the block's
-/// rows.
-fn read_tile<Id: StoreName>(
-    seat: &mut ReaderSeat<Id>,
-    version: u32,
-    slot: u32,
-    position: u16,
-    words: &mut [u64; 64],
-)
-    requires held { seat.old.holds ≡ Some version }
-    requires slot { HasSlot Id.store seat.old version slot }
-    requires inside { position < tiles Id.store.base }
-    ensures seat { seat.new ≡ seat.old }
-    ensures words { words.new ≡ tile_words (bitmap_seen Id.store seat.old version) position }
-{
-    let block = seat.look_map(version, slot, position);
-    'rows: for row in 0..64u16 {
-        words[usize::from(row)] = seat.look_tile(block, row);
-    }
-}
-
-/// Reads one word of a row of the held version, whose rows take `across` words: the block number of
-/// its tile, and the tile's row.
+/// Reads one word of a row of the held version, whose rows take `across` words: the row of its
+/// tile.
+#[inline(always)]
 pub fn look_word<Id: StoreName>(
     seat: &mut ReaderSeat<Id>,
     version: u32,
     slot: u32,
-    across: u16,
+    across: u32,
     y: u16,
-    index: u16,
+    index: u32,
 ) -> u64
     requires held { seat.old.holds ≡ Some version }
     requires slot { HasSlot Id.store seat.old version slot }
@@ -52,8 +31,8 @@ pub fn look_word<Id: StoreName>(
     ensures word { result ≡ slice_index (words_of_row (bitmap_seen Id.store seat.old version) y)
         index }
 {
-    let block = seat.look_map(version, slot, y / 64 * across + index);
-    seat.look_tile(block, y % 64)
+    let position = y as u32 / 64 * across + index;
+    seat.look_row(version, slot, position, y % 64)
 }
 
 /// Reads the held version, tile by tile, into a bitmap of the map's size.
@@ -73,7 +52,7 @@ fn read_version<Id: StoreName>(
 {
     let mut words = [0; 64];
     'positions: for position in 0..bitmap.tiles() {
-        read_tile(seat, version, slot, position, &mut words);
+        seat.look_rows(version, slot, position, &mut words);
         bitmap.renew_tile(position, &words);
     }
 }

@@ -7,3 +7,4 @@ pub mod Steps
 pub mod Laws
 pub mod OneLog
 pub mod Seats
+pub mod TileLooks

@@ -36,6 +36,7 @@ mod request;
 mod store_entry;
 mod table;
 mod ticket;
+mod tile_looks;
 
 pub use closing::Closing;
 pub use fresh::{FreshKeeper, FreshReader};

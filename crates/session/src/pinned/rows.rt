@@ -26,14 +26,14 @@ impl<Id: StoreName> Rows for Pinned<Id> {
 
     #[inline(always)]
     fn word(&mut self, y: u16, index: usize) -> u64 {
-        match self.looks {
+        match &mut self.looks {
             Looks::Whole => self.bitmap.row_words(y)[index],
             Looks::Words { left: 0 } => self.bitmap().row_words(y)[index],
             Looks::Words { left } => {
-                self.looks = Looks::Words { left: left - 1 };
-                let across = self.bitmap.width().div_ceil(64);
+                *left -= 1;
+                let across = u32::from(self.bitmap.width()).div_ceil(64);
                 let (version, slot) = (self.version, self.slot);
-                look_word(&mut self.seat, version, slot, across, y, index as u16)
+                look_word(&mut self.seat, version, slot, across, y, index as u32)
             }
         }
     }

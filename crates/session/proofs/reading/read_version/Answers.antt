@@ -11,11 +11,11 @@ pub positions-preserved : goal.positions-preserved
 positions-preserved g c =
     let p = c.positions.position in
     record {
-      seat = c.read_tile.ensures.seat ∙ c.positions.invariant.seat;
+      seat = c.look_rows.ensures.seat ∙ c.positions.invariant.seat;
       bitmap = tile_more c.args.bitmap.now c.positions.bitmap c.renew_tile.new.self
-          (bitmap_seen g.Id.StoreName.store c.args.seat.now c.args.version) p c.read_tile.new.words
+          (bitmap_seen g.Id.StoreName.store c.args.seat.now c.args.version) p c.look_rows.new.rows
           c.positions.invariant.bitmap
-          (c.read_tile.ensures.words
+          (c.look_rows.ensures.rows
           ∙ ap (λ (x : ReaderView). tile_words (bitmap_seen g.Id.StoreName.store x c.args.version)
           p) c.positions.invariant.seat)
           c.renew_tile.ensures.written;

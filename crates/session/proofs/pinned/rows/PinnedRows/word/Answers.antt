@@ -14,6 +14,8 @@ returns-in-Whole-clause-word g c =
 
 pub returns-in-Words-eq0-clause-word : goal.returns-in-Words-eq0-clause-word
 returns-in-Words-eq0-clause-word g c =
+    rw (← c.self.view_is) (
     let row = rw (c.bitmap.ensures.bitmap) at c.row_words-in-Words-eq0.ensures in
-    row_word_read _ c.args.y c.args.index _ c.row_words-in-Words-eq0.result.now row c.requires.index
-    (omega arith) refl
+    let within = rw (← c.self.view_is) at c.requires.index in
+    row_word_read _ c.args.y c.args.index _ c.row_words-in-Words-eq0.result.now row within
+    (omega arith) refl)
