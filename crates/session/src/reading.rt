@@ -1,6 +1,6 @@
 //! Reads a version from the shared words.
 
-ghost use Rattle.std.specs.Prelude.{◌≡◌, ◌<◌, true, Some, slice_index};
+ghost use Rattle.std.specs.Prelude.{◌≡◌, ℕ, ◌<◌, ◌≤◌, true, Some, slice_index};
 ghost use Rattle.bits.specs.Words.{words_across};
 ghost use Rattle.clearance.specs.Rows.{words_of_row};
 ghost use Rattle.map_core.specs.Words.{tiles};
@@ -33,6 +33,33 @@ pub fn look_word<Id: StoreName>(
 {
     let position = y as u32 / 64 * across + index;
     seat.look_row(version, slot, position, y % 64)
+}
+
+/// Reads the words of a row of the held version, whose rows take `across` words, up to the first
+/// that has an obstacle. Returns how many are before it: all of them in a blank row.
+pub fn blank_words<Id: StoreName>(
+    seat: &mut ReaderSeat<Id>,
+    version: u32,
+    slot: u32,
+    across: u32,
+    y: u16,
+) -> u32
+    requires held { seat.old.holds ≡ Some version }
+    requires slot { HasSlot Id.store seat.old version slot }
+    requires of_map { IsOfMap Id.store.base (bitmap_seen Id.store seat.old version) }
+    requires across { across ≡ words_across (bitmap_seen Id.store seat.old version).width }
+    requires row { y < (bitmap_seen Id.store seat.old version).height }
+    ensures seat { seat.new ≡ seat.old }
+    ensures few { result ≤ across }
+    ensures blank { (k : ℕ) → k < result
+        → slice_index (words_of_row (bitmap_seen Id.store seat.old version) y) k ≡ 0 }
+{
+    'words: for index in 0..across {
+        if look_word(seat, version, slot, across, y, index) != 0 {
+            return index;
+        }
+    }
+    across
 }
 
 /// Reads the held version, tile by tile, into a bitmap of the map's size.

@@ -3,7 +3,7 @@
 ghost use Rattle.std.specs.Prelude.{◌≡◌, ◌<◌, ◌≤◌};
 
 use crate::pinned::{Looks, Pinned};
-use crate::reading::look_word;
+use crate::reading::{blank_words, look_word};
 use clearance::Rows;
 use shelf::StoreName;
 
@@ -42,6 +42,16 @@ impl<Id: StoreName> Rows for Pinned<Id> {
         if let Looks::Whole | Looks::Words { left: 0 } = self.looks {
             let mut rows = self.bitmap();
             return rows.is_blank(y);
+        }
+        if let Looks::Words { left } = self.looks {
+            let across = u32::from(self.bitmap.width()).div_ceil(64);
+            if across <= left {
+                let (version, slot) = (self.version, self.slot);
+                let blank = blank_words(&mut self.seat, version, slot, across, y);
+                let read = if blank < across { blank + 1 } else { across };
+                self.looks = Looks::Words { left: left - read };
+                return blank == across;
+            }
         }
         'words: for index in 0..self.across() {
             if self.word(y, index) != 0 {
