@@ -1,7 +1,7 @@
 -- Bytes that are put into a buffer one after another.
-use Rattle.std.proofs.Common.{◌≡◌, ℕ, ◌+◌, ◌/◌, ◌%◌, ◌^◌, ◌≤◌, ◌<◌, List, ◌++◌, length, take, sym}
-use Rattle.std.proofs.Common.{ap, arith, ◌∙◌, append_assoc, length-append, lit<}
-use Rattle.std.proofs.Math.Seq.{take-append-add}
+use Rattle.std.proofs.Common.{◌≡◌, ℕ, ◌+◌, ◌/◌, ◌%◌, ◌^◌, ◌≤◌, ◌<◌, List, [], ◌∷◌, ◌++◌, length, take}
+use Rattle.std.proofs.Common.{ap, arith, refl, set, sym, ◌∙◌, append_assoc, length-append, lit<}
+use Rattle.std.proofs.Math.Seq.{take-append-add, take-set-lt}
 use Rattle.std.proofs.lemmas.List.{length-take-le, take-take}
 use Rattle.std.specs.Fmt.{decimal}
 use Rattle.std.proofs.lemmas.Fmt.{length-decimal-le}
@@ -18,6 +18,26 @@ Puts-more old middle new at mid end first second one two = record {
       ∙ (ap (λ n. n + length second) one.end_is ∙ rw (length-append first second) (omega arith));
   text = two.text ∙ (ap (λ t. t ++ second) one.text ∙ append_assoc (take at old) first second);
 }
+
+-- a text that is put is put with another first byte where that byte is written over its first
+pub Puts-over : (old middle new : List ℕ) (at end byte other : ℕ) (others : List ℕ)
+    → at ≤ length old → Puts old at (byte ∷ others) middle end → new ≡ set middle at other
+    → Puts old at (other ∷ others) new end
+Puts-over old middle new at end byte other others room put over =
+    let long : length (take at old) ≡ at = length-take-le at old room in
+    let within : at < end = omega (arith, put.end_is) in
+    record {
+      end_is = put.end_is;
+      text = rw over (take-set-lt end middle at other within
+          ∙ (ap (λ t. set t at other) put.text
+          ∙ set-first (take at old) at byte other others long));
+    }
+  where
+    set-first : (front : List ℕ) (place byte other : ℕ) (others : List ℕ) → length front ≡ place
+        → set (front ++ byte ∷ others) place other ≡ front ++ other ∷ others
+    set-first [] place byte other others long = rw (← long) refl
+    set-first (x ∷ front) place byte other others long =
+        rw (← long) (ap (λ t. x ∷ t) (set-first front (length front) byte other others refl))
 
 -- where four bytes were put, the first of them, up to any count, are put
 pub Puts-first : (old new four : List ℕ) (at count : ℕ) → count ≤ length four → at ≤ length old

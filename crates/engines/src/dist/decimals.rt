@@ -77,9 +77,21 @@ impl Decimals {
         self.put_padded(text, next, number % 10_000)
     }
 
+    /// Writes a slash and a number of at most four digits. The text has room for eight bytes.
+    #[inline(always)]
+    pub fn put_slashed(&self, text: &mut [u8], at: usize, number: u32) -> usize
+        requires few { number < 10000 }
+        requires room { at + 8 ≤ length text.old }
+        ensures { Puts text.old at (47 ∷ decimal number) text.new result }
+    {
+        let end = self.put_spaced(text, at, number);
+        text[at] = b'/';
+        end
+    }
+
     /// Writes a blank and a number of at most four digits. The text has room for eight bytes.
     #[inline(always)]
-    fn put_spaced(&self, text: &mut [u8], at: usize, number: u32) -> usize
+    pub fn put_spaced(&self, text: &mut [u8], at: usize, number: u32) -> usize
         requires few { number < 10000 }
         requires room { at + 8 ≤ length text.old }
         ensures { Puts text.old at (32 ∷ decimal number) text.new result }

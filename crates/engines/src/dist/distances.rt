@@ -49,6 +49,9 @@ fn put_other(decimals: &Decimals, text: &mut [u8], at: usize, distance: u32) -> 
     ensures text { Puts text.old at (32 ∷ distance_text distance) text.new result }
     ensures end { result ≤ at + 25 }
 {
+    if distance < 10_000 {
+        return decimals.put_spaced(text, at, distance);
+    }
     if distance == NOWHERE {
         let next = put_byte(text, at, b' ');
         return put_byte(text, next, b'-');

@@ -26,7 +26,7 @@ pub fn put_row(decimals: &Decimals, text: &mut [u8], at: usize, nears: &[Option<
 {
     match nears.split_first() {
         Some((first, others)) => {
-            let next = put_entry(decimals, text, at, *first);
+            let next = put_first(decimals, text, at, *first);
             let end = put_others(decimals, text, next, others);
             put_byte(text, end, b'\n')
         }
@@ -44,15 +44,28 @@ fn put_others(decimals: &Decimals, text: &mut [u8], at: usize, nears: &[Option<N
 {
     let mut end = at;
     'entries: for near in nears {
-        let next = put_byte(text, end, b' ');
-        end = put_entry(decimals, text, next, *near);
+        end = put_other(decimals, text, end, near);
     }
     end
 }
 
-/// Writes the entry of a cell.
+/// Writes a blank and the entry of a cell.
 #[inline(always)]
-fn put_entry(decimals: &Decimals, text: &mut [u8], at: usize, near: Option<Near>) -> usize
+fn put_other(decimals: &Decimals, text: &mut [u8], at: usize, near: &Option<Near>) -> usize
+    requires { at + 28 ≤ length text.old }
+    ensures text { Puts text.old at (32 ∷ entry_text true near.now) text.new result }
+    ensures end { result ≤ at + 25 }
+{
+    let Some(near) = near else {
+        let next = put_byte(text, at, b' ');
+        return put_byte(text, next, b'-');
+    };
+    let next = decimals.put_behind_blank(text, at, near.dist);
+    put_place(decimals, text, next, &near.cell)
+}
+
+/// Writes the first entry of a line.
+fn put_first(decimals: &Decimals, text: &mut [u8], at: usize, near: Option<Near>) -> usize
     requires { at + 27 ≤ length text.old }
     ensures text { Puts text.old at (entry_text true near) text.new result }
     ensures end { result ≤ at + 24 }
@@ -61,14 +74,14 @@ fn put_entry(decimals: &Decimals, text: &mut [u8], at: usize, near: Option<Near>
         return put_byte(text, at, b'-');
     };
     let next = decimals.put(text, at, near.dist);
-    put_place(decimals, text, next, near.cell)
+    put_place(decimals, text, next, &near.cell)
 }
 
 /// Writes the position of an obstacle.
 #[inline(always)]
-fn put_place(decimals: &Decimals, text: &mut [u8], at: usize, spot: Spot) -> usize
+fn put_place(decimals: &Decimals, text: &mut [u8], at: usize, spot: &Spot) -> usize
     requires { at + 17 ≤ length text.old }
-    ensures text { Puts text.old at (place_text spot) text.new result }
+    ensures text { Puts text.old at (place_text spot.now) text.new result }
     ensures end { result ≤ at + 14 }
 {
     let next = put_coordinate(decimals, text, at, spot.x);
@@ -82,6 +95,9 @@ fn put_coordinate(decimals: &Decimals, text: &mut [u8], at: usize, coordinate: i
     ensures text { Puts text.old at (47 ∷ signed_decimal coordinate) text.new result }
     ensures end { result ≤ at + 7 }
 {
+    if 0 <= coordinate && coordinate < 10_000 {
+        return decimals.put_slashed(text, at, coordinate as u32);
+    }
     let next = put_byte(text, at, b'/');
     put_signed(decimals, text, next, coordinate)
 }

@@ -7,9 +7,9 @@ use Rattle.engines.proofs.dist.line.put_place.Goals as goal
 
 pub returns-clause-text : goal.returns-clause-text
 returns-clause-text c =
-    let first : Puts c.args.text.now c.args.at (47 ∷ signed_decimal c.args.spot.x)
+    let first : Puts c.args.text.now c.args.at (47 ∷ signed_decimal c.args.spot.now.x)
     c.put_coordinate-next.new.text c.put_coordinate-next.result = search rules in
     let second : Puts c.put_coordinate-next.new.text c.put_coordinate-next.result
-    (47 ∷ signed_decimal c.args.spot.y) c.put_coordinate.new.text c.put_coordinate.result =
+    (47 ∷ signed_decimal c.args.spot.now.y) c.put_coordinate.new.text c.put_coordinate.result =
     search rules in
     Puts-more _ _ _ _ _ _ _ _ first second

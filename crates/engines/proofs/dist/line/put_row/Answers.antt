@@ -9,5 +9,5 @@ returns-in-Some-clause-line c =
     let whole : c.args.nears.now ≡ c.in-Some.first.now ∷ c.in-Some.others.now = search rules in
     rw (whole, row_line-cons true c.in-Some.first.now c.in-Some.others.now)
     (Puts-more _ _ _ _ _ _ _ _
-    (Puts-more _ _ _ _ _ _ _ _ c.put_entry-next.ensures.text c.put_others-end.ensures.text)
+    (Puts-more _ _ _ _ _ _ _ _ c.put_first-next.ensures.text c.put_others-end.ensures.text)
     c.put_byte.ensures)

@@ -2,7 +2,7 @@
 -- digits at most.
 use Rattle.std.proofs.Common.{arith}
 use Rattle.metric.proofs.Decimals.{length-decimal_32}
-use Rattle.engines.proofs.dist.line.put_entry.Goals as goal
+use Rattle.engines.proofs.dist.line.put_first.Goals as goal
 
 pub put_place-requires : goal.put_place-requires
 put_place-requires c =
