@@ -13,7 +13,6 @@ use Rattle.std.proofs.lemmas.Nat.{div-mul-add, mod-mul-add}
 use Rattle.std.proofs.lemmas.List.{drop-map, ext_get_or, get_or-drop, get_or-map, get_or-take}
 use Rattle.std.proofs.lemmas.List.{length-drop, length-map, length-take-le}
 use Rattle.std.proofs.lemmas.List.FromFn.{get_or-map-range_with_len, length-map-range_with_len}
-use Rattle.std.proofs.lemmas.Grind.{get_or_default_zero}
 use Rattle.std.specs.List.{take-map}
 use Rattle.metric.specs.declared.edge.Edge.{Edge}
 use Rattle.metric.specs.declared.near.Near.{Near}
@@ -22,9 +21,8 @@ use Rattle.bits.specs.Cells.{Cells}
 use Rattle.bits.specs.Edges.{IsBlocked}
 use Rattle.field.specs.Distances.{Distances, IsFarAway, number_at}
 use Rattle.field.specs.Obstacles.{IsMeasured, Obstacles}
-use Rattle.field.specs.Rows.{AreNears}
 use Rattle.engines.specs.dist.Measured.{AreDistances, IsDistanceOf, distance_text}
-use Rattle.engines.specs.dist.Table.{entry_text, row_line, table_text}
+use Rattle.engines.specs.dist.Table.{entry_text, table_text}
 use Rattle.engines.specs.dist.Tabled.{HasAllNumbers, IsBelowNone, IsKept, IsTableOf, has_obstacles}
 use Rattle.engines.specs.dist.Tabled.{nears_kept, some_near, some_nears}
 use Rattle.engines.proofs.MeasuredLines.{distance_text-near}

@@ -1,24 +1,19 @@
 -- The rows that workers print in parallel: this project's own rule.
-use Rattle.std.specs.Prelude.{◌≡◌, ℕ, ◌+◌, ◌-◌, ◌*◌, ◌<◌, ◌≤◌, All, List, Bool, true, false, length}
-use Rattle.std.specs.Prelude.{min, slice_index_or, vec_capacity, vec_len}
-use Rattle.engines.specs.declared.dist.parts.RowCells.{RowCells}
-use Rattle.engines.specs.declared.dist.parts.RowCells.TheVariants.{Nears, Distances}
+use Rattle.std.specs.Prelude.{◌≡◌, ℕ, ◌+◌, ◌-◌, ◌*◌, ◌<◌, ◌≤◌, All, List, Bool, true, length}
+use Rattle.std.specs.Prelude.{min, slice_index_or, take, vec_capacity, vec_len}
 use Rattle.engines.specs.declared.dist.parts.WorkerLines.{WorkerLines}
 use Rattle.engines.specs.dist.Table.{rows_text}
 use Rattle.engines.specs.dist.Tabled.{TableView}
 
--- a row's cells of this width have room: for obstacles if they are printed, else for distances
-abbrev pub IsRowRoom : Bool → ℕ → RowCells → Type 0
-IsRowRoom true width (Nears nears) = vec_len nears ≡ width
-IsRowRoom true width (Distances distances) = ⊥
-IsRowRoom false width (Nears nears) = ⊥
-IsRowRoom false width (Distances distances) = vec_len distances ≡ width
+-- a row of this width has room for this many obstacles, if they are printed
+abbrev pub IsRowRoom : Bool → ℕ → ℕ → Type 0
+IsRowRoom nearest width cells = nearest ≡ true → cells ≡ width
 
--- a worker's buffers for this many rows of this width have room for a row, its line, and all lines
+-- a worker's buffers for this many rows of this width have room for a row and all lines
 pub record IsShare (nearest : Bool) (width rows : ℕ) (part : WorkerLines) : Type 0 where
-  pub row : IsRowRoom nearest width part.row
-  pub line : 25 * width + 4 ≤ vec_len part.line
-  pub room : rows * (25 * width + 1) ≤ vec_capacity part.text
+  pub row : IsRowRoom nearest width (vec_len part.row)
+  pub room : rows * (25 * width + 1) + 3 ≤ vec_capacity part.text
+  pub end : part.end ≤ vec_len part.text
 
 -- a set has buffers for each of 1 to 16 workers, each for this many rows
 pub record AreShares (nearest : Bool) (width rows : ℕ) (parts : List WorkerLines) : Type 0 where
@@ -32,7 +27,7 @@ pub record AreShares (nearest : Bool) (width rows : ℕ) (parts : List WorkerLin
 pub record HasRows (nearest : Bool) (table : TableView) (rows from : ℕ) (part : WorkerLines) :
     Type 0 where
   pub kept : IsShare nearest table.width rows part
-  pub text : part.text.items ≡ rows_text nearest table.width (min table.height from)
+  pub text : take part.end part.text.items ≡ rows_text nearest table.width (min table.height from)
       (min table.height (from + rows) - min table.height from) table.nears
 
 -- each part has this many rows, one part's after another's

@@ -1,8 +1,9 @@
 //! The lines of a table's rows, written by workers in parallel.
 
-ghost use Rattle.std.specs.Prelude.{◌≡◌, ◌+◌, ◌-◌, ◌*◌, ◌<◌, ◌≤◌, All, IfOk, length, vec_capacity};
-ghost use Rattle.std.specs.Prelude.{vec_len};
+ghost use Rattle.std.specs.Prelude.{◌≡◌, ◌+◌, ◌-◌, ◌*◌, ◌<◌, ◌≤◌, ◌++◌, All, IfOk, length, take};
+ghost use Rattle.std.specs.Prelude.{vec_capacity, vec_len};
 ghost use Rattle.std.specs.List.{slice_range};
+ghost use Rattle.engines.specs.dist.Parts.{IsRowRoom};
 ghost use Rattle.engines.specs.dist.Putting.{Puts};
 ghost use Rattle.engines.specs.dist.Table.{row_line, rows_text};
 
@@ -12,85 +13,16 @@ use crate::dist::printer::Printer;
 use metric::{Metric, Near};
 use std::alloc::{AllocError, Global};
 
-/// The cells of one row of the table: their nearest obstacles, or only their distances.
-#[derive(Drop)]
-pub enum RowCells {
-    Nears(Vec<Option<Near>>),
-    Distances(Vec<u32>),
-}
-
-/// A worker's buffers: the lines of its rows, and one row of the table with its line.
+/// A worker's buffers: a row of the table, and the lines of its rows.
 #[derive(Drop)]
 pub struct WorkerLines {
-    pub row: RowCells,
-    pub line: Vec<u8>,
-    /// The lines. Their capacity is allocated once, and only as much of it is touched as the lines
-    /// take.
+    /// The nearest obstacles of a row's cells; no cells if only distances are written.
+    pub row: Vec<Option<Near>>,
+    /// The lines, and what is left behind them of earlier ones. Their capacity is allocated once,
+    /// and only as much of it is touched as the lines take, with room for one more.
     pub text: Vec<u8>,
-}
-
-impl RowCells {
-    ghost use Rattle.engines.specs.dist.Parts.{IsRowRoom};
-
-    /// Buffers for the cells of a row of this width.
-    fn new(alloc: Global, nearest: bool, width: u16) -> Result<Self, AllocError>
-        ensures { IfOk result (IsRowRoom nearest width) }
-    {
-        let across = usize::from(width);
-        if nearest {
-            return Ok(RowCells::Nears(vec![in alloc; None; across]?));
-        }
-        Ok(RowCells::Distances(vec![in alloc; 0; across]?))
-    }
-
-    /// Replaces the text by the lines of rows `from` to `to - 1`. The text has capacity for them.
-    fn put_lines<M: Metric + Sync>(
-        &mut self,
-        printer: &Printer<M>,
-        from: u16,
-        to: u16,
-        line: &mut [u8],
-        text: &mut Vec<u8>,
-    )
-        requires order { from ≤ to }
-        requires within { to ≤ printer.now.table.height }
-        requires cells { IsRowRoom printer.now.nearest printer.now.table.width self.old }
-        requires line { 25 * printer.now.table.width + 4 ≤ length line.old }
-        requires room { (to - from) * (25 * printer.now.table.width + 1) ≤ vec_capacity text.old }
-        ensures text { text.new.items ≡ rows_text printer.now.nearest printer.now.table.width from
-            (to - from) printer.now.table.nears }
-        ensures room { vec_capacity text.old ≤ vec_capacity text.new }
-        ensures cells { IsRowRoom printer.now.nearest printer.now.table.width self.new }
-    {
-        text.clear();
-        'rows: for y in from..to {
-            let end = self.put_line(printer, y, line);
-            let _ = text.extend_from_slice(&line[..end]);
-        }
-    }
-
-    /// Writes the line of row `y`, and returns where it ends.
-    fn put_line<M: Metric + Sync>(&mut self, printer: &Printer<M>, y: u16, line: &mut [u8]) -> usize
-        requires row { y < printer.now.table.height }
-        requires cells { IsRowRoom printer.now.nearest printer.now.table.width self.old }
-        requires room { 25 * printer.now.table.width + 3 ≤ length line.old }
-        ensures line { Puts line.old 0 (row_line printer.now.nearest
-            (slice_range printer.now.table.nears (y * printer.now.table.width)
-            (y * printer.now.table.width + printer.now.table.width))) line.new result }
-        ensures end { result ≤ 25 * printer.now.table.width + 1 }
-        ensures cells { IsRowRoom printer.now.nearest printer.now.table.width self.new }
-    {
-        match self {
-            RowCells::Nears(nears) => {
-                printer.table.fill_row(y, nears.as_mut_slice());
-                put_row(&printer.decimals, line, 0, nears.as_slice())
-            }
-            RowCells::Distances(distances) => {
-                printer.table.fill_distances(y, distances.as_mut_slice());
-                put_distances(&printer.decimals, line, 0, distances.as_slice())
-            }
-        }
-    }
+    /// How many bytes of the text are lines.
+    pub end: usize,
 }
 
 impl WorkerLines {
@@ -101,11 +33,12 @@ impl WorkerLines {
         requires { rows ≤ 4096 }
         ensures { IfOk result (IsShare nearest width rows) }
     {
-        let line = ENTRY_ROOM * usize::from(width) + 1;
+        let across = usize::from(width);
+        let line = ENTRY_ROOM * across + 1;
         Ok(WorkerLines {
-            row: RowCells::new(alloc, nearest, width)?,
-            line: vec![in alloc; 0; line + SPARE_ROOM]?,
-            text: Vec::with_capacity(alloc, rows as usize * line)?,
+            row: vec![in alloc; None; if nearest { across } else { 0 }]?,
+            text: Vec::with_capacity(alloc, rows as usize * line + SPARE_ROOM)?,
+            end: 0,
         })
     }
 
@@ -121,15 +54,15 @@ impl WorkerLines {
         let height = u32::from(printer.table.height());
         let to = height.min(from + printer.rows) as u16;
         let from = height.min(from) as u16;
-        let line = self.line.as_mut_slice();
-        self.row.put_lines(printer, from, to, line, &mut self.text);
+        self.end = put_lines(printer, self.row.as_mut_slice(), from, to, &mut self.text);
     }
 
     /// The lines written.
     pub fn text(&self) -> &[u8]
-        ensures { result.now ≡ self.now.text.items }
+        requires { self.now.end ≤ vec_len self.now.text }
+        ensures { result.now ≡ take self.now.end self.now.text.items }
     {
-        self.text.as_slice()
+        &self.text.as_slice()[..self.end]
     }
 
     /// Several workers' buffers, each for the lines of this many rows of this width.
@@ -150,4 +83,91 @@ impl WorkerLines {
         }
         Ok(parts)
     }
+}
+
+/// Writes the lines of rows `from` to `to - 1` to the front of the text, and returns where they
+/// end. The text has capacity for them.
+fn put_lines<M: Metric + Sync>(
+    printer: &Printer<M>,
+    row: &mut [Option<Near>],
+    from: u16,
+    to: u16,
+    text: &mut Vec<u8>,
+) -> usize
+    requires order { from ≤ to }
+    requires within { to ≤ printer.now.table.height }
+    requires cells { IsRowRoom printer.now.nearest printer.now.table.width (length row.old) }
+    requires room { (to - from) * (25 * printer.now.table.width + 1) + 3 ≤ vec_capacity text.old }
+    ensures text { take result text.new.items ≡ rows_text printer.now.nearest
+        printer.now.table.width from (to - from) printer.now.table.nears }
+    ensures end { result ≤ vec_len text.new }
+    ensures room { vec_capacity text.old ≤ vec_capacity text.new }
+{
+    let mut end = 0;
+    'rows: for y in from..to {
+        end = put_next(printer, row, y, text, end);
+    }
+    end
+}
+
+/// Writes the line of row `y` behind the first `at` bytes of the text, and returns where it ends.
+/// The text has capacity for it.
+fn put_next<M: Metric + Sync>(
+    printer: &Printer<M>,
+    row: &mut [Option<Near>],
+    y: u16,
+    text: &mut Vec<u8>,
+    at: usize,
+) -> usize
+    requires row { y < printer.now.table.height }
+    requires cells { IsRowRoom printer.now.nearest printer.now.table.width (length row.old) }
+    requires front { at ≤ vec_len text.old }
+    requires room { at + (25 * printer.now.table.width + 4) ≤ vec_capacity text.old }
+    ensures line { take result text.new.items ≡ take at text.old.items
+        ++ row_line printer.now.nearest (slice_range printer.now.table.nears
+        (y * printer.now.table.width)
+        (y * printer.now.table.width + printer.now.table.width)) }
+    ensures end { result ≤ at + (25 * printer.now.table.width + 1) }
+    ensures within { result ≤ vec_len text.new }
+    ensures room { vec_capacity text.old ≤ vec_capacity text.new }
+{
+    let width = usize::from(printer.table.width());
+    lengthen(text, at + (ENTRY_ROOM * width + 1 + SPARE_ROOM));
+    put_line(printer, row, y, text.as_mut_slice(), at)
+}
+
+/// Lengthens a text to this many bytes, if it has fewer. It has capacity for them.
+fn lengthen(text: &mut Vec<u8>, count: usize)
+    requires { count ≤ vec_capacity text.old }
+    ensures long { count ≤ vec_len text.new }
+    ensures longer { vec_len text.old ≤ vec_len text.new }
+    ensures front { take (vec_len text.old) text.new.items ≡ text.old.items }
+    ensures room { vec_capacity text.old ≤ vec_capacity text.new }
+{
+    if text.len() < count {
+        let _ = text.resize(count, 0);
+    }
+}
+
+/// Writes the line of row `y`, and returns where it ends.
+fn put_line<M: Metric + Sync>(
+    printer: &Printer<M>,
+    row: &mut [Option<Near>],
+    y: u16,
+    text: &mut [u8],
+    at: usize,
+) -> usize
+    requires row { y < printer.now.table.height }
+    requires cells { IsRowRoom printer.now.nearest printer.now.table.width (length row.old) }
+    requires room { at + (25 * printer.now.table.width + 3) ≤ length text.old }
+    ensures line { Puts text.old at (row_line printer.now.nearest
+        (slice_range printer.now.table.nears (y * printer.now.table.width)
+        (y * printer.now.table.width + printer.now.table.width))) text.new result }
+    ensures end { result ≤ at + (25 * printer.now.table.width + 1) }
+{
+    if printer.nearest {
+        printer.table.fill_row(y, row);
+        return put_row(&printer.decimals, text, at, row);
+    }
+    put_distances(&printer.decimals, text, at, printer.table.distances(y))
 }

@@ -121,6 +121,13 @@ impl<M: Metric + Sync> Table<M> {
         })
     }
 
+    /// The number of cells of a row.
+    pub fn width(&self) -> u16
+        ensures { result ≡ self.now.width }
+    {
+        self.width
+    }
+
     /// The number of rows.
     pub fn height(&self) -> u16
         ensures { result ≡ self.now.height }
@@ -141,17 +148,18 @@ impl<M: Metric + Sync> Table<M> {
         }
     }
 
-    /// Fills a line with the distances of the cells of row `y`, of a table that has no obstacles,
-    /// in the metric's unit; `u32::MAX` where there is no obstacle.
-    pub fn fill_distances(&self, y: u16, distances: &mut [u32])
+    /// The distances of the cells of row `y`, of a table that has no obstacles, in the metric's
+    /// unit; `u32::MAX` where there is no obstacle.
+    pub fn distances(&self, y: u16) -> &[u32]
         requires nearest { self.now.nearest ≡ false }
         requires row { y < self.now.height }
-        requires width { length distances.old ≡ self.now.width }
-        ensures { AreDistances (slice_range self.now.nears (y * self.now.width)
-            (y * self.now.width + self.now.width)) distances.new }
+        ensures width { length result.now ≡ self.now.width }
+        ensures row { AreDistances (slice_range self.now.nears (y * self.now.width)
+            (y * self.now.width + self.now.width)) result.now }
     {
-        if let Some(table) = &self.distances {
-            distances.copy_from_slice(table.row(y));
+        match &self.distances {
+            Some(table) => table.row(y),
+            None => &[],
         }
     }
 

@@ -1,11 +1,8 @@
 -- No row has no line, and the line of one more row follows those before it, for which there is
 -- room.
-use Rattle.std.proofs.Common.{◌≡◌, ◌+◌, ◌-◌, ◌*◌, ◌≤◌, arith, rules, take, vec_len}
-use Rattle.std.proofs.Math.Nat.{mul-le-mul_right}
-use Rattle.std.specs.List.{slice_range}
-use Rattle.engines.specs.dist.Table.{row_line}
+use Rattle.std.proofs.Common.{◌≡◌, ◌+◌, ◌-◌, ◌*◌, arith, rules}
 use Rattle.engines.proofs.RowLemmas.{rows_text-none, rows_text-more}
-use Rattle.engines.proofs.dist.parts.RowCells.put_lines.Goals as goal
+use Rattle.engines.proofs.dist.parts.put_lines.Goals as goal
 
 pub rows-init : goal.rows-init
 rows-init g c =
@@ -17,9 +14,9 @@ rows-init g c =
             c.args.printer.now.table.nears,
       ) (search rules);
       taken = search rules;
+      within = search rules;
       room = search rules;
       cells = c.requires.cells;
-      line = c.requires.line;
     }
 
 pub rows-preserved : goal.rows-preserved
@@ -29,15 +26,6 @@ rows-preserved g c =
     let here : c.args.from + (c.rows.y - c.args.from) ≡ c.rows.y = omega arith in
     let more : ((c.rows.y - c.args.from) + 1) * (25 * width + 1)
     ≡ (c.rows.y - c.args.from) * (25 * width + 1) + (25 * width + 1) = omega arith in
-    let within : ((c.rows.y - c.args.from) + 1) * (25 * width + 1)
-    ≤ (c.args.to - c.args.from) * (25 * width + 1) =
-    mul-le-mul_right (25 * width + 1) (omega arith) in
-    let line : take c.put_line-end.result c.put_line-end.new.line
-    ≡ row_line c.args.printer.now.nearest
-    (slice_range c.args.printer.now.table.nears (c.rows.y * width) (c.rows.y * width + width)) =
-    c.put_line-end.ensures.line.text in
-    let longer : vec_len c.extend_from_slice.new.self
-    ≡ vec_len c.rows.text + c.put_line-end.result = search rules in
     record {
       text =
           rw (
@@ -46,12 +34,12 @@ rows-preserved g c =
                 (c.rows.y - c.args.from) c.args.printer.now.table.nears,
             here,
           )
-          (search rules);
+          (rw c.rows.invariant.text at c.put_next-end.ensures.line);
       taken = rw (
         count,
         more,
-      ) (omega (arith, longer, c.rows.invariant.taken, c.put_line-end.ensures.end));
-      room = search rules;
-      cells = c.put_line-end.ensures.cells;
-      line = rw c.put_line-end.auto.line c.rows.invariant.line;
+      ) (omega (arith, c.rows.invariant.taken, c.put_next-end.ensures.end));
+      within = c.put_next-end.ensures.within;
+      room = omega (arith, c.rows.invariant.room, c.put_next-end.ensures.room);
+      cells = rw c.put_next-end.auto.row c.rows.invariant.cells;
     }
