@@ -1,4 +1,5 @@
 mod Answering
+mod Fours
 mod Lines
 mod MeasuredLines
 mod PartLemmas
