@@ -1,6 +1,6 @@
 -- The obstacle that comes first, as more tiles and bands are searched.
 use Rattle.std.proofs.Common.{◌≡◌, ℕ, ◌+◌, ◌*◌, ◌/◌, ◌^◌, ◌<◌, ◌≤◌, inl, inr, Option}
-use Rattle.std.proofs.Common.{◌-◌, max}
+use Rattle.std.proofs.Common.{◌-◌, max, min}
 use Rattle.std.proofs.Common.{Some, None, get_or, sym, subst, arith}
 use Rattle.std.specs.Int.{bit_at}
 use Rattle.std.proofs.lemmas.Bool.{cases_lt}
@@ -258,14 +258,12 @@ IsSpotBelow-map_all distance cells rect band limit best bitmap ended =
     (IsObstacle cells) rect limit best (λ a b here. here.0)
     (λ a b here. let row = (obstacle_within cells bitmap a b here).3 in (here, omega arith))
 
--- what is found in a tile is a seed
-pub IsSeed-found : (distance : ℕ → ℕ → ℕ) (cells : Cells) (rect : Rect) (band tile limit : ℕ)
-    (found : Option Found) → IsSpotBelow distance (IsInTile cells band tile) rect limit found
-    → IsSeed distance cells rect limit (limit_with limit found)
-IsSeed-found distance cells rect band tile limit None far =
-    record { within = omega arith; some = λ less. absurd (omega arith) }
-IsSeed-found distance cells rect band tile limit (Some found) first =
-    let near = first.nearer in
+-- the lesser of the limit and what is above the distance of a tile's obstacle is a seed
+pub IsSeed-found : (distance : ℕ → ℕ → ℕ) (cells : Cells) (rect : Rect)
+    (band tile most limit : ℕ) (found : Found)
+    → IsSpotBelow distance (IsInTile cells band tile) rect most (Some found)
+    → IsSeed distance cells rect limit (min limit (found.dist + 1))
+IsSeed-found distance cells rect band tile most limit found first =
     let is = first.distance_is in
     record {
       within = omega arith;

@@ -7,7 +7,8 @@ ghost use Rattle.bits.specs.Words.{words_across};
 ghost use Rattle.clearance.specs.Bands.{IsMarkedRow};
 ghost use Rattle.clearance.specs.Rows.{IsFar};
 ghost use Rattle.clearance.specs.Search.{column_gap, row_gap};
-ghost use Rattle.clearance.specs.Spots.{IsInBand, IsInTile, IsInWord, IsSpotBelow, IsWithNext};
+ghost use Rattle.clearance.specs.Spots.{IsInBand, IsInTile, IsInWord, IsSeed, IsSpotBelow};
+ghost use Rattle.clearance.specs.Spots.{IsWithNext};
 
 use crate::bit::{bits_from, bits_through};
 use crate::far_bands::rows_apart;
@@ -15,7 +16,6 @@ use crate::far_columns::are_tiles_far;
 use crate::found::Found;
 use crate::part::row_apart;
 use crate::rows::Rows;
-use crate::seed::seeded;
 use crate::spot::{first_in_word, limit_with, merged};
 use crate::tiles::{NO_TILE, next_tile};
 use metric::{BAND_ROWS, LAST_FRAMED, MOST_SIDE, Metric, Rect, WORD_CELLS};
@@ -209,12 +209,18 @@ fn first_by_bands<M: Metric, R: Rows>(rows: &mut R, rect: Rect, limit: u64) -> O
     best
 }
 
-/// The first of the obstacles, seen from the rectangle, if its distance is below the limit.
-pub fn first_by_tiles<M: Metric, R: Rows>(rows: &mut R, rect: Rect, limit: u64) -> Option<Found>
+/// The first of the obstacles, seen from the rectangle, if its distance is below the limit, for
+/// which this is a seed.
+pub fn first_by_tiles<M: Metric, R: Rows>(
+    rows: &mut R,
+    rect: Rect,
+    _limit: u64,
+    seed: u64,
+) -> Option<Found>
     requires bitmap { IsBitmap (R.cells rows.old) }
-    ensures first { IsSpotBelow M.distance (IsObstacle (R.cells rows.old)) rect limit result }
+    requires seed { IsSeed M.distance (R.cells rows.old) rect _limit seed }
+    ensures first { IsSpotBelow M.distance (IsObstacle (R.cells rows.old)) rect _limit result }
     ensures rows { rows.new ≡ rows.old }
 {
-    let seed = seeded::<M, R>(rows, rect, limit);
     first_by_bands::<M, R>(rows, rect, seed)
 }

@@ -5,6 +5,7 @@ ghost use Rattle.std.specs.Prelude.{◌≡◌, ◌<◌};
 ghost use Rattle.bits.specs.Cells.{IsInside, IsObstacle};
 ghost use Rattle.clearance.specs.Nearest.{IsNearCell};
 ghost use Rattle.clearance.specs.Search.{IsLeastInBits, IsRectIn};
+ghost use Rattle.clearance.specs.Spots.{IsSeed};
 
 use crate::by_tiles::first_by_tiles;
 use crate::clear::{is_clear_within, small_reach};
@@ -12,7 +13,7 @@ use crate::found::Found;
 use crate::nearest::{cell_rect, nearest_by_rows};
 use crate::rows::{Rows, holds};
 use crate::search::{NO_LIMIT, least_by_rows};
-use crate::seed::seems_far;
+use crate::seed::far_seed;
 use metric::{Cell, Metric, Rect};
 
 /// The least of `limit` and of the distances of the rectangle's cells to the bitmap's obstacles.
@@ -25,20 +26,20 @@ pub fn least_in_bits<M: Metric, R: Rows>(rows: &mut R, rect: Rect, limit: u64) -
     if is_clear_within::<M, R>(rows, rect, reach) {
         return limit;
     }
-    if seems_far::<M, R>(rows, rect, limit) {
-        least_by_tiles::<M, R>(rows, rect, limit)
-    } else {
-        least_by_rows::<M, R>(rows, rect, limit, reach)
+    match far_seed::<M, R>(rows, rect, limit) {
+        Some(seed) => least_by_tiles::<M, R>(rows, rect, limit, seed),
+        None => least_by_rows::<M, R>(rows, rect, limit, reach),
     }
 }
 
-/// As `least_in_bits`, by tiles.
-fn least_by_tiles<M: Metric, R: Rows>(rows: &mut R, rect: Rect, limit: u64) -> u64
-    requires { IsRectIn (R.cells rows.old) rect }
+/// As `least_in_bits`, by tiles, with a seed for the limit.
+fn least_by_tiles<M: Metric, R: Rows>(rows: &mut R, rect: Rect, limit: u64, seed: u64) -> u64
+    requires rect { IsRectIn (R.cells rows.old) rect }
+    requires seed { IsSeed M.distance (R.cells rows.old) rect limit seed }
     ensures least { IsLeastInBits M.distance (IsObstacle (R.cells rows.old)) rect limit result }
     ensures rows { rows.new ≡ rows.old }
 {
-    match first_by_tiles::<M, R>(rows, rect, limit) {
+    match first_by_tiles::<M, R>(rows, rect, limit, seed) {
         Some(found) => distance_of(found),
         None => limit,
     }
@@ -61,9 +62,8 @@ pub fn nearest<M: Metric, R: Rows>(rows: &mut R, cell: Cell) -> Option<Found>
     let inside = holds(rows, cell);
     prove!(inside);
     let here = cell_rect(cell);
-    if seems_far::<M, R>(rows, here, NO_LIMIT) {
-        first_by_tiles::<M, R>(rows, here, NO_LIMIT)
-    } else {
-        nearest_by_rows::<M, R>(rows, cell)
+    match far_seed::<M, R>(rows, here, NO_LIMIT) {
+        Some(seed) => first_by_tiles::<M, R>(rows, here, NO_LIMIT, seed),
+        None => nearest_by_rows::<M, R>(rows, cell),
     }
 }

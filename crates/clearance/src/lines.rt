@@ -10,7 +10,7 @@ use crate::far_bands::near_bands;
 use crate::part::Part;
 use crate::rows::Rows;
 use crate::search::lowered;
-use crate::seed::seems_far;
+use crate::seed::far_seed;
 use crate::segment::step_towards;
 use crate::strip::Strip;
 use metric::{Edge, LAST_FRAMED, Metric, Rect};
@@ -72,8 +72,7 @@ impl Lines {
         self.first_in_bits::<M, R>(rows, left, framed)
     }
 
-    /// As `first_near`, with an open edge: by tiles where obstacles seem to be far away, and
-    /// otherwise by rows.
+    /// As `first_near`, with an open edge.
     fn first_in_bits<M: Metric, R: Rows>(self, rows: &mut R, rect: Rect, end: u16) -> u16
         requires strip { IsStripIn (R.cells rows.old) self.strip }
         requires lines { IsRectOf self end rect }
@@ -85,26 +84,33 @@ impl Lines {
         if is_clear_within::<M, R>(rows, rect, reach) {
             return end;
         }
-        if seems_far::<M, R>(rows, rect, self.limit) {
-            self.first_by_tiles::<M, R>(rows, rect, end)
-        } else {
-            self.first_by_rows::<M, R>(rows, rect, end, reach)
-        }
+        self.first_by_tiles::<M, R>(rows, rect, end, reach)
     }
 
-    /// As `first_in_bits`, by tiles. Each row in which an obstacle is found near leaves fewer lines
-    /// for the next search; after a few of them the lines that are left are searched by rows, so
-    /// that no order of obstacles asks for many.
-    fn first_by_tiles<M: Metric, R: Rows>(self, rows: &mut R, rect: Rect, end: u16) -> u16
+    /// As `first_in_bits`, by tiles while that pays. Each row in which an obstacle is found near
+    /// leaves fewer lines for the next search; after a few of them the lines that are left are
+    /// searched by rows, so that no order of obstacles asks for many.
+    fn first_by_tiles<M: Metric, R: Rows>(
+        self,
+        rows: &mut R,
+        rect: Rect,
+        end: u16,
+        reach: u16,
+    ) -> u16
         requires strip { IsStripIn (R.cells rows.old) self.strip }
         requires lines { IsRectOf self end rect }
+        requires reach { 0 < reach }
+        requires far { reach < MOST_REACH → IsFar (M.distance reach 0) self.limit }
         ensures found { IsFirstBefore M.distance (IsBlocked (R.cells rows.old) Open) self end
             result }
         ensures rows { rows.new ≡ rows.old }
     {
         let (mut line, mut left) = (end, rect);
         'turns: for _turn in 0..MOST_TURNS {
-            let Some(found) = first_by_tiles::<M, R>(rows, left, self.limit) else {
+            let Some(seed) = far_seed::<M, R>(rows, left, self.limit) else {
+                return self.first_by_rows::<M, R>(rows, left, line, reach);
+            };
+            let Some(found) = first_by_tiles::<M, R>(rows, left, self.limit, seed) else {
                 return line;
             };
             let next = self.first_by_quarters::<M, R>(rows, Part::Row(found.cell.y), line - 1);
@@ -114,7 +120,7 @@ impl Lines {
             left = self.rect_left(left, line, next);
             line = next;
         }
-        self.first_by_rows::<M, R>(rows, left, line, MOST_REACH)
+        self.first_by_rows::<M, R>(rows, left, line, reach)
     }
 
     /// As `first_in_bits`, by rows.

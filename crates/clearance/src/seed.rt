@@ -1,6 +1,6 @@
-//! A limit for a search, from the tile of which a cell may be nearest.
+//! Whether a search by tiles pays, and a limit for it, from the tile that may be the nearest.
 
-ghost use Rattle.std.specs.Prelude.{◌≡◌, ◌<◌, ◌≤◌};
+ghost use Rattle.std.specs.Prelude.{◌≡◌, ◌<◌, ◌≤◌, IfSome};
 ghost use Rattle.bits.specs.Cells.{IsBitmap};
 ghost use Rattle.clearance.specs.Spots.{IsSeed};
 
@@ -9,7 +9,6 @@ use crate::by_tiles::{columns_apart, first_in_tile};
 use crate::far_bands::rows_apart;
 use crate::rows::Rows;
 use crate::search::{FAR_GAP, NO_LIMIT};
-use crate::spot::limit_with;
 use crate::tiles::{NO_TILE, after_last_tile, is_marked_tile, next_tile};
 use metric::{BAND_ROWS, MOST_SIDE, Metric, Rect, WORD_CELLS};
 
@@ -55,15 +54,16 @@ fn nearer_of_band<M: Metric, R: Rows>(rows: &R, best: NearTile, rect: Rect, band
     nearer_tile::<M>(right, rect, band, after - 1)
 }
 
-/// The tile of which a cell may be nearest to the rectangle; tile 64 if none may have an obstacle.
-fn nearest_tile<M: Metric, R: Rows>(rows: &R, rect: Rect) -> NearTile
+/// The tile of which a cell may be nearest to the rectangle; tile 64 if none may have an obstacle
+/// below the limit.
+fn nearest_tile<M: Metric, R: Rows>(rows: &R, rect: Rect, limit: u64) -> NearTile
     ensures { result.band < 64 }
 {
     let (top, bottom) = (rect.y0 / BAND_ROWS, (rect.y1 - 1) / BAND_ROWS);
     let mut best = NearTile {
         band: 0,
         tile: NO_TILE,
-        bound: NO_LIMIT,
+        bound: limit,
     };
     'inside: for band in top..bottom + 1 {
         best = nearer_of_band::<M, R>(rows, best, rect, band);
@@ -79,22 +79,40 @@ fn nearest_tile<M: Metric, R: Rows>(rows: &R, rect: Rect) -> NearTile
     best
 }
 
-/// The limit, or a lesser one such that some obstacle is nearer. Searches one tile if there is no
-/// limit.
-pub fn seeded<M: Metric, R: Rows>(rows: &mut R, rect: Rect, limit: u64) -> u64
+/// A limit that leaves more rows than this is loose: it leaves many tiles.
+const LOOSE_GAP: u16 = 4 * FAR_GAP;
+
+/// A limit for a search by tiles, if that pays: if obstacles seem to be far away, and marks don't
+/// mislead.
+pub fn far_seed<M: Metric, R: Rows>(rows: &mut R, rect: Rect, limit: u64) -> Option<u64>
     requires bitmap { IsBitmap (R.cells rows.old) }
-    ensures seed { IsSeed M.distance (R.cells rows.old) rect limit result }
+    ensures seed { IfSome result (λ seed. IsSeed M.distance (R.cells rows.old) rect limit seed) }
     ensures rows { rows.new ≡ rows.old }
 {
-    if limit < NO_LIMIT {
-        return limit;
+    if !seems_far::<M, R>(rows, rect, limit) {
+        return None;
     }
-    let near = nearest_tile::<M, R>(rows, rect);
+    if u64::from(M::of(0, LOOSE_GAP)) >= limit {
+        return Some(limit);
+    }
+    seeded::<M, R>(rows, rect, limit)
+}
+
+/// The limit, or a lesser one such that some obstacle is nearer: searches the tile of which a cell
+/// may be nearest. `None` if it has no obstacle, although it is marked.
+fn seeded<M: Metric, R: Rows>(rows: &mut R, rect: Rect, limit: u64) -> Option<u64>
+    requires bitmap { IsBitmap (R.cells rows.old) }
+    ensures seed { IfSome result (λ seed. IsSeed M.distance (R.cells rows.old) rect limit seed) }
+    ensures rows { rows.new ≡ rows.old }
+{
+    let near = nearest_tile::<M, R>(rows, rect, limit);
     if usize::from(near.tile) >= rows.across() {
-        return limit;
+        return Some(limit);
     }
-    let found = first_in_tile::<M, R>(rows, near.band, near.tile, rect, limit);
-    limit_with(limit, found)
+    match first_in_tile::<M, R>(rows, near.band, near.tile, rect, NO_LIMIT) {
+        Some(found) => Some(limit.min(u64::from(found.dist) + 1)),
+        None => None,
+    }
 }
 
 /// The most rows of a rectangle for each tile near it that may have an obstacle, for a search by
@@ -103,7 +121,7 @@ const ROWS_A_TILE: u32 = 64;
 
 /// Whether few tiles within 32 cells of the rectangle may have an obstacle, none unless it has many
 /// rows, and an obstacle below the limit may be farther away: then it pays to search by tiles.
-pub fn seems_far<M: Metric, R: Rows>(rows: &R, rect: Rect, limit: u64) -> bool {
+fn seems_far<M: Metric, R: Rows>(rows: &R, rect: Rect, limit: u64) -> bool {
     if u64::from(M::of(0, FAR_GAP)) >= limit {
         return false;
     }

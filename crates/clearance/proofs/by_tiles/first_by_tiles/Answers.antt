@@ -4,6 +4,6 @@ use Rattle.clearance.proofs.by_tiles.first_by_tiles.Goals as goal
 
 pub returns-clause-first : goal.returns-clause-first
 returns-clause-first g c =
-    IsSpotBelow-seeded g.M.Metric.distance (g.R.Rows.cells c.args.rows.now) c.args.rect c.args.limit
-    c.seeded-seed.result c.first_by_bands.result c.seeded-seed.ensures.seed
-    (rw (c.seeded-seed.ensures.rows) at c.first_by_bands.ensures.first)
+    IsSpotBelow-seeded g.M.Metric.distance (g.R.Rows.cells c.args.rows.now) c.args.rect
+    c.args._limit c.args.seed c.first_by_bands.result c.requires.seed
+    c.first_by_bands.ensures.first

@@ -8,11 +8,11 @@ returns-in-Some-clause-least g c =
     let is = c.distance_of.ensures.is in
     let few = c.distance_of.ensures.few in
     rw is (IsLeastInBits-some g.M.Metric.distance g.met.M.Metric.grows g.met.M.Metric.stays_nearer
-    (g.R.Rows.cells c.args.rows.now) c.args.rect c.args.limit c.in-Some.found c.requires.bitmap
+    (g.R.Rows.cells c.args.rows.now) c.args.rect c.args.limit c.in-Some.found c.requires.rect.bitmap
     (omega arith) c.in-Some.ensures.first)
 
 pub returns-in-None-clause-least : goal.returns-in-None-clause-least
 returns-in-None-clause-least g c =
     IsLeastInBits-none g.M.Metric.distance g.met.M.Metric.grows g.met.M.Metric.stays_nearer
-    (g.R.Rows.cells c.args.rows.now) c.args.rect c.args.limit c.requires.bitmap
+    (g.R.Rows.cells c.args.rows.now) c.args.rect c.args.limit c.requires.rect.bitmap
     c.in-None.ensures.first
