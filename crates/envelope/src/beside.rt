@@ -10,7 +10,6 @@
 ghost use Rattle.std.specs.Prelude.{◌≡◌, ℕ, negsuc, pos, ◌+◌, ◌-◌, ◌*◌, ◌≤ℤ◌, ◌<◌, ◌≤◌, ◌⊎◌};
 ghost use Rattle.std.specs.Prelude.{length, slice_index, slice_index_or, Some, IfSome};
 ghost use Rattle.metric.specs.Edge.{shift, spot_of};
-ghost use Rattle.metric.specs.Lanes.{AreUpTo};
 ghost use Rattle.envelope.specs.Beside.{AreBestNear, AreDecided, AreColumnParts, AreReaches};
 ghost use Rattle.envelope.specs.Beside.{AreSides, AreSmall, AreTold};
 ghost use Rattle.envelope.specs.Columns.{AreEntries, AreSaid, IsSaid};
@@ -19,8 +18,9 @@ ghost use Rattle.envelope.specs.Pieces.{IsLeftBound, IsRightBound};
 use crate::answer::CellValue;
 use crate::border::Border;
 use crate::cover::Span;
-use crate::lanes::{all_of, are_below, chosen, difference, least, load, sum};
+use crate::lanes::{all_of, are_below, chosen, least, load};
 use crate::piece::{Piece, fill_piece};
+use crate::reaches::{REACHES, Sides, reach_at, set_reaches};
 use column::NONE;
 use metric::{Edge, FRAMED_SIDE, LAST_FRAMED, Metric, Near};
 use std::simd::prelude::*;
@@ -36,9 +36,6 @@ const NO_PART: u16 = 32400;
 
 /// The most columns searched on each side before a cell is given up.
 const FARTHEST: u16 = 96;
-
-/// How many reaches a row needs, each eight times.
-const REACHES: usize = 8 * 98;
 
 /// The steps outwards that a row may always take.
 const FREE_STEPS: u32 = 150;
@@ -57,42 +54,6 @@ const MOST_STEPS: u32 = 20_000;
 struct Eight {
     best: u16x8,
     away: u16x8,
-}
-
-/// The offsets of columns to the left and to the right of eight cells.
-#[derive(Clone, Copy)]
-struct Sides {
-    left: u16x8,
-    right: u16x8,
-}
-
-impl Sides {
-    ghost use Rattle.envelope.specs.Beside.{AreSides};
-
-    /// The columns next to the cells.
-    #[inline(always)]
-    fn next() -> Sides
-        ensures { AreSides 1 result.left result.right }
-    {
-        Sides {
-            left: all_of(127),
-            right: all_of(129),
-        }
-    }
-
-    /// The columns `more` columns farther away than these, which are `_k` columns away.
-    #[inline(always)]
-    fn farther(self, _k: u16, more: u16) -> Sides
-        requires sides { AreSides _k self.left self.right }
-        requires few { _k + more ≤ 128 }
-        ensures { AreSides (_k + more) result.left result.right }
-    {
-        let more = all_of(more);
-        Sides {
-            left: difference(self.left, more),
-            right: sum(self.right, more),
-        }
-    }
 }
 
 /// Fills the row with the obstacle of the column nearest to each cell. Returns whether most cells
@@ -246,28 +207,6 @@ fn set_parts<M: Metric>(entries: &[u16], y: u16, parts: &mut [u16])
     'columns: for column in 0..entries.len() {
         parts[column + FIRST] = M::part(y.abs_diff(entries[column]));
     }
-}
-
-/// Sets the reaches of up to 97 columns, each eight times.
-#[inline(never)]
-fn set_reaches<M: Metric>(reaches: &mut [u16])
-    requires { length reaches.old ≡ REACHES }
-    ensures { AreReaches M.reach_of reaches.new }
-{
-    'places: for place in 0..REACHES as u16 {
-        reaches[usize::from(place)] = M::reach(place / 8);
-    }
-}
-
-/// The reach of this many columns, in eight lanes.
-#[inline(always)]
-fn reach_at<M: Metric>(reaches: &[u16], k: u16) -> u16x8
-    requires reaches { AreReaches M.reach_of reaches.now }
-    requires few { k ≤ 97 }
-    ensures each { (i : ℕ) → i < 8 → slice_index result i ≡ M.reach_of k }
-    ensures few { AreUpTo 9409 result }
-{
-    load(reaches, 8 * usize::from(k))
 }
 
 /// The nearest columns of sixteen cells, from the one at `at` on, and how many steps that took;

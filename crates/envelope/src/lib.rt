@@ -10,6 +10,7 @@ mod cover;
 mod fill;
 mod lanes;
 mod piece;
+mod reaches;
 mod scan;
 mod stack;
 

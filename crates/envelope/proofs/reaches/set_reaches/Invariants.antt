@@ -1,6 +1,6 @@
 -- The reaches so far are set.
 use Rattle.std.proofs.Common.{◌≡◌, ℕ, ◌/◌, ◌<◌, ◌≤◌, length, slice_index}
-use Rattle.envelope.proofs.beside.set_reaches.Given as goal
+use Rattle.envelope.proofs.reaches.set_reaches.Given as goal
 
 abbrev pub invariant-places : goal.invariant-places
 invariant-places g l = record {
