@@ -15,6 +15,8 @@ mod columns;
 #[cfg(test)]
 mod compare;
 #[cfg(test)]
+mod distance_tables;
+#[cfg(test)]
 mod draws;
 #[cfg(test)]
 mod gates;
