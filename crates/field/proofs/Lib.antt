@@ -3,4 +3,4 @@ pub mod Existence
 mod ObstacleLemmas
 mod RowLemmas
 mod StripLemmas
-mod DistanceLemmas
+pub mod DistanceLemmas
