@@ -1,4 +1,5 @@
 mod Answering
+mod ByRowLemmas
 mod Fours
 mod Lines
 mod MeasuredLines

@@ -1,4 +1,5 @@
 -- What the command `dist` writes.
+pub mod ByRow
 pub mod Dist
 pub mod Measured
 pub mod Parts

@@ -195,7 +195,7 @@ impl<M: Metric + Sync> Table<M> {
 }
 
 /// Rows a thread writes per batch when it is the only one, so that their lines stay in cache.
-const FEW_ROWS: u32 = 16;
+pub const FEW_ROWS: u32 = 16;
 
 /// The fewest cells of a map whose rows several threads share. On a smaller map, starting threads,
 /// and waiting for the last one on a busy machine, takes longer than it saves.
