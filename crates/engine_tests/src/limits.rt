@@ -1,4 +1,5 @@
-//! Worked rows on images high enough for lines to be carried from row to row, up to the highest.
+//! Worked rows on images high enough for lines to be carried from row to row, up to the highest,
+//! and images of about as many rows as are written at once.
 
 ghost use Rattle.std.specs.Prelude.{◌<◌};
 
@@ -69,6 +70,42 @@ fn images_of_many_rows(rt: HostRuntime) -> Result<(), Fail> {
                 }
             }
             same(&rt, writer.bytes(), want.as_bytes(), ("rows", height));
+        }
+    }
+    Ok(())
+}
+
+/// A plain image with this many rows of seven cells, of which some are obstacles.
+fn spotted_image(alloc: Global, height: u32) -> Result<String, Fail> {
+    let mut image = format!(in alloc; "P1\n7 {height}\n")?;
+    for cell in 0..7 * height.min(4096) {
+        let spot = cell % 11 == 5 || cell % 29 == 0;
+        image.push(if spot { '1' } else { '0' })?;
+    }
+    Ok(image)
+}
+
+#[test]
+fn one_worker_writes_what_several_do(rt: HostRuntime) -> Result<(), Fail> {
+    for height in [1, 15, 16, 17, 33] {
+        let image = spotted_image(rt.alloc(), height)?;
+        for (edge, nearest) in [
+            (Edge::Open, false),
+            (Edge::Open, true),
+            (Edge::Wall, false),
+            (Edge::Wall, true),
+        ] {
+            let one = DistOptions {
+                metric: MetricKind::Euclid2,
+                edge,
+                nearest,
+                query: None,
+                workers: 1,
+            };
+            let several = DistOptions { workers: 3, ..one };
+            let alone = written(&rt, &one, image.as_bytes());
+            let shared = written(&rt, &several, image.as_bytes());
+            same(&rt, alone.bytes(), shared.bytes(), ("rows", height));
         }
     }
     Ok(())
