@@ -1,6 +1,7 @@
 //! Writing an image in the plain form.
 
-ghost use Rattle.std.specs.Prelude.{◌≡◌, ℕ, ◌+◌, ◌-◌, ◌*◌, ◌<◌, ◌≤◌, ◌++◌, length, slice_index};
+ghost use Rattle.std.specs.Prelude.{◌≡◌, ℕ, ◌+◌, ◌-◌, ◌*◌, ◌<◌, ◌≤◌, ◌++◌, ◌∷◌, [], length};
+ghost use Rattle.std.specs.Prelude.{slice_index};
 ghost use Rattle.std.specs.Prelude.{vec_len, vec_capacity, OnOk, OnErr, IfErr};
 ghost use Rattle.std.specs.List.{range_with_len, flat_map};
 ghost use Rattle.bits.specs.Cells.{has};
@@ -24,7 +25,21 @@ pub fn row_length(width: u16) -> usize
     usize::from(width) + usize::from(width).div_ceil(LINE_DIGITS)
 }
 
+/// Appends a line. The buffer has capacity for it.
+#[inline(always)]
+fn push_line(out: &mut Vec<u8>, line: &[u8])
+    requires room { vec_len out.old + length line.now + 1 ≤ vec_capacity out.old }
+    ensures text { out.new.items ≡ (out.old.items ++ line.now) ++ 10 ∷ [] }
+    ensures length { vec_len out.new ≡ vec_len out.old + length line.now + 1 }
+    ensures room { vec_capacity out.old ≤ vec_capacity out.new }
+{
+    let _ = out.extend_from_slice(line);
+    out.push_reserved(b'\n');
+}
+
 /// Appends the digits of row y in lines. The buffer has capacity for them.
+///
+/// The lines but the last have a constant length, so that the compiler copies them in vectors.
 fn push_lines(out: &mut Vec<u8>, bitmap: &Bitmap, y: u16, digits: &[u8])
     requires room { vec_len out.old + row_length bitmap.now.width ≤ vec_capacity out.old }
     requires as_many { length digits.now ≡ bitmap.now.width }
@@ -37,11 +52,12 @@ fn push_lines(out: &mut Vec<u8>, bitmap: &Bitmap, y: u16, digits: &[u8])
     ensures room { vec_capacity out.old ≤ vec_capacity out.new }
 {
     let mut start = 0;
-    'lines: while start < digits.len() {
-        let end = digits.len().min(start + LINE_DIGITS);
-        let _ = out.extend_from_slice(&digits[start..end]);
-        out.push_reserved(b'\n');
-        start = end;
+    'lines: while start + LINE_DIGITS <= digits.len() {
+        push_line(out, &digits[start..start + LINE_DIGITS]);
+        start += LINE_DIGITS;
+    }
+    if start < digits.len() {
+        push_line(out, &digits[start..]);
     }
 }
 

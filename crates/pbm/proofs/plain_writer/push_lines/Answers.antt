@@ -1,32 +1,41 @@
--- One more line.
-use Rattle.std.proofs.Common.{rules, ◌≡◌, ℕ, ◌+◌, ◌-◌, ◌++◌, [], ◌∷◌, ◌∙◌, List, take, drop}
-use Rattle.std.proofs.Common.{vec_len, ap, arith}
+-- One more line of 70 digits, and then the rest of the row, if there is one.
+use Rattle.std.proofs.Common.{rules, ◌≡◌, ℕ, ◌+◌, ◌-◌, ◌*◌, ◌++◌, [], ◌∷◌, ◌∙◌, List, take, drop}
+use Rattle.std.proofs.Common.{ap, arith, length}
+use Rattle.std.specs.List.{range_with_len, flat_map}
+use Rattle.pbm.specs.Writing.{plain_digit}
 use Rattle.pbm.proofs.Lines.{line-added}
 use Rattle.pbm.proofs.plain_writer.push_lines.Goals as goal
 
 pub lines-preserved : goal.lines-preserved
 lines-preserved c =
-    let line : List ℕ = take (c.min-end.result - c.lines.start)
-    (drop c.lines.start c.args.digits.now) in
-    let aligned = c.lines.invariant.aligned c.lines-test.true in
-    let items : c.extend_from_slice.new.self.items
-    ≡ c.lines.out.items ++ take (c.min-end.result - c.lines.start)
-    (drop c.lines.start c.args.digits.now) = search rules in
-    let end = c.min-end.ensures in
-    let longer : vec_len c.extend_from_slice.new.self
-    ≡ vec_len c.lines.out + (c.min-end.result - c.lines.start) = search rules in
+    let aligned = c.lines.invariant.aligned in
+    let start = c.lines.start in
+    let digits = c.args.digits.now in
     record {
-      text = c.push_reserved.ensures.items
-          ∙ (ap (λ (t : List ℕ). t ++ 10 ∷ [])
-          (items ∙ ap (λ (t : List ℕ). t ++ line) c.lines.invariant.text)
-          ∙ line-added c.args.bitmap.now c.args.y c.lines.start c.min-end.result c.args.digits.now
-          c.args.out.now.items c.requires.as_many c.requires.digits aligned c.lines-test.true
-          end);
+      text = c.push_line.ensures.text
+          ∙ (ap (λ (t : List ℕ). (t ++ take (start + 70 - start) (drop start digits)) ++ 10 ∷ [])
+          c.lines.invariant.text
+          ∙ line-added c.args.bitmap.now c.args.y start (start + 70) digits
+          c.args.out.now.items c.requires.as_many c.requires.digits aligned (omega arith)
+          (omega arith));
       within = search rules;
-      aligned = λ more. omega (arith, more, aligned, end);
-      added = (let added = c.lines.invariant.added in let last = c.push_reserved.ensures.len in
-          let some = c.lines-test.true in omega (arith, aligned, end, longer));
-      room = (let a = c.extend_from_slice.ensures.capacity in
-          let b = c.push_reserved.ensures.capacity in let d = c.lines.invariant.room in
-          omega arith);
+      aligned = omega (arith, aligned);
+      added = (let added = c.lines.invariant.added in let longer = c.push_line.ensures.length in
+          omega (arith, aligned, added, longer));
+      room = (let a = c.push_line.ensures.room in let b = c.lines.invariant.room in omega arith);
     }
+
+pub returns-then-start-digits-clause-text : goal.returns-then-start-digits-clause-text
+returns-then-start-digits-clause-text c =
+    let start = c.lines.start in
+    let digits = c.args.digits.now in
+    let bitmap = c.args.bitmap.now in
+    c.push_line-then-start-digits.ensures.text
+    ∙ (ap (λ (t : List ℕ). (t ++ take (length digits - start) (drop start digits)) ++ 10 ∷ [])
+    c.lines.invariant.text
+    ∙ (line-added bitmap c.args.y start (length digits) digits c.args.out.now.items
+    c.requires.as_many c.requires.digits c.lines.invariant.aligned c.if-start-digits.true
+    (omega arith)
+    ∙ ap (λ (n : ℕ). c.args.out.now.items
+    ++ flat_map (plain_digit bitmap) (range_with_len (c.args.y * bitmap.width) n))
+    c.requires.as_many))

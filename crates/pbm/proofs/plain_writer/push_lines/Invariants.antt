@@ -1,5 +1,5 @@
--- The lines so far were added; each but the last has 70 digits.
-use Rattle.std.proofs.Common.{◌≡◌, ◌+◌, ◌-◌, ◌*◌, ◌%◌, ◌<◌, ◌≤◌, ◌++◌, length, vec_len}
+-- The lines so far were added; each has 70 digits.
+use Rattle.std.proofs.Common.{◌≡◌, ◌+◌, ◌-◌, ◌*◌, ◌%◌, ◌≤◌, ◌++◌, length, vec_len}
 use Rattle.std.proofs.Common.{vec_capacity}
 use Rattle.std.specs.List.{range_with_len, flat_map}
 use Rattle.pbm.specs.Writing.{plain_digit, row_length}
@@ -10,7 +10,7 @@ invariant-lines l = record {
   text : l.out.items ≡ l.fn.out.items ++ flat_map (plain_digit l.bitmap)
       (range_with_len (l.y * l.bitmap.width) l.start);
   within : l.start ≤ length l.digits;
-  aligned : l.start < length l.digits → l.start % 70 ≡ 0;
+  aligned : l.start % 70 ≡ 0;
   added : vec_len l.out ≡ vec_len l.fn.out + row_length l.start;
   room : vec_capacity l.fn.out ≤ vec_capacity l.out;
 }
