@@ -1,11 +1,11 @@
 -- Eight bytes as a word, and the words of a bitmap that is being read.
 use Rattle.std.proofs.Common.{◌≡◌, ℕ, zero, suc, ◌+◌, ◌-◌, ◌*◌, ◌/◌, ◌%◌, ◌^◌, ◌<◌, ◌≤◌, ◌==◌, ◌&&◌}
-use Rattle.std.proofs.Common.{Bool, true, ltb, List, [], ◌∷◌, length, get_or, set, refl, sym, ap}
+use Rattle.std.proofs.Common.{Bool, true, ltb, List, [], ◌∷◌, get_or, refl, sym, ap}
 use Rattle.std.proofs.Common.{◌∙◌, inl, inr, arith}
 use Rattle.std.specs.Int.{bit_at, reverse_bits_onto}
 use Rattle.std.proofs.lemmas.Bool.{cases_lt, lt-ltb}
 use Rattle.std.proofs.Math.Nat.{mul-le-mul_left}
-use Rattle.std.proofs.lemmas.List.{get_or_past, get_or-set_other, get_or-set_same}
+use Rattle.std.proofs.lemmas.List.{get_or_past}
 use Rattle.std.proofs.lemmas.Nat.Bits.{bit_at-suc, bit_at-zero, bit_at_lowest, bit_at_cat_low}
 use Rattle.std.proofs.lemmas.Nat.Bits.{bit_at_cat_high}
 use Rattle.bits.specs.Cells.{Cells, cells_where}
@@ -90,7 +90,7 @@ past_eight : (a b c d e f g h k : ℕ) → 8 ≤ k → get_or (a ∷ b ∷ c ∷
 past_eight a b c d e f g h k past = get_or_past (a ∷ b ∷ c ∷ d ∷ e ∷ f ∷ g ∷ h ∷ []) k 0 past
 
 -- eight bytes are small
-pub small_of_eight : (a b c d e f g h : ℕ) → a < 256 → b < 256 → c < 256 → d < 256 → e < 256
+small_of_eight : (a b c d e f g h : ℕ) → a < 256 → b < 256 → c < 256 → d < 256 → e < 256
     → f < 256 → g < 256 → h < 256 → (k : ℕ)
     → get_or (a ∷ b ∷ c ∷ d ∷ e ∷ f ∷ g ∷ h ∷ []) k 0 < 2 ^ 8
 small_of_eight a b c d e f g h sa sb sc sd se sf sg sh k = elim (cases_lt k 8) [
@@ -99,20 +99,31 @@ small_of_eight a b c d e f g h sa sb sc sd se sf sg sh k = elim (cases_lt k 8) [
   | inr past ↦ rw (past_eight a b c d e f g h k past) (omega arith)
 ]
 
--- the word of eight bytes, each of which is reversed, has each byte's bits from the highest down
-pub bit_at-word : (bytes : List ℕ) (a b c d e f g h word : ℕ)
-    → word ≡ horner (a ∷ b ∷ c ∷ d ∷ e ∷ f ∷ g ∷ h ∷ [])
-    → ((k : ℕ) → get_or (a ∷ b ∷ c ∷ d ∷ e ∷ f ∷ g ∷ h ∷ []) k 0 < 2 ^ 8)
-    → ((k : ℕ) → k < 8 → get_or (a ∷ b ∷ c ∷ d ∷ e ∷ f ∷ g ∷ h ∷ []) k 0
-    ≡ reverse_bits_onto 8 (get_or bytes k 0) 0)
-    → (i : ℕ) → i < 64 → bit_at word i ≡ bit_at (get_or bytes (i / 8) 0) (7 - i % 8)
-bit_at-word bytes a b c d e f g h word is small turned i within =
-    let byte : i / 8 < 8 = omega arith in
-    let place : i % 8 < 8 = omega arith in
+-- eight bytes from a place of a list on
+abbrev eight_of : List ℕ → ℕ → List ℕ
+eight_of bytes start =
+    get_or bytes start 0 ∷ get_or bytes (start + 1) 0 ∷ get_or bytes (start + 2) 0
+    ∷ get_or bytes (start + 3) 0 ∷ get_or bytes (start + 4) 0 ∷ get_or bytes (start + 5) 0
+    ∷ get_or bytes (start + 6) 0 ∷ get_or bytes (start + 7) 0 ∷ []
+
+-- the word of eight bytes has the bits of each of them
+pub bit_at-word : (bytes : List ℕ) (start word : ℕ) → ((k : ℕ) → get_or bytes k 0 < 256)
+    → word ≡ horner (eight_of bytes start) → (i : ℕ) → i < 64
+    → bit_at word i ≡ bit_at (get_or bytes (start + i / 8) 0) (i % 8)
+bit_at-word bytes start word small is i within =
+    let first : start ≡ start + 0 = omega arith in
+    let few : (k : ℕ) → get_or (eight_of bytes start) k 0 < 2 ^ 8 =
+    small_of_eight (get_or bytes start 0) (get_or bytes (start + 1) 0) (get_or bytes (start + 2) 0)
+    (get_or bytes (start + 3) 0) (get_or bytes (start + 4) 0) (get_or bytes (start + 5) 0)
+    (get_or bytes (start + 6) 0) (get_or bytes (start + 7) 0) (small start) (small (start + 1))
+    (small (start + 2)) (small (start + 3)) (small (start + 4)) (small (start + 5))
+    (small (start + 6)) (small (start + 7)) in
     ap (λ (w : ℕ). bit_at w i) is
-    ∙ (bit_at-horner (a ∷ b ∷ c ∷ d ∷ e ∷ f ∷ g ∷ h ∷ []) small i
-    ∙ (ap (λ (n : ℕ). bit_at n (i % 8)) (turned (i / 8) byte)
-    ∙ bit_at-reverse_low 8 (get_or bytes (i / 8) 0) 0 (i % 8) place))
+    ∙ (bit_at-horner (eight_of bytes start) few i
+    ∙ ap (λ (n : ℕ). bit_at n (i % 8))
+    (each_of_eight (λ k. get_or (eight_of bytes start) k 0 ≡ get_or bytes (start + k) 0)
+    (ap (λ (n : ℕ). get_or bytes n 0) first) refl refl refl refl refl refl refl (i / 8)
+    (omega arith)))
 
 -- the bitmap whose cells pass the test, as far as its first words, row by row from the top
 abbrev pub drawn_words : ℕ → ℕ → (ℕ → ℕ → Bool) → ℕ → Cells
@@ -143,22 +154,6 @@ drawn_words-all width height n test all =
     let yes : ltb (b * words_across width + a / 64) n ≡ true =
     lt-ltb (b * words_across width + a / 64) n (omega (arith, below, all)) in
     rw yes refl)
-
--- a further byte has been copied
-pub copied-more : (from to : List ℕ) (start place : ℕ) → place < length to
-    → ((k : ℕ) → k < place → get_or to k 0 ≡ get_or from (start + k) 0)
-    → (k : ℕ) → k < place + 1
-    → get_or (set to place (get_or from (start + place) 0)) k 0 ≡ get_or from (start + k) 0
-copied-more from to start place within before k below = elim (cases_lt k place) [
-  | inl earlier ↦
-      let apart : k ≡ place → ⊥ = λ same. omega arith in
-      get_or-set_other to place k (get_or from (start + place) 0) 0 apart ∙ before k earlier
-  | inr here ↦
-      let same : k ≡ place = omega arith in
-      ap (λ (n : ℕ). get_or (set to place (get_or from (start + place) 0)) n 0) same
-      ∙ (get_or-set_same to place (get_or from (start + place) 0) 0 within
-      ∙ ap (λ (n : ℕ). get_or from (start + n) 0) (sym same))
-]
 
 -- a bit of a word that is read is a pixel of the raster
 pub raw_word-pixel : (across : ℕ) (raster : List ℕ) (y index start i word : ℕ)

@@ -11,6 +11,7 @@ ghost use Rattle.pbm.specs.Windows.{IsPassed, IsStopped, Meets, unread};
 use crate::header::Form;
 use crate::raster::after_image;
 use crate::raw_raster::{WORD_PIXELS, bytes_across};
+use crate::raw_row::MOST_ACROSS;
 use crate::window::{ImageStop, Window};
 use bits::Bitmap;
 use metric::{PbmFault, Source};
@@ -120,9 +121,10 @@ fn take_raw<R: Source>(
 {
     let height = bitmap.height();
     let across = usize::from(bytes_across(bitmap.width()));
+    let mut reversed = [0; MOST_ACROSS];
     let mut words = [0; 64];
     'rows: for y in 0..height {
-        match window.next_row(reader, across, &mut words) {
+        match window.next_row(reader, across, &mut reversed, &mut words) {
             Ok(()) => bitmap.set_row(y, &words),
             Err(stop) => return Err(stop),
         }

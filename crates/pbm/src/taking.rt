@@ -11,6 +11,7 @@ ghost use Rattle.pbm.specs.Windows.{CountsReads, Follows, IsFaultOf, IsOpen, Mee
 use crate::header::{Form, read_header};
 use crate::plain_word::read_word;
 use crate::raw_raster::read_row;
+use crate::raw_row::MOST_ACROSS;
 use crate::window::{ImageStop, Window};
 use metric::{PbmFault, Source};
 
@@ -40,13 +41,14 @@ fn word_in(bytes: &[u8], count: u16) -> Result<(u64, usize), PbmFault>
     }
 }
 
-/// The row of a raw raster that the first `across` bytes are, as words.
-fn row_in(bytes: &[u8], across: usize, words: &mut [u64; 64])
+/// The row of a raw raster that the first `across` bytes are, as words. Uses `reversed` as a
+/// scratch buffer.
+fn row_in(bytes: &[u8], across: usize, reversed: &mut [u8; MOST_ACROSS], words: &mut [u64; 64])
     requires few { across ≤ 512 }
     requires within { across ≤ length bytes.now }
     ensures { Stands across bytes.now (λ all left. IsRowRead across all words.new left) }
 {
-    read_row(bytes, 0, across, words);
+    read_row(bytes, 0, across, reversed, words);
 }
 
 impl Window {
@@ -111,11 +113,12 @@ impl Window {
     }
 
     /// Takes the next row of a raw raster, `across` bytes, as words: the leftmost pixel of each is
-    /// the lowest bit.
+    /// the lowest bit. Uses `reversed` as a scratch buffer.
     pub fn next_row<R: Source>(
         &mut self,
         reader: &mut R,
         across: usize,
+        reversed: &mut [u8; MOST_ACROSS],
         words: &mut [u64; 64],
     ) -> Result<(), ImageStop>
         requires can_fail { CanFail (R.failed_reads reader.old) }
@@ -137,7 +140,7 @@ impl Window {
         if self.unread().len() < across {
             return Err(ImageStop::Fault(PbmFault::Truncated));
         }
-        row_in(self.unread(), across, words);
+        row_in(self.unread(), across, reversed, words);
         self.take(across);
         Ok(())
     }

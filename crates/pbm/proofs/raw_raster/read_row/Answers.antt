@@ -1,29 +1,39 @@
--- One more word is there.
-use Rattle.std.proofs.Common.{◌≡◌, ℕ, ◌+◌, ◌-◌, ◌*◌, ◌/◌, ◌%◌, ◌∙◌, inl, inr, ap, get_or, slice_set}
-use Rattle.std.proofs.Common.{arith}
-use Rattle.std.specs.Int.{bit_at}
+-- One more word is there, of the bytes of the row, each of them reversed.
+use Rattle.std.proofs.Common.{◌≡◌, ℕ, ◌+◌, ◌-◌, ◌*◌, ◌/◌, ◌%◌, ◌∙◌, inl, inr, ap, get_or}
+use Rattle.std.proofs.Common.{◌<◌, arith, drop, length, take}
+use Rattle.std.specs.Int.{bit_at, reverse_bits_onto}
 use Rattle.std.proofs.lemmas.Bool.{cases_lt}
-use Rattle.std.proofs.lemmas.List.{get_or-set_other, get_or-set_same}
+use Rattle.std.proofs.lemmas.List.{get_or-drop, get_or-set_other, get_or-set_same, get_or-take}
+use Rattle.pbm.proofs.Words.{bit_at-reverse_low}
 use Rattle.pbm.proofs.raw_raster.read_row.Goals as goal
 
 pub words-preserved : goal.words-preserved
-words-preserved c = λ k before i within inside.
+words-preserved c = λ k before i within.
     elim (cases_lt k c.words.index) [
       | inl earlier ↦
           ap (λ (word : ℕ). bit_at word i)
           (get_or-set_other c.words.words c.words.index k c.word_at.result 0 (omega arith))
-          ∙ c.words.invariant k earlier i within inside
+          ∙ c.words.invariant k earlier i within
       | inr later ↦
           let same : k ≡ c.words.index = omega arith in
-          let word : get_or (slice_set c.words.words c.words.index c.word_at.result) k 0
-          ≡ c.word_at.result = rw same
-          (get_or-set_same c.words.words c.words.index c.word_at.result 0 (omega arith)) in
-          let byte : c.args.start + 8 * c.words.index + i / 8 ≡ c.args.start + 8 * k + i / 8 =
-          omega arith in
-          ap (λ (word : ℕ). bit_at word i) word
-          ∙ (c.word_at.ensures i within (omega arith)
-          ∙ ap (λ (n : ℕ). bit_at (get_or c.args.raster.now n 0) (7 - i % 8)) byte)
+          rw same (ap (λ (word : ℕ). bit_at word i)
+          (get_or-set_same c.words.words c.words.index c.word_at.result 0 (omega arith))
+          ∙ c.word_at.ensures i within)
     ]
 
 pub returns : goal.returns
-returns c = λ k few i within inside. c.words.invariant k (omega arith) i within inside
+returns c k few i within inside =
+    let start = c.args.start in
+    let at = 8 * k + i / 8 in
+    let place : i % 8 < 8 = omega arith in
+    let byte : start + at ≡ start + 8 * k + i / 8 = omega arith in
+    let room : at < length (take (start + c.args.across - start) (drop start c.args.raster.now)) =
+    omega arith in
+    c.words.invariant k (omega arith) i within
+    ∙ (ap (λ (n : ℕ). bit_at n (i % 8))
+    (c.reverse_each.ensures.each at room
+    ∙ ap (λ (n : ℕ). reverse_bits_onto 8 n 0)
+    (get_or-take (start + c.args.across - start) (drop start c.args.raster.now) at 0 (omega arith)
+    ∙ (get_or-drop start c.args.raster.now at 0
+    ∙ ap (λ (n : ℕ). get_or c.args.raster.now n 0) byte)))
+    ∙ bit_at-reverse_low 8 (get_or c.args.raster.now (start + 8 * k + i / 8) 0) 0 (i % 8) place)
