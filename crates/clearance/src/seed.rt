@@ -119,6 +119,23 @@ fn seeded<M: Metric, R: Rows>(rows: &mut R, rect: Rect, limit: u64) -> Option<u6
 /// rows.
 const ROWS_A_TILE: u32 = 64;
 
+/// The most tiles that a rectangle with many rows meets and that may have an obstacle, for a search
+/// by tiles: it reads all rows of such a tile, where one by rows may end at the first.
+const TILES_INSIDE: u32 = 2;
+
+/// Whether few of the tiles that the rectangle meets may have an obstacle.
+fn has_few_inside<R: Rows>(rows: &R, rect: Rect) -> bool {
+    let (left, right) = (rect.x0 / WORD_CELLS, (rect.x1 - 1) / WORD_CELLS);
+    let mut count = 0;
+    'bands: for band in rect.y0 / BAND_ROWS..(rect.y1 - 1) / BAND_ROWS + 1 {
+        count += bits_through(bits_from(rows.tiles(band), left), right).count_ones();
+        if TILES_INSIDE < count {
+            return false;
+        }
+    }
+    true
+}
+
 /// Whether few tiles within 32 cells of the rectangle may have an obstacle, none unless it has many
 /// rows, and an obstacle below the limit may be farther away: then it pays to search by tiles.
 fn seems_far<M: Metric, R: Rows>(rows: &R, rect: Rect, limit: u64) -> bool {
@@ -127,6 +144,9 @@ fn seems_far<M: Metric, R: Rows>(rows: &R, rect: Rect, limit: u64) -> bool {
     }
     let most = u32::from(rect.y1 - rect.y0) / ROWS_A_TILE;
     if most == 0 && is_marked_tile(rows.tiles(rect.y0 / BAND_ROWS), rect.x0 / WORD_CELLS) {
+        return false;
+    }
+    if most > 0 && !has_few_inside::<R>(rows, rect) {
         return false;
     }
     let (left, right) = places_near(rect.x0, rect.x1);

@@ -1,0 +1,6 @@
+-- The count is no more than the most.
+use Rattle.std.proofs.Common.{◌≤◌}
+use Rattle.clearance.proofs.seed.has_few_inside.Given as goal
+
+abbrev pub invariant-bands : goal.invariant-bands
+invariant-bands g l = l.count ≤ 2
