@@ -1,9 +1,8 @@
 -- The obstacle that comes first, as more tiles and bands are searched.
-use Rattle.std.proofs.Common.{◌≡◌, ℕ, ◌+◌, ◌*◌, ◌/◌, ◌^◌, ◌<◌, ◌≤◌, inl, inr, Option}
-use Rattle.std.proofs.Common.{◌-◌, max, min}
-use Rattle.std.proofs.Common.{Some, None, get_or, sym, subst, arith}
+use Rattle.std.proofs.Common.{◌≡◌, ℕ, ◌+◌, ◌/◌, ◌^◌, ◌<◌, ◌≤◌, inl, inr, Option, Some, None}
+use Rattle.std.proofs.Common.{min, get_or, sym, subst, arith}
 use Rattle.std.specs.Int.{bit_at}
-use Rattle.std.proofs.lemmas.Bool.{cases_lt}
+use Rattle.std.proofs.lemmas.Bool.{cases_eq, cases_lt}
 use Rattle.metric.specs.Crossing.{StaysNearer}
 use Rattle.metric.specs.Distance.{Grows}
 use Rattle.metric.specs.declared.rect.Rect.{Rect}
@@ -44,34 +43,37 @@ tile_row_far distance grows stays cells rect tile columns reach limit bitmap apa
     IsFar-greater (distance columns reach) (rect_distance distance rect a b) limit grown
     (far (omega arith))
 
--- before any row of a tile within the reach has been searched, none has an obstacle near
-pub IsSpotBelow-tile_start : (distance : ℕ → ℕ → ℕ) → Grows distance → StaysNearer distance
-    → (cells : Cells) (rect : Rect) (band tile columns reach from limit : ℕ) → IsBitmap cells
-    → ((a : ℕ) → a / 64 ≡ tile → columns ≤ column_gap rect a)
-    → (reach < 4097 → IsFar (distance columns reach) limit)
-    → from ≡ max (64 * band) (rect.y0 + 1 - reach)
-    → IsSpotBelow distance (λ a b. IsInTile cells band tile a b × (b < from)) rect limit None
-IsSpotBelow-tile_start distance grows stays cells rect band tile columns reach from limit bitmap
-    apart far from_is = λ a b here.
-    let row = here.0.1 in
-    let before = here.1 in
-    tile_row_far distance grows stays cells rect tile columns reach limit bitmap apart far a b
-    here.0.0 here.0.2 (omega arith)
+-- obstacle (a, b) is in this tile of a band, in one of the rows from a first one to an end
+abbrev pub IsInTileRows : Cells → ℕ → ℕ → ℕ → ℕ → ℕ → ℕ → Type 0
+IsInTileRows cells band tile from end a b = IsInTile cells band tile a b × (from ≤ b) × (b < end)
+
+-- before any row of a tile has been searched, there is none
+pub IsSpotBelow-tile_start : (distance : ℕ → ℕ → ℕ) (cells : Cells) (rect : Rect)
+    (band tile from limit : ℕ)
+    → IsSpotBelow distance (IsInTileRows cells band tile from from) rect limit None
+IsSpotBelow-tile_start distance cells rect band tile from limit = λ a b here.
+    let first = here.1 in
+    let before = here.2 in
+    absurd (omega arith)
 
 -- a search of some rows of a tile goes on by one row
 pub IsSpotBelow-row_more : (distance : ℕ → ℕ → ℕ) (cells : Cells) (rect : Rect)
-    (band tile y word limit : ℕ) (best next merged : Option Found)
+    (band tile from end y start stop word limit : ℕ) (best next merged : Option Found)
     → IsBitmap cells → y / 64 ≡ band → word ≡ get_or (words_of_row cells y) tile 0
-    → IsSpotBelow distance (λ a b. IsInTile cells band tile a b × (b < y)) rect limit best
+    → start ≤ from → end ≤ stop → start ≤ y → y < stop
+    → ((b : ℕ) → start ≤ b → b < stop → (b ≡ y → ⊥) → (from ≤ b) × (b < end))
+    → IsSpotBelow distance (IsInTileRows cells band tile from end) rect limit best
     → IsSpotBelow distance (IsInWord tile y word) rect (limit_with limit best) next
     → IsMerged rect.y0 best next merged
-    → IsSpotBelow distance (λ a b. IsInTile cells band tile a b × (b < y + 1)) rect limit merged
-IsSpotBelow-row_more distance cells rect band tile y word limit best next merged bitmap in_band
-    word_is before row both =
-    IsSpotBelow-merged distance (λ a b. IsInTile cells band tile a b × (b < y))
-    (IsInWord tile y word) (λ a b. IsInTile cells band tile a b × (b < y + 1)) rect limit best next
-    merged
-    (λ a b here. (here.0, let less = here.1 in omega arith))
+    → IsSpotBelow distance (IsInTileRows cells band tile start stop) rect limit merged
+IsSpotBelow-row_more distance cells rect band tile from end y start stop word limit best next
+    merged bitmap in_band word_is low high above below others before row both =
+    IsSpotBelow-merged distance (IsInTileRows cells band tile from end) (IsInWord tile y word)
+    (IsInTileRows cells band tile start stop) rect limit best next merged
+    (λ a b here.
+    let after = here.1 in
+    let less = here.2 in
+    (here.0, omega arith, omega arith))
     (λ a b here.
     let in_row = here.0 in
     let marked : IsMarked (words_of_row cells y) a = rw (here.1, sym word_is) (here.2) in
@@ -79,12 +81,11 @@ IsSpotBelow-row_more distance cells rect band tile y word limit best next merged
     marked in (
       (subst (λ (n : ℕ). IsObstacle cells a n) (sym in_row) obstacle, rw in_row in_band, here.1),
       omega arith,
+      omega arith,
     ))
-    (λ a b here. elim (cases_lt b y) [
-      | inl earlier ↦ inl (here.0, earlier)
-      | inr later ↦
-          let less = here.1 in
-          let same : b ≡ y = omega arith in
+    (λ a b here. elim (cases_eq b y) [
+      | inr other ↦ let rest = others b here.1 here.2 other in inl (here.0, rest.0, rest.1)
+      | inl same ↦
           let marked = obstacle_marked cells y (words_of_row cells y) a bitmap
           (IsRowOf-words cells y) (subst (λ (n : ℕ). IsObstacle cells a n) same here.0.0) in
           inr (same, here.0.2, rw word_is (rw (here.0.2) at marked))
@@ -93,21 +94,24 @@ IsSpotBelow-row_more distance cells rect band tile y word limit best next merged
 
 -- once all rows of a tile within the reach have been searched, the others are far
 pub IsSpotBelow-tile_all : (distance : ℕ → ℕ → ℕ) → Grows distance → StaysNearer distance
-    → (cells : Cells) (rect : Rect) (band tile columns reach y limit : ℕ) (best : Option Found)
+    → (cells : Cells) (rect : Rect) (band tile columns reach from end limit : ℕ)
+    (best : Option Found)
     → IsBitmap cells → ((a : ℕ) → a / 64 ≡ tile → columns ≤ column_gap rect a)
     → (reach < 4097 → IsFar (distance columns reach) limit)
-    → ((b : ℕ) → b / 64 ≡ band → b < cells.height → b < rect.y1 - 1 + reach → b < y)
-    → IsSpotBelow distance (λ a b. IsInTile cells band tile a b × (b < y)) rect limit best
+    → ((b : ℕ) → b / 64 ≡ band → b < cells.height → row_gap rect b < reach
+    → (from ≤ b) × (b < end))
+    → IsSpotBelow distance (IsInTileRows cells band tile from end) rect limit best
     → IsSpotBelow distance (IsInTile cells band tile) rect limit best
-IsSpotBelow-tile_all distance grows stays cells rect band tile columns reach y limit best bitmap
-    apart far ended =
-    IsSpotBelow-wider distance (λ a b. IsInTile cells band tile a b × (b < y))
-    (IsInTile cells band tile) rect limit best (λ a b here. here.0)
-    (λ a b here. elim (cases_lt b (rect.y1 - 1 + reach)) [
+IsSpotBelow-tile_all distance grows stays cells rect band tile columns reach from end limit best
+    bitmap apart far all =
+    IsSpotBelow-wider distance (IsInTileRows cells band tile from end) (IsInTile cells band tile)
+    rect limit best (λ a b here. here.0)
+    (λ a b here. elim (cases_lt (row_gap rect b) reach) [
       | inl within ↦
-          inl (here, ended b here.1 (obstacle_within cells bitmap a b here.0).1 within)
+          let rest = all b here.1 (obstacle_within cells bitmap a b here.0).1 within in
+          inl (here, rest.0, rest.1)
       | inr beyond ↦ inr (tile_row_far distance grows stays cells rect tile columns reach limit
-          bitmap apart far a b here.0 here.2 (omega arith))
+          bitmap apart far a b here.0 here.2 beyond)
     ])
 
 -- a tile whose cells are all far has no obstacle near

@@ -21,7 +21,8 @@ use crate::tiles::{NO_TILE, next_tile};
 use metric::{BAND_ROWS, LAST_FRAMED, MOST_SIDE, Metric, Rect, WORD_CELLS};
 
 /// The first of the obstacles in a tile of a band, seen from the rectangle, if its distance is
-/// below the limit. Searches the rows that have a cell as near.
+/// below the limit. Searches the rows that have a cell as near, down from the rectangle's first row
+/// and then up from it: towards it, each row might have many obstacles nearer than all before.
 pub fn first_in_tile<M: Metric, R: Rows>(
     rows: &mut R,
     band: u16,
@@ -43,8 +44,13 @@ pub fn first_in_tile<M: Metric, R: Rows>(
         .height()
         .min(first + BAND_ROWS)
         .min(rect.y1 - 1 + reach);
+    let middle = from.max(rect.y0).min(end);
     let mut best = None;
-    'tile: for y in from..end {
+    'below: for y in middle..end {
+        let word = rows.word(y, usize::from(tile));
+        best = with_word::<M>(best, word, tile, y, rect, limit);
+    }
+    'above: for y in (from..middle).rev() {
         let word = rows.word(y, usize::from(tile));
         best = with_word::<M>(best, word, tile, y, rect, limit);
     }
