@@ -123,13 +123,19 @@ const ROWS_A_TILE: u32 = 64;
 /// by tiles: it reads all rows of such a tile, where one by rows may end at the first.
 const TILES_INSIDE: u32 = 2;
 
-/// Whether few of the tiles that the rectangle meets may have an obstacle.
-fn has_few_inside<R: Rows>(rows: &R, rect: Rect) -> bool {
-    let (left, right) = (rect.x0 / WORD_CELLS, (rect.x1 - 1) / WORD_CELLS);
+/// Whether at most this many of these tiles of these bands may have an obstacle. Both are given by
+/// the first and the last.
+#[inline(always)]
+fn are_few_marked<R: Rows>(rows: &R, bands: (u16, u16), tiles: (u16, u16), most: u32) -> bool
+    requires bands { bands.1 < 64 }
+    requires first { tiles.0 < 64 }
+    requires last { tiles.1 < 64 }
+    requires most { most ≤ 64 }
+{
     let mut count = 0;
-    'bands: for band in rect.y0 / BAND_ROWS..(rect.y1 - 1) / BAND_ROWS + 1 {
-        count += bits_through(bits_from(rows.tiles(band), left), right).count_ones();
-        if TILES_INSIDE < count {
+    'bands: for band in bands.0..bands.1 + 1 {
+        count += bits_through(bits_from(rows.tiles(band), tiles.0), tiles.1).count_ones();
+        if most < count {
             return false;
         }
     }
@@ -146,19 +152,17 @@ fn seems_far<M: Metric, R: Rows>(rows: &R, rect: Rect, limit: u64) -> bool {
     if most == 0 && is_marked_tile(rows.tiles(rect.y0 / BAND_ROWS), rect.x0 / WORD_CELLS) {
         return false;
     }
-    if most > 0 && !has_few_inside::<R>(rows, rect) {
+    let bands_met = (rect.y0 / BAND_ROWS, (rect.y1 - 1) / BAND_ROWS);
+    let tiles_met = (rect.x0 / WORD_CELLS, (rect.x1 - 1) / WORD_CELLS);
+    if most > 0 && !are_few_marked::<R>(rows, bands_met, tiles_met, TILES_INSIDE) {
         return false;
     }
-    let (left, right) = places_near(rect.x0, rect.x1);
-    let (top, bottom) = places_near(rect.y0, rect.y1);
-    let mut count = 0;
-    'bands: for band in top..bottom + 1 {
-        count += bits_through(bits_from(rows.tiles(band), left), right).count_ones();
-        if most < count {
-            return false;
-        }
-    }
-    true
+    are_few_marked::<R>(
+        rows,
+        places_near(rect.y0, rect.y1),
+        places_near(rect.x0, rect.x1),
+        most,
+    )
 }
 
 /// The tiles or bands of cells that are at most 32 before a first one, or after an end.

@@ -1,6 +1,6 @@
 -- The count is no more than the most.
 use Rattle.std.proofs.Common.{◌≤◌}
-use Rattle.clearance.proofs.seed.has_few_inside.Given as goal
+use Rattle.clearance.proofs.seed.are_few_marked.Given as goal
 
 abbrev pub invariant-bands : goal.invariant-bands
-invariant-bands g l = l.count ≤ 2
+invariant-bands g l = l.count ≤ l.most

@@ -1,6 +1,0 @@
--- The count is no more than the most.
-use Rattle.std.proofs.Common.{◌≤◌}
-use Rattle.clearance.proofs.seed.seems_far.Given as goal
-
-abbrev pub invariant-bands : goal.invariant-bands
-invariant-bands g l = l.count ≤ l.most
