@@ -21,11 +21,11 @@ pub record AreColumnParts (part : ℕ → ℕ) (entries : List ℕ) (y : ℕ) (p
   pub behind : (p : ℕ) → length entries + 128 ≤ p → p < length entries + 272
       → slice_index parts p ≡ 32400
 
--- the reaches of up to 97 columns, each eight times
+-- the reaches of up to 96 columns, each eight times
 pub record AreReaches (reach : ℕ → ℕ) (reaches : List ℕ) : Type 0 where
-  pub as_many : length reaches ≡ 784
-  pub few : (p : ℕ) → p < 784 → slice_index reaches p ≤ 9409
-  pub each : (p : ℕ) → p < 784 → slice_index reaches p ≡ reach (p / 8)
+  pub as_many : length reaches ≡ 776
+  pub few : (p : ℕ) → p < 776 → slice_index reaches p ≤ 9409
+  pub each : (p : ℕ) → p < 776 → slice_index reaches p ≡ reach (p / 8)
 
 -- the offsets, from 128 columns to the left of each of eight cells, of the columns as far to the
 -- left and to the right

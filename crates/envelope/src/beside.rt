@@ -1,26 +1,24 @@
-//! The row phase without branches: for sixteen cells at a time, in two vectors of eight lanes, it
-//! searches the columns from the nearest outwards. Cells whose nearest column isn't close by go to
-//! the stack, with the columns between those that are the nearest to the cells next to them.
+//! The row phase without branches: for sixteen cells at a time, it searches the columns from the
+//! nearest outwards. Cells whose nearest column isn't close by go to the stack, with the columns
+//! between those that are the nearest to the cells next to them.
 //!
 //! Each column has a place, 128 after its number, and at this place a part: the part of its gap in
 //! a 16-bit distance. The places before the first column and after the last one, and those of
-//! columns without an obstacle, have the part for no obstacle. A column is named by its offset
-//! from 128 columns to the left of the cell.
+//! columns without an obstacle, have the part for no obstacle.
 
 ghost use Rattle.std.specs.Prelude.{◌≡◌, ℕ, negsuc, pos, ◌+◌, ◌-◌, ◌*◌, ◌≤ℤ◌, ◌<◌, ◌≤◌, ◌⊎◌};
-ghost use Rattle.std.specs.Prelude.{length, slice_index, slice_index_or, Some, IfSome};
+ghost use Rattle.std.specs.Prelude.{length, slice_index, slice_index_or};
 ghost use Rattle.metric.specs.Edge.{shift, spot_of};
-ghost use Rattle.envelope.specs.Beside.{AreBestNear, AreDecided, AreColumnParts, AreReaches};
-ghost use Rattle.envelope.specs.Beside.{AreSides, AreSmall, AreTold};
+ghost use Rattle.envelope.specs.Beside.{AreColumnParts, AreTold};
 ghost use Rattle.envelope.specs.Columns.{AreEntries, AreSaid, IsSaid};
 ghost use Rattle.envelope.specs.Pieces.{IsLeftBound, IsRightBound};
 
 use crate::answer::CellValue;
 use crate::border::Border;
 use crate::cover::Span;
-use crate::lanes::{all_of, are_below, chosen, least, load};
 use crate::piece::{Piece, fill_piece};
-use crate::reaches::{REACHES, Sides, reach_at, set_reaches};
+use crate::reaches::{Listed, REACHES, ReachSource, Worked, set_reaches};
+use crate::search::{Eight, FARTHEST, search};
 use column::NONE;
 use metric::{Edge, FRAMED_SIDE, LAST_FRAMED, Metric, Near};
 use std::simd::prelude::*;
@@ -31,11 +29,12 @@ const FIRST: usize = 128;
 /// How many more places there are than columns.
 pub const SPARE: usize = 272;
 
+/// The fewest columns of a row that makes a list of its reaches: it costs as much as some steps of
+/// as many cells.
+const LISTED_COLUMNS: usize = 256;
+
 /// The part for no obstacle.
 const NO_PART: u16 = 32400;
-
-/// The most columns searched on each side before a cell is given up.
-const FARTHEST: u16 = 96;
 
 /// The steps outwards that a row may always take.
 const FREE_STEPS: u32 = 150;
@@ -48,13 +47,6 @@ const TENTHS_WITH: u32 = 31;
 
 /// The most steps of a row.
 const MOST_STEPS: u32 = 20_000;
-
-/// For each of eight cells the distance of the nearest column so far, and that column.
-#[derive(Clone, Copy)]
-struct Eight {
-    best: u16x8,
-    away: u16x8,
-}
 
 /// Fills the row with the obstacle of the column nearest to each cell. Returns whether most cells
 /// were found close by. `parts` has room for one place per column and 272 more, and `spans` for one
@@ -78,21 +70,45 @@ pub fn fill_beside<M: Metric, A: CellValue, B: Border>(
 {
     let parts = &mut parts[..entries.len() + SPARE];
     set_parts::<M>(entries, y, parts);
+    if entries.len() < LISTED_COLUMNS {
+        return fill_cells::<M, A, B, Worked>(entries, y, parts, &[], spans, answers);
+    }
     let mut reaches = [0u16; REACHES];
     set_reaches::<M>(&mut reaches);
+    fill_cells::<M, A, B, Listed>(entries, y, parts, &reaches, spans, answers)
+}
+
+/// As `fill_beside`, with the parts of the row's columns.
+fn fill_cells<M: Metric, A: CellValue, B: Border, S: ReachSource>(
+    entries: &[u16],
+    y: u16,
+    parts: &[u16],
+    reaches: &[u16],
+    spans: &mut [Span],
+    answers: &mut [A],
+) -> bool
+    requires laned { 0 < M.reach_of 1 }
+    requires entries { AreEntries entries.now y }
+    requires row { shift B.EDGE ≤ y }
+    requires parts { AreColumnParts M.part_of entries.now y parts.now }
+    requires reaches { S.known M.reach_of reaches.now }
+    requires spans { length entries.now ≤ length spans.old }
+    requires width { length answers.old + 2 * shift B.EDGE ≡ length entries.now }
+    ensures { AreSaid A.says A.unset M.distance entries.now y B.EDGE answers.new }
+{
     let mut left = steps_for(entries);
     let before = usize::from(B::EDGE.shift());
     let mut start = 0;
     'cells: while start < answers.len() {
         let at = start + before;
-        if let Some((low, high, steps)) = search::<M>(parts, &reaches, at + FIRST, left) {
+        if let Some((low, high, steps)) = search::<M, S>(parts, reaches, at + FIRST, left) {
             fill_eight::<M, A, B>(entries, y, start, low, answers);
             fill_eight::<M, A, B>(entries, y, start + 8, high, answers);
             left = left.saturating_sub(steps);
             start += 16;
         } else {
-            let first = first_column::<M>(entries, y, parts, &reaches, at);
-            let (end, last, steps) = next_found::<M>(entries, y, parts, &reaches, at, left);
+            let first = first_column::<M, S>(entries, y, parts, reaches, at);
+            let (end, last, steps) = next_found::<M, S>(entries, y, parts, reaches, at, left);
             let piece = Piece {
                 from: at,
                 end,
@@ -110,7 +126,7 @@ pub fn fill_beside<M: Metric, A: CellValue, B: Border>(
 /// The column nearest to the cell before `start`, if it is found close by with its neighbours;
 /// otherwise the first column.
 #[inline(never)]
-fn first_column<M: Metric>(
+fn first_column<M: Metric, S: ReachSource>(
     entries: &[u16],
     y: u16,
     parts: &[u16],
@@ -120,14 +136,14 @@ fn first_column<M: Metric>(
     requires laned { 0 < M.reach_of 1 }
     requires entries { AreEntries entries.now y }
     requires parts { AreColumnParts M.part_of entries.now y parts.now }
-    requires reaches { AreReaches M.reach_of reaches.now }
+    requires reaches { S.known M.reach_of reaches.now }
     requires start { start < length entries.now }
     ensures { IsLeftBound M.distance entries.now y start result }
 {
     if start < 16 {
         return 0;
     }
-    match search::<M>(parts, reaches, start - 16 + FIRST, FARTHEST) {
+    match search::<M, S>(parts, reaches, start - 16 + FIRST, FARTHEST) {
         Some((_, high, _)) => column_of(start - 1, high.away, 7),
         None => 0,
     }
@@ -137,7 +153,7 @@ fn first_column<M: Metric>(
 /// `start`; the column after that one, and how many steps were taken. The row's end for both if
 /// there is none.
 #[inline(never)]
-fn next_found<M: Metric>(
+fn next_found<M: Metric, S: ReachSource>(
     entries: &[u16],
     y: u16,
     parts: &[u16],
@@ -148,14 +164,14 @@ fn next_found<M: Metric>(
     requires laned { 0 < M.reach_of 1 }
     requires entries { AreEntries entries.now y }
     requires parts { AreColumnParts M.part_of entries.now y parts.now }
-    requires reaches { AreReaches M.reach_of reaches.now }
+    requires reaches { S.known M.reach_of reaches.now }
     requires start { start < length entries.now }
     ensures further { start < result.0 }
     ensures bound { IsRightBound M.distance entries.now y result.0 result.1 }
 {
     let (mut at, mut apart, mut steps) = (start + 16, 16, FARTHEST);
     'groups: while at < entries.len() && steps < most {
-        if let Some((low, _, more)) = search::<M>(parts, reaches, at + FIRST, most - steps) {
+        if let Some((low, _, more)) = search::<M, S>(parts, reaches, at + FIRST, most - steps) {
             return (
                 at,
                 column_of(at, low.away, 0) + 1,
@@ -206,140 +222,6 @@ fn set_parts<M: Metric>(entries: &[u16], y: u16, parts: &mut [u16])
     parts.fill(NO_PART);
     'columns: for column in 0..entries.len() {
         parts[column + FIRST] = M::part(y.abs_diff(entries[column]));
-    }
-}
-
-/// The nearest columns of sixteen cells, from the one at `at` on, and how many steps that took;
-/// `None` if one of them has none within this many steps, or close by.
-#[inline(always)]
-fn search<M: Metric>(
-    parts: &[u16],
-    reaches: &[u16],
-    at: usize,
-    most: u16,
-) -> Option<(Eight, Eight, u16)>
-    requires laned { 0 < M.reach_of 1 }
-    requires small { AreSmall parts.now }
-    requires reaches { AreReaches M.reach_of reaches.now }
-    requires left { 128 ≤ at }
-    requires right { at + 144 ≤ length parts.now }
-    ensures low { IfSome result
-        (λ both. AreDecided M.distance M.joined parts.now at both.0.best both.0.away) }
-    ensures high { IfSome result
-        (λ both. AreDecided M.distance M.joined parts.now (at + 8) both.1.best both.1.away) }
-{
-    let mut low = look_here::<M>(parts, at);
-    let mut high = look_here::<M>(parts, at + 8);
-    let (mut k, mut sides) = (1u16, Sides::next());
-    let end = most.min(FARTHEST - 2);
-    'columns: while k < end {
-        let reach = M::reach(k);
-        if are_below(low.best, reach) && are_below(high.best, reach) {
-            return Some((low, high, k));
-        }
-        low = look_four_times::<M>(parts, reaches, at, k, sides, low);
-        high = look_four_times::<M>(parts, reaches, at + 8, k, sides, high);
-        sides = sides.farther(k, 4);
-        k += 4;
-    }
-    None
-}
-
-/// The columns of eight cells themselves.
-#[inline(always)]
-fn look_here<M: Metric>(parts: &[u16], at: usize) -> Eight
-    requires laned { 0 < M.reach_of 1 }
-    requires small { AreSmall parts.now }
-    requires right { at + 8 ≤ length parts.now }
-    ensures { AreBestNear M.distance M.joined parts.now at 1 result.best result.away }
-{
-    Eight {
-        best: M::join(load(parts, at), all_of(M::reach(0))),
-        away: all_of(128),
-    }
-}
-
-/// Also the columns `k` to `k + 3` columns to either side of eight cells.
-#[inline(always)]
-fn look_four_times<M: Metric>(
-    parts: &[u16],
-    reaches: &[u16],
-    at: usize,
-    k: u16,
-    sides: Sides,
-    eight: Eight,
-) -> Eight
-    requires laned { 0 < M.reach_of 1 }
-    requires small { AreSmall parts.now }
-    requires reaches { AreReaches M.reach_of reaches.now }
-    requires sides { AreSides k sides.left sides.right }
-    requires left { 128 ≤ at }
-    requires right { at + 136 ≤ length parts.now }
-    requires some { 1 ≤ k }
-    requires few { k ≤ 93 }
-    requires found { AreBestNear M.distance M.joined parts.now at k eight.best eight.away }
-    ensures { AreBestNear M.distance M.joined parts.now at (k + 4) result.best result.away }
-{
-    let next = look_twice::<M>(parts, reaches, at, k, sides, eight);
-    look_twice::<M>(parts, reaches, at, k + 2, sides.farther(k, 2), next)
-}
-
-/// Also the columns `k` and `k + 1` columns to either side of eight cells.
-#[inline(always)]
-fn look_twice<M: Metric>(
-    parts: &[u16],
-    reaches: &[u16],
-    at: usize,
-    k: u16,
-    sides: Sides,
-    eight: Eight,
-) -> Eight
-    requires laned { 0 < M.reach_of 1 }
-    requires small { AreSmall parts.now }
-    requires reaches { AreReaches M.reach_of reaches.now }
-    requires sides { AreSides k sides.left sides.right }
-    requires left { 128 ≤ at }
-    requires right { at + 136 ≤ length parts.now }
-    requires some { 1 ≤ k }
-    requires few { k ≤ 95 }
-    requires found { AreBestNear M.distance M.joined parts.now at k eight.best eight.away }
-    ensures { AreBestNear M.distance M.joined parts.now at (k + 2) result.best result.away }
-{
-    let next = look_aside::<M>(parts, reaches, at, k, sides, eight);
-    look_aside::<M>(parts, reaches, at, k + 1, sides.farther(k, 1), next)
-}
-
-/// Also the columns `k` columns to either side of eight cells. On the left a column wins if it
-/// isn't worse, on the right if it is better.
-#[inline(always)]
-fn look_aside<M: Metric>(
-    parts: &[u16],
-    reaches: &[u16],
-    at: usize,
-    k: u16,
-    sides: Sides,
-    eight: Eight,
-) -> Eight
-    requires laned { 0 < M.reach_of 1 }
-    requires small { AreSmall parts.now }
-    requires reaches { AreReaches M.reach_of reaches.now }
-    requires sides { AreSides k sides.left sides.right }
-    requires left { 128 ≤ at }
-    requires right { at + 136 ≤ length parts.now }
-    requires some { 1 ≤ k }
-    requires few { k ≤ 97 }
-    requires found { AreBestNear M.distance M.joined parts.now at k eight.best eight.away }
-    ensures { AreBestNear M.distance M.joined parts.now at (k + 1) result.best result.away }
-{
-    let reach = reach_at::<M>(reaches, k);
-    let left = M::join(load(parts, at - usize::from(k)), reach);
-    let better = least(eight.best, left);
-    let to_left = chosen(better, left, sides.left, eight.away);
-    let right = M::join(load(parts, at + usize::from(k)), reach);
-    let best = least(better, right);
-    Eight {
-        best,
-        away: chosen(best, better, to_left, sides.right),
     }
 }
 

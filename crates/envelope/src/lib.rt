@@ -12,6 +12,7 @@ mod lanes;
 mod piece;
 mod reaches;
 mod scan;
+mod search;
 mod stack;
 
 pub use answer::CellAnswer;

@@ -1,6 +1,6 @@
 //! A piece of a row that the stack computes, and the columns that suffice for it.
 
-ghost use Rattle.std.specs.Prelude.{ℕ, ◌+◌, ◌-◌, ◌*◌, ◌<◌, ◌≤◌, ◌≡◌, ◌⊎◌, length, slice_index_or};
+ghost use Rattle.std.specs.Prelude.{ℕ, ◌+◌, ◌*◌, ◌<◌, ◌≤◌, ◌≡◌, ◌⊎◌, length, slice_index_or};
 ghost use Rattle.metric.specs.Edge.{shift};
 ghost use Rattle.envelope.specs.Columns.{AreEntries, IsSaid};
 ghost use Rattle.envelope.specs.Pieces.{IsEnough, IsPiece};

@@ -1,6 +1,6 @@
 //! How far the columns that are searched side by side are: their reaches, and their offsets.
 
-ghost use Rattle.std.specs.Prelude.{◌≡◌, ℕ, ◌+◌, ◌<◌, ◌≤◌, length, slice_index};
+ghost use Rattle.std.specs.Prelude.{◌≡◌, ℕ, ◌+◌, ◌<◌, ◌≤◌, List, length, slice_index};
 ghost use Rattle.metric.specs.Lanes.{AreUpTo};
 ghost use Rattle.envelope.specs.Beside.{AreReaches};
 
@@ -9,7 +9,7 @@ use metric::Metric;
 use std::simd::prelude::*;
 
 /// How many reaches a row needs, each eight times.
-pub const REACHES: usize = 8 * 98;
+pub const REACHES: usize = 8 * 97;
 
 /// The offsets of columns to the left and to the right of eight cells.
 #[derive(Clone, Copy)]
@@ -47,7 +47,7 @@ impl Sides {
     }
 }
 
-/// Sets the reaches of up to 97 columns, each eight times.
+/// Sets the reaches of up to 96 columns, each eight times.
 #[inline(never)]
 pub fn set_reaches<M: Metric>(reaches: &mut [u16])
     requires { length reaches.old ≡ REACHES }
@@ -58,13 +58,41 @@ pub fn set_reaches<M: Metric>(reaches: &mut [u16])
     }
 }
 
-/// The reach of this many columns, in eight lanes.
-#[inline(always)]
-pub fn reach_at<M: Metric>(reaches: &[u16], k: u16) -> u16x8
-    requires reaches { AreReaches M.reach_of reaches.now }
-    requires few { k ≤ 97 }
-    ensures each { (i : ℕ) → i < 8 → slice_index result i ≡ M.reach_of k }
-    ensures few { AreUpTo 9409 result }
-{
-    load(reaches, 8 * usize::from(k))
+/// Where a search finds the reaches of columns.
+pub trait ReachSource {
+    /// What is known of the list that a search is given.
+    ghost known: { (ℕ → ℕ) → List ℕ → Type 0 };
+
+    /// The reach of this many columns, in eight lanes.
+    fn reach_at<M: Metric>(reaches: &[u16], k: u16) -> u16x8
+        requires reaches { known M.reach_of reaches.now }
+        requires few { k ≤ 96 }
+        ensures each { (i : ℕ) → i < 8 → slice_index result i ≡ M.reach_of k }
+        ensures few { AreUpTo 9409 result };
+}
+
+/// In the list, where many cells share its cost.
+pub struct Listed;
+
+impl ReachSource for Listed {
+    ghost use Rattle.envelope.specs.Beside.{AreReaches};
+
+    ghost known = { AreReaches };
+
+    #[inline(always)]
+    fn reach_at<M: Metric>(reaches: &[u16], k: u16) -> u16x8 {
+        load(reaches, 8 * usize::from(k))
+    }
+}
+
+/// In no list: each is worked out.
+pub struct Worked;
+
+impl ReachSource for Worked {
+    ghost known = { λ reach reaches. Unit };
+
+    #[inline(always)]
+    fn reach_at<M: Metric>(_reaches: &[u16], k: u16) -> u16x8 {
+        all_of(M::reach(k))
+    }
 }

@@ -1,8 +1,8 @@
 -- The distances of the nearest obstacles of rows, and that they are distances within a map.
-use Rattle.std.proofs.Common.{◌≡◌, ℕ, zero, suc, ◌+◌, ◌<◌, ◌≤◌, ◌∙◌, sym, ◌⊎◌, inl, inr}
+use Rattle.std.proofs.Common.{◌≡◌, ℕ, zero, suc, ◌+◌, ◌<◌, ◌≤◌, ◌∙◌, sym, inl, inr}
 use Rattle.std.proofs.Common.{ℤ, pos, negsuc, ◌≤ℤ◌}
-use Rattle.std.proofs.Common.{◌-◌, ◌*◌, ◌/◌, ◌%◌, List, [], ◌++◌, length, slice_index, map, refl}
-use Rattle.std.proofs.Common.{slice_index_or, Option, None, Some, arith, length-append}
+use Rattle.std.proofs.Common.{◌-◌, ◌*◌, ◌/◌, ◌%◌, List, ◌++◌, length, slice_index}
+use Rattle.std.proofs.Common.{Option, None, Some, arith, length-append}
 use Rattle.std.proofs.lemmas.List.{get_or_append_left, get_or-append-add, get_or_past}
 use Rattle.std.proofs.lemmas.Int.{ints}
 use Rattle.metric.specs.declared.edge.Edge.{Edge}
@@ -15,7 +15,7 @@ use Rattle.bits.proofs.CellsLemmas.{has-outside}
 use Rattle.envelope.specs.Answer.{IsDistanceOf}
 use Rattle.envelope.specs.Rows.{AreRowDistances}
 use Rattle.column.specs.declared.batch.Batch.{Batch}
-use Rattle.field.specs.Distances.{AreAllMeasured, AreStripsMeasured, Distances, HaveNumbers}
+use Rattle.field.specs.Distances.{AreAllMeasured, AreStripsMeasured, HaveNumbers}
 use Rattle.field.specs.Distances.{IsFarAway, number_at}
 use Rattle.field.specs.Obstacles.{IsMeasured, rows_before, strip_row}
 use Rattle.field.proofs.BandLemmas.{rows_more}

@@ -156,7 +156,7 @@ fn fill_line<M: Metric>(y: u16, cells: &[ObstacleCell], nears: &mut [Option<Near
 }
 
 /// Fills a line with the distances of these obstacles from the cells of row `y`.
-pub fn measure_line<M: Metric>(y: u16, cells: &[ObstacleCell], distances: &mut [u32])
+fn measure_line<M: Metric>(y: u16, cells: &[ObstacleCell], distances: &mut [u32])
     requires row { y ≤ 4095 }
     requires few { length cells.now ≤ 4096 }
     requires width { length distances.old ≡ length cells.now }

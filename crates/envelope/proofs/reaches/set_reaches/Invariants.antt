@@ -4,7 +4,7 @@ use Rattle.envelope.proofs.reaches.set_reaches.Given as goal
 
 abbrev pub invariant-places : goal.invariant-places
 invariant-places g l = record {
-  as_many : length l.reaches ≡ 784;
+  as_many : length l.reaches ≡ 776;
   few : (p : ℕ) → p < l.place → slice_index l.reaches p ≤ 9409;
   each : (p : ℕ) → p < l.place → slice_index l.reaches p ≡ g.M.Metric.reach_of (p / 8);
 }

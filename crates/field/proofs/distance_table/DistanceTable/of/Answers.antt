@@ -3,7 +3,7 @@ use Rattle.std.proofs.Common.{◌≡◌, ℕ, ◌-◌, ◌*◌, ◌≤◌, List,
 use Rattle.std.proofs.Math.Nat.{mul-le-mul_right}
 use Rattle.std.proofs.lemmas.Grind.{div_ceil_times}
 use Rattle.std.proofs.lemmas.List.{length-map}
-use Rattle.field.proofs.DistanceLemmas.{HaveNumbers-strips, number_at-strips}
+use Rattle.field.proofs.DistanceLemmas.{number_at-strips}
 use Rattle.field.proofs.distance_table.DistanceTable.of.Goals as goal
 
 pub returns-clause-rows : goal.returns-clause-rows

@@ -1,6 +1,6 @@
 -- The row's numbers stand in its strip.
-use Rattle.std.proofs.Common.{◌≡◌, ℕ, ◌+◌, ◌-◌, ◌*◌, ◌/◌, ◌%◌, ◌<◌, ◌≤◌, ◌∙◌, [], length, map, arith}
-use Rattle.std.proofs.Common.{refl, slice_index, slice_index_or}
+use Rattle.std.proofs.Common.{◌≡◌, ◌+◌, ◌-◌, ◌*◌, ◌/◌, ◌%◌, ◌<◌, ◌≤◌, ◌∙◌, [], length, map, arith}
+use Rattle.std.proofs.Common.{refl, slice_index_or}
 use Rattle.field.proofs.ObstacleLemmas.{length-line, line_at}
 use Rattle.field.proofs.StripLemmas.{line_inside, strip_below, strip_here}
 use Rattle.field.proofs.distance_table.DistanceTable.row.Goals as goal

@@ -1,7 +1,7 @@
 -- One more column on both sides of each cell.
 use Rattle.std.proofs.Common.{◌≡◌, ◌+◌, ◌-◌, ◌∙◌, ap, ap₂, slice_index, arith}
 use Rattle.envelope.proofs.BesideLemmas.{best_wider}
-use Rattle.envelope.proofs.beside.look_aside.Goals as goal
+use Rattle.envelope.proofs.search.look_aside.Goals as goal
 
 pub returns : goal.returns
 returns g c i within =
@@ -12,7 +12,7 @@ returns g c i within =
     omega (arith, c.from.ensures, c.requires.left, c.requires.few) in
     let right_at : at + c.from-2.result + i ≡ at + i + k = omega (arith, c.from-2.ensures) in
     let reach = c.reach_at-reach.ensures.each i within
-    ∙ g.met.M.Metric.reaches c.requires.laned k c.requires.few in
+    ∙ g.met.M.Metric.reaches c.requires.laned k (omega (arith, c.requires.few)) in
     let left = c.join-left.ensures i within
     ∙ ap₂ g.M.Metric.joined (c.load.ensures i within ∙ ap (slice_index parts) left_at) reach in
     let right = c.join-right.ensures i within
@@ -27,6 +27,6 @@ returns g c i within =
     (slice_index c.join-right.result i)
     (slice_index c.least-better.result i) (slice_index c.chosen-to_left.result i)
     (slice_index c.least-best.result i) (slice_index c.chosen.result i)
-    c.requires.some c.requires.few (omega (arith, c.requires.left)) left right
+    c.requires.some (omega (arith, c.requires.few)) (omega (arith, c.requires.left)) left right
     (c.least-better.ensures i within) to_left (c.least-best.ensures i within) to_right
     (c.requires.found i within)

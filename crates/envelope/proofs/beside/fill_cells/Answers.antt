@@ -5,28 +5,28 @@ use Rattle.std.proofs.lemmas.Bool.{cases_lt}
 use Rattle.metric.specs.Edge.{shift}
 use Rattle.envelope.proofs.BesideLemmas.{are_told}
 use Rattle.envelope.proofs.PieceLemmas.{enough_between, piece_between}
-use Rattle.envelope.proofs.beside.fill_beside.Goals as goal
+use Rattle.envelope.proofs.beside.fill_cells.Goals as goal
 
 pub fill_eight-requires-clause-told : goal.fill_eight-requires-clause-told
 fill_eight-requires-clause-told g c =
     let before : c.from-before.result ≡ shift g.B.Border.EDGE = c.from-before.ensures
     ∙ (rw c.EDGE.ensures at c.shift.ensures) in
     are_told g.M.Metric.distance g.M.Metric.joined g.M.Metric.part_of c.args.entries.now
-    c.set_parts.new.parts g.B.Border.EDGE c.args.y (c.cells.start + shift g.B.Border.EDGE + 128)
+    c.args.parts.now g.B.Border.EDGE c.args.y (c.cells.start + shift g.B.Border.EDGE + 128)
     (c.cells.start + shift g.B.Border.EDGE) c.in-Some.low.best c.in-Some.low.away
     (g.met.M.Metric.small c.requires.laned) g.met.M.Metric.grows g.met.M.Metric.stays_nearer
-    c.requires.entries c.set_parts.ensures (omega arith) (rw before at c.in-Some.ensures.low)
+    c.requires.entries c.requires.parts (omega arith) (rw before at c.in-Some.ensures.low)
 
 pub fill_eight-requires-in-Some-clause-told : goal.fill_eight-requires-in-Some-clause-told
 fill_eight-requires-in-Some-clause-told g c =
     let before : c.from-before.result ≡ shift g.B.Border.EDGE = c.from-before.ensures
     ∙ (rw c.EDGE.ensures at c.shift.ensures) in
     are_told g.M.Metric.distance g.M.Metric.joined g.M.Metric.part_of c.args.entries.now
-    c.set_parts.new.parts g.B.Border.EDGE c.args.y
+    c.args.parts.now g.B.Border.EDGE c.args.y
     (c.cells.start + shift g.B.Border.EDGE + 128 + 8)
     (c.cells.start + 8 + shift g.B.Border.EDGE) c.in-Some.high.best c.in-Some.high.away
     (g.met.M.Metric.small c.requires.laned) g.met.M.Metric.grows g.met.M.Metric.stays_nearer
-    c.requires.entries c.set_parts.ensures (omega arith) (rw before at c.in-Some.ensures.high)
+    c.requires.entries c.requires.parts (omega arith) (rw before at c.in-Some.ensures.high)
 
 pub cells-preserved-in-Some : goal.cells-preserved-in-Some
 cells-preserved-in-Some g c =

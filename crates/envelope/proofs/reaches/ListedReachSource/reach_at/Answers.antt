@@ -1,6 +1,6 @@
 -- Eight places from a multiple of eight on have one reach.
 use Rattle.std.proofs.Common.{◌≡◌, ◌*◌, ◌+◌, ◌/◌, ◌∙◌, ap, arith}
-use Rattle.envelope.proofs.reaches.reach_at.Goals as goal
+use Rattle.envelope.proofs.reaches.ListedReachSource.reach_at.Goals as goal
 
 pub returns-clause-each : goal.returns-clause-each
 returns-clause-each g c i within =

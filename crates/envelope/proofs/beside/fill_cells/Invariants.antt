@@ -2,7 +2,7 @@
 use Rattle.std.proofs.Common.{◌≡◌, ℕ, ◌-◌, ◌+◌, ◌*◌, ◌<◌, ◌≤◌, length, slice_index_or}
 use Rattle.metric.specs.Edge.{shift}
 use Rattle.envelope.specs.Columns.{IsSaid}
-use Rattle.envelope.proofs.beside.fill_beside.Given as goal
+use Rattle.envelope.proofs.beside.fill_cells.Given as goal
 
 abbrev pub invariant-cells : goal.invariant-cells
 invariant-cells g l = record {

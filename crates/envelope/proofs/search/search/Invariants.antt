@@ -1,7 +1,7 @@
 -- The places less than k columns away have been searched.
 use Rattle.std.proofs.Common.{◌-◌, ◌+◌, ◌≤◌}
 use Rattle.envelope.specs.Beside.{AreBestNear, AreSides}
-use Rattle.envelope.proofs.beside.search.Given as goal
+use Rattle.envelope.proofs.search.search.Given as goal
 
 abbrev pub invariant-columns : goal.invariant-columns
 invariant-columns g l = record {
