@@ -1,6 +1,6 @@
 -- The obstacle that comes first, as more tiles and bands are searched.
-use Rattle.std.proofs.Common.{◌≡◌, ℕ, ◌+◌, ◌/◌, ◌^◌, ◌<◌, ◌≤◌, inl, inr, Option, Some, None}
-use Rattle.std.proofs.Common.{min, get_or, sym, subst, arith}
+use Rattle.std.proofs.Common.{◌≡◌, ℕ, ◌+◌, ◌/◌, ◌^◌, ◌<◌, ◌≤◌, ◌⊎◌, inl, inr, arith}
+use Rattle.std.proofs.Common.{Option, Some, None, min, get_or, refl, sym, subst}
 use Rattle.std.specs.Int.{bit_at}
 use Rattle.std.proofs.lemmas.Bool.{cases_eq, cases_lt}
 use Rattle.metric.specs.Crossing.{StaysNearer}
@@ -13,8 +13,8 @@ use Rattle.bits.specs.Words.{words_across}
 use Rattle.clearance.specs.Bands.{AreTilesFar, IsMarkedRow}
 use Rattle.clearance.specs.Rows.{IsFar, IsMarked, words_of_row}
 use Rattle.clearance.specs.Search.{column_gap, rect_distance, row_gap}
-use Rattle.clearance.specs.Spots.{IsInBand, IsInTile, IsInWord, IsMerged, IsSeed, IsSpotBelow}
-use Rattle.clearance.specs.Spots.{limit_with}
+use Rattle.clearance.specs.Spots.{IsInBand, IsInTile, IsInTileRows, IsInWord, IsMerged, IsSeed}
+use Rattle.clearance.specs.Spots.{IsSpotBelow, limit_with}
 use Rattle.clearance.specs.declared.found.Found.{Found}
 use Rattle.clearance.proofs.RowWords.{IsRowOf-words}
 use Rattle.clearance.proofs.Searches.{IsFar-greater, marked_obstacle, obstacle_marked}
@@ -43,76 +43,116 @@ tile_row_far distance grows stays cells rect tile columns reach limit bitmap apa
     IsFar-greater (distance columns reach) (rect_distance distance rect a b) limit grown
     (far (omega arith))
 
--- obstacle (a, b) is in this tile of a band, in one of the rows from a first one to an end
-abbrev pub IsInTileRows : Cells → ℕ → ℕ → ℕ → ℕ → ℕ → ℕ → Type 0
-IsInTileRows cells band tile from end a b = IsInTile cells band tile a b × (from ≤ b) × (b < end)
-
 -- before any row of a tile has been searched, there is none
 pub IsSpotBelow-tile_start : (distance : ℕ → ℕ → ℕ) (cells : Cells) (rect : Rect)
-    (band tile from limit : ℕ)
-    → IsSpotBelow distance (IsInTileRows cells band tile from from) rect limit None
-IsSpotBelow-tile_start distance cells rect band tile from limit = λ a b here.
-    let first = here.1 in
-    let before = here.2 in
+    (tile from limit : ℕ)
+    → IsSpotBelow distance (IsInTileRows cells tile from from) rect limit None
+IsSpotBelow-tile_start distance cells rect tile from limit = λ a b here.
+    let first = here.2 in
+    let before = here.3 in
     absurd (omega arith)
 
 -- a search of some rows of a tile goes on by one row
 pub IsSpotBelow-row_more : (distance : ℕ → ℕ → ℕ) (cells : Cells) (rect : Rect)
-    (band tile from end y start stop word limit : ℕ) (best next merged : Option Found)
-    → IsBitmap cells → y / 64 ≡ band → word ≡ get_or (words_of_row cells y) tile 0
+    (tile from end y start stop word limit : ℕ) (best next merged : Option Found)
+    → IsBitmap cells → word ≡ get_or (words_of_row cells y) tile 0
     → start ≤ from → end ≤ stop → start ≤ y → y < stop
     → ((b : ℕ) → start ≤ b → b < stop → (b ≡ y → ⊥) → (from ≤ b) × (b < end))
-    → IsSpotBelow distance (IsInTileRows cells band tile from end) rect limit best
+    → IsSpotBelow distance (IsInTileRows cells tile from end) rect limit best
     → IsSpotBelow distance (IsInWord tile y word) rect (limit_with limit best) next
     → IsMerged rect.y0 best next merged
-    → IsSpotBelow distance (IsInTileRows cells band tile start stop) rect limit merged
-IsSpotBelow-row_more distance cells rect band tile from end y start stop word limit best next
-    merged bitmap in_band word_is low high above below others before row both =
-    IsSpotBelow-merged distance (IsInTileRows cells band tile from end) (IsInWord tile y word)
-    (IsInTileRows cells band tile start stop) rect limit best next merged
+    → IsSpotBelow distance (IsInTileRows cells tile start stop) rect limit merged
+IsSpotBelow-row_more distance cells rect tile from end y start stop word limit best next
+    merged bitmap word_is low high above below others before row both =
+    IsSpotBelow-merged distance (IsInTileRows cells tile from end) (IsInWord tile y word)
+    (IsInTileRows cells tile start stop) rect limit best next merged
     (λ a b here.
-    let after = here.1 in
-    let less = here.2 in
-    (here.0, omega arith, omega arith))
+    let after = here.2 in
+    let less = here.3 in
+    (here.0, here.1, omega arith, omega arith))
     (λ a b here.
     let in_row = here.0 in
     let marked : IsMarked (words_of_row cells y) a = rw (here.1, sym word_is) (here.2) in
     let obstacle = marked_obstacle cells y (words_of_row cells y) a (IsRowOf-words cells y)
     marked in (
-      (subst (λ (n : ℕ). IsObstacle cells a n) (sym in_row) obstacle, rw in_row in_band, here.1),
+      subst (λ (n : ℕ). IsObstacle cells a n) (sym in_row) obstacle,
+      here.1,
       omega arith,
       omega arith,
     ))
     (λ a b here. elim (cases_eq b y) [
-      | inr other ↦ let rest = others b here.1 here.2 other in inl (here.0, rest.0, rest.1)
+      | inr other ↦
+          let rest = others b here.2 here.3 other in inl (here.0, here.1, rest.0, rest.1)
       | inl same ↦
           let marked = obstacle_marked cells y (words_of_row cells y) a bitmap
-          (IsRowOf-words cells y) (subst (λ (n : ℕ). IsObstacle cells a n) same here.0.0) in
-          inr (same, here.0.2, rw word_is (rw (here.0.2) at marked))
+          (IsRowOf-words cells y) (subst (λ (n : ℕ). IsObstacle cells a n) same here.0) in
+          inr (same, here.1, rw word_is (rw (here.1) at marked))
     ])
     before row both
 
+-- once what is found is nearer than all rows left, those needn't be searched
+pub IsSpotBelow-rows_left : (distance : ℕ → ℕ → ℕ) → Grows distance → StaysNearer distance
+    → (cells : Cells) (rect : Rect) (tile columns gap from end start stop limit : ℕ)
+    (best : Option Found)
+    → IsBitmap cells → ((a : ℕ) → a / 64 ≡ tile → columns ≤ column_gap rect a)
+    → IsFar (distance columns gap) (limit_with limit best) → start ≤ from → end ≤ stop
+    → ((b : ℕ) → start ≤ b → b < stop → ((from ≤ b) × (b < end)) ⊎ (gap ≤ row_gap rect b))
+    → IsSpotBelow distance (IsInTileRows cells tile from end) rect limit best
+    → IsSpotBelow distance (IsInTileRows cells tile start stop) rect limit best
+IsSpotBelow-rows_left distance grows stays cells rect tile columns gap from end start stop limit
+    best bitmap apart far low high each before =
+    IsSpotBelow-merged distance (IsInTileRows cells tile from end)
+    (λ a b. IsInTileRows cells tile start stop a b × (gap ≤ row_gap rect b))
+    (IsInTileRows cells tile start stop) rect limit best None best
+    (λ a b here.
+    let after = here.2 in
+    let less = here.3 in
+    (here.0, here.1, omega arith, omega arith))
+    (λ a b here. here.0)
+    (λ a b here. elim (each b here.2 here.3) [
+      | inl rest ↦ inl (here.0, here.1, rest.0, rest.1)
+      | inr beyond ↦ inr (here, beyond)
+    ])
+    before
+    (λ a b here. tile_row_far distance grows stays cells rect tile columns gap
+    (limit_with limit best) bitmap apart (λ few. far) a b here.0.0 here.0.1 here.1)
+    refl
+
 -- once all rows of a tile within the reach have been searched, the others are far
 pub IsSpotBelow-tile_all : (distance : ℕ → ℕ → ℕ) → Grows distance → StaysNearer distance
-    → (cells : Cells) (rect : Rect) (band tile columns reach from end limit : ℕ)
-    (best : Option Found)
+    → (cells : Cells) (rect : Rect) (band tile columns reach from middle end limit : ℕ)
+    (below above best : Option Found)
     → IsBitmap cells → ((a : ℕ) → a / 64 ≡ tile → columns ≤ column_gap rect a)
     → (reach < 4097 → IsFar (distance columns reach) limit)
     → ((b : ℕ) → b / 64 ≡ band → b < cells.height → row_gap rect b < reach
     → (from ≤ b) × (b < end))
-    → IsSpotBelow distance (IsInTileRows cells band tile from end) rect limit best
+    → ((b : ℕ) → from ≤ b → b < end → b / 64 ≡ band)
+    → from ≤ middle → middle ≤ end
+    → IsSpotBelow distance (IsInTileRows cells tile middle end) rect limit below
+    → IsSpotBelow distance (IsInTileRows cells tile from middle) rect (limit_with limit below) above
+    → IsMerged rect.y0 below above best
     → IsSpotBelow distance (IsInTile cells band tile) rect limit best
-IsSpotBelow-tile_all distance grows stays cells rect band tile columns reach from end limit best
-    bitmap apart far all =
-    IsSpotBelow-wider distance (IsInTileRows cells band tile from end) (IsInTile cells band tile)
-    rect limit best (λ a b here. here.0)
+IsSpotBelow-tile_all distance grows stays cells rect band tile columns reach from middle end limit
+    below above best bitmap apart far all own low high down up both =
+    IsSpotBelow-wider distance (IsInTileRows cells tile from end) (IsInTile cells band tile)
+    rect limit best (λ a b here. (here.0, own b here.2 here.3, here.1))
     (λ a b here. elim (cases_lt (row_gap rect b) reach) [
       | inl within ↦
           let rest = all b here.1 (obstacle_within cells bitmap a b here.0).1 within in
-          inl (here, rest.0, rest.1)
+          inl (here.0, here.2, rest.0, rest.1)
       | inr beyond ↦ inr (tile_row_far distance grows stays cells rect tile columns reach limit
           bitmap apart far a b here.0 here.2 beyond)
     ])
+    (IsSpotBelow-merged distance (IsInTileRows cells tile middle end)
+    (IsInTileRows cells tile from middle) (IsInTileRows cells tile from end) rect limit below above
+    best
+    (λ a b here. let first = here.2 in (here.0, here.1, omega arith, here.3))
+    (λ a b here. let last = here.3 in (here.0, here.1, here.2, omega arith))
+    (λ a b here. elim (cases_lt b middle) [
+      | inl before ↦ inr (here.0, here.1, here.2, before)
+      | inr from_middle ↦ inl (here.0, here.1, from_middle, here.3)
+    ])
+    down up both)
 
 -- a tile whose cells are all far has no obstacle near
 pub IsSpotBelow-tile_far : (distance : ℕ → ℕ → ℕ) → Grows distance → StaysNearer distance

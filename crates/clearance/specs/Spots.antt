@@ -86,6 +86,11 @@ pub record AreParts (tile x word left right : ℕ) : Type 0 where
 abbrev pub IsInTile : Cells → ℕ → ℕ → ℕ → ℕ → Type 0
 IsInTile cells band tile a b = IsObstacle cells a b × (b / 64 ≡ band) × (a / 64 ≡ tile)
 
+-- obstacle (a, b) is in this column of tiles, in one of the rows from a first one to an end
+abbrev pub IsInTileRows : Cells → ℕ → ℕ → ℕ → ℕ → ℕ → Type 0
+IsInTileRows cells tile from end a b =
+    IsObstacle cells a b × (a / 64 ≡ tile) × (from ≤ b) × (b < end)
+
 -- obstacle (a, b) is in this band
 abbrev pub IsInBand : Cells → ℕ → ℕ → ℕ → Type 0
 IsInBand cells band a b = IsObstacle cells a b × (b / 64 ≡ band)

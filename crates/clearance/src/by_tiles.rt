@@ -7,8 +7,8 @@ ghost use Rattle.bits.specs.Words.{words_across};
 ghost use Rattle.clearance.specs.Bands.{IsMarkedRow};
 ghost use Rattle.clearance.specs.Rows.{IsFar};
 ghost use Rattle.clearance.specs.Search.{column_gap, row_gap};
-ghost use Rattle.clearance.specs.Spots.{IsInBand, IsInTile, IsInWord, IsSeed, IsSpotBelow};
-ghost use Rattle.clearance.specs.Spots.{IsWithNext};
+ghost use Rattle.clearance.specs.Spots.{IsInBand, IsInTile, IsInTileRows, IsInWord, IsSeed};
+ghost use Rattle.clearance.specs.Spots.{IsSpotBelow, IsWithNext, limit_with};
 
 use crate::bit::{bits_from, bits_through};
 use crate::far_bands::rows_apart;
@@ -39,22 +39,88 @@ pub fn first_in_tile<M: Metric, R: Rows>(
 {
     let first = BAND_ROWS * band;
     let reach = rows_within::<M>(columns_apart(rect, tile), limit);
-    let from = first.max((rect.y0 + 1).saturating_sub(reach));
     let end = rows
         .height()
         .min(first + BAND_ROWS)
         .min(rect.y1 - 1 + reach);
+    let from = first.max((rect.y0 + 1).saturating_sub(reach)).min(end);
     let middle = from.max(rect.y0).min(end);
-    let mut best = None;
-    'below: for y in middle..end {
-        let word = rows.word(y, usize::from(tile));
-        best = with_word::<M>(best, word, tile, y, rect, limit);
-    }
-    'above: for y in (from..middle).rev() {
+    let below = first_downwards::<M, R>(rows, tile, (middle, end), rect, limit);
+    let above = first_upwards::<M, R>(rows, tile, (from, middle), rect, limit_with(limit, below));
+    merged(rect.y0, below, above)
+}
+
+/// The first of the obstacles of a tile in rows from a first one to an end, none of them above the
+/// rectangle, if its distance is below the limit: down, till what is found is nearer than all rows
+/// left.
+fn first_downwards<M: Metric, R: Rows>(
+    rows: &mut R,
+    tile: u16,
+    span: (u16, u16),
+    rect: Rect,
+    limit: u64,
+) -> Option<Found>
+    requires bitmap { IsBitmap (R.cells rows.old) }
+    requires tile { tile < words_across (R.cells rows.old).width }
+    requires order { span.0 ≤ span.1 }
+    requires below { span.0 < span.1 → rect.y0 ≤ span.0 }
+    requires end { span.1 ≤ (R.cells rows.old).height }
+    ensures first { IsSpotBelow M.distance (IsInTileRows (R.cells rows.old) tile span.0 span.1)
+        rect limit result }
+    ensures rows { rows.new ≡ rows.old }
+{
+    let (columns, mut best) = (columns_apart(rect, tile), None);
+    'rows: for y in span.0..span.1 {
+        if is_nearer_than_row::<M>(best, columns, rect, y) {
+            return best;
+        }
         let word = rows.word(y, usize::from(tile));
         best = with_word::<M>(best, word, tile, y, rect, limit);
     }
     best
+}
+
+/// As `first_downwards`, in rows above the rectangle: up.
+fn first_upwards<M: Metric, R: Rows>(
+    rows: &mut R,
+    tile: u16,
+    span: (u16, u16),
+    rect: Rect,
+    limit: u64,
+) -> Option<Found>
+    requires bitmap { IsBitmap (R.cells rows.old) }
+    requires tile { tile < words_across (R.cells rows.old).width }
+    requires order { span.0 ≤ span.1 }
+    requires above { span.0 < span.1 → span.1 ≤ rect.y0 }
+    requires end { span.1 ≤ (R.cells rows.old).height }
+    ensures first { IsSpotBelow M.distance (IsInTileRows (R.cells rows.old) tile span.0 span.1)
+        rect limit result }
+    ensures rows { rows.new ≡ rows.old }
+{
+    let (columns, mut best) = (columns_apart(rect, tile), None);
+    'rows: for y in (span.0..span.1).rev() {
+        if is_nearer_than_row::<M>(best, columns, rect, y) {
+            return best;
+        }
+        let word = rows.word(y, usize::from(tile));
+        best = with_word::<M>(best, word, tile, y, rect, limit);
+    }
+    best
+}
+
+/// Whether what is found is nearer than cells this many columns away in row `y`, and so than those
+/// in rows further outside.
+#[inline(always)]
+fn is_nearer_than_row<M: Metric>(best: Option<Found>, columns: u16, rect: Rect, y: u16) -> bool
+    requires columns { columns ≤ MOST_SIDE }
+    requires row { y < MOST_SIDE }
+    ensures { (limit : ℕ) → result ≡ true
+        → IsFar (M.distance columns (row_gap rect y)) (limit_with limit best) }
+{
+    match best {
+        Some(found) => found.dist < M::of(columns, row_apart(rect, y)),
+        None => false,
+    }
 }
 
 /// The least number of rows such that cells of this many columns and as many rows away are no
