@@ -1,7 +1,8 @@
 -- The least distance of a rectangle's cells, and the nearest of a cell's obstacles, from the one
 -- that comes first.
-use Rattle.std.proofs.Common.{◌≡◌, ℕ, ◌^◌, ◌<◌, inl, inr, Option, Some, None, refl, sym}
+use Rattle.std.proofs.Common.{◌≡◌, ℕ, ◌-◌, ◌^◌, ◌<◌, ◌≤◌, inl, inr, Option, Some, None, refl, sym}
 use Rattle.std.proofs.Common.{◌∙◌, arith}
+use Rattle.std.proofs.lemmas.Bool.{cases_lt}
 use Rattle.std.specs.Int.{abs_diff}
 use Rattle.metric.specs.Cellwise.{IsAtMost, key_of}
 use Rattle.metric.specs.Crossing.{StaysNearer}
@@ -11,7 +12,7 @@ use Rattle.bits.specs.Cells.{Cells, IsBitmap, IsObstacle}
 use Rattle.clearance.specs.Frames.{key_found}
 use Rattle.clearance.specs.Nearest.{IsCellRect, IsNearCell}
 use Rattle.clearance.specs.Search.{IsLeastInBits, column_gap, rect_distance, row_gap}
-use Rattle.clearance.specs.Spots.{IsLeastSpot, IsSpotBelow, key_from}
+use Rattle.clearance.specs.Spots.{IsLeastSpot, IsSeed, IsSpotBelow, key_from}
 use Rattle.clearance.specs.declared.found.Found.{Found}
 use Rattle.clearance.proofs.Searches.{IsLeastBelow-all, row_within}
 
@@ -47,6 +48,38 @@ IsLeastInBits-none distance grows stays cells rect limit bitmap none =
       within = omega arith;
       far = λ a b obstacle row. none a b obstacle;
       reached = λ less. absurd (omega arith);
+    })
+
+-- a least distance below a limit is the least for a greater limit too
+pub IsLeastInBits-nearer : (distance : ℕ → ℕ → ℕ) (cells : Cells) (rect : Rect)
+    (near limit least : ℕ) → least < near → near ≤ limit
+    → IsLeastInBits distance (IsObstacle cells) rect near least
+    → IsLeastInBits distance (IsObstacle cells) rect limit least
+IsLeastInBits-nearer distance cells rect near limit least less within is = record {
+  within = omega arith;
+  far = is.far;
+  reached = λ below. is.reached less;
+}
+
+-- where no obstacle is nearer than that of a seed, its distance is the least
+pub IsLeastInBits-seed : (distance : ℕ → ℕ → ℕ) → Grows distance → StaysNearer distance
+    → (cells : Cells) (rect : Rect) (limit seed near : ℕ) → IsBitmap cells → near ≤ limit
+    → (seed < limit → near ≡ seed - 1) → (limit ≤ seed → near ≡ limit)
+    → IsSeed distance cells rect limit seed → IsSpotBelow distance (IsObstacle cells) rect near None
+    → IsLeastInBits distance (IsObstacle cells) rect limit near
+IsLeastInBits-seed distance grows stays cells rect limit seed near bitmap within below same is none =
+    IsLeastBelow-all distance grows stays cells rect (λ b. b < 4096) limit near bitmap
+    (row_within cells bitmap) (record {
+      within = within;
+      far = λ a b obstacle row. none a b obstacle;
+      reached = λ less. elim (cases_lt seed limit) [
+        | inr other ↦ let equal = same other in absurd (omega arith)
+        | inl some ↦
+            let (a, b, obstacle, closer) = is.some some in
+            let equal = below some in
+            let low = (none a b obstacle).not_below in
+            record { a = a; b = b; obstacle = obstacle; distance_is = omega arith }
+      ];
     })
 
 -- the distance of a cell's rectangle is that of the cell

@@ -1,3 +1,4 @@
+mod AnyTiles
 mod BandRows
 mod ClearBoxes
 mod Bits

@@ -11,7 +11,7 @@ use Rattle.bits.specs.Edges.{IsBlocked}
 use Rattle.clearance.specs.Lines.{IsFirstBefore, IsRectOf}
 use Rattle.clearance.specs.Parts.{IsPart}
 use Rattle.clearance.specs.Search.{column_gap, row_gap}
-use Rattle.clearance.specs.Spots.{IsLeastSpot, IsSpotBelow}
+use Rattle.clearance.specs.Spots.{IsNearSpot, IsSpotBelow}
 use Rattle.clearance.specs.Strips.{IsFirstNear, IsLineNear, IsSomeNear}
 use Rattle.clearance.specs.declared.found.Found.{Found}
 use Rattle.clearance.specs.declared.lines.Lines.{Lines}
@@ -23,10 +23,10 @@ use Rattle.clearance.proofs.LineFirsts.{IsFirstBefore-far, black_of_row, near_mo
 -- an obstacle that is near to the lines' rectangle is near to one of them
 pub IsSomeNear-spot : (distance : ℕ → ℕ → ℕ) (cells : Cells) (lines : Lines) (end : ℕ) (rect : Rect)
     (found : Found) → IsRectOf lines end rect
-    → IsLeastSpot distance (IsObstacle cells) rect lines.limit found
+    → IsNearSpot distance (IsObstacle cells) rect lines.limit found
     → IsSomeNear distance (IsPart cells (Row found.cell.y)) lines.strip lines.limit lines.first
     (end - 1)
-IsSomeNear-spot distance cells lines end rect found of first =
+IsSomeNear-spot distance cells lines end rect found of spot =
     let columns = rect.has_cells.columns in
     let rows = rect.has_cells.rows in
     let a = found.cell.x in
@@ -41,8 +41,8 @@ IsSomeNear-spot distance cells lines end rect found of first =
       top = omega arith;
       bottom = omega arith;
     }) in
-    let is = rw (across, down) at first.distance_is in
-    let near = first.nearer in (
+    let is = rw (across, down) at spot.distance_is in
+    let near = spot.nearer in (
       k,
       from,
       omega arith,
@@ -52,7 +52,7 @@ IsSomeNear-spot distance cells lines end rect found of first =
         on_line = on_line;
         a = pos a;
         b = pos b;
-        obstacle = (first.obstacle, refl);
+        obstacle = (spot.obstacle, refl);
         nearer = omega arith;
       },
     )

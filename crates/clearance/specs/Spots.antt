@@ -36,6 +36,20 @@ IsSpotBelow distance Obstacle rect limit None =
 IsSpotBelow distance Obstacle rect limit (Some found) =
     IsLeastSpot distance Obstacle rect limit found
 
+-- what is found is one of a set of obstacles, and its distance is below the limit
+pub record IsNearSpot (distance : ℕ → ℕ → ℕ) (Obstacle : ℕ → ℕ → Type 0) (rect : Rect)
+    (limit : ℕ) (found : Found) : Type 0 where
+  pub obstacle : Obstacle found.cell.x found.cell.y
+  pub distance_is : found.dist ≡ rect_distance distance rect found.cell.x found.cell.y
+  pub nearer : found.dist < limit
+
+-- one of a set of obstacles that is nearer than the limit; none if there is none
+abbrev pub IsAnyBelow : (ℕ → ℕ → ℕ) → (ℕ → ℕ → Type 0) → Rect → ℕ → Option Found → Type 0
+IsAnyBelow distance Obstacle rect limit None =
+    (a b : ℕ) → Obstacle a b → IsFar (rect_distance distance rect a b) limit
+IsAnyBelow distance Obstacle rect limit (Some found) =
+    IsNearSpot distance Obstacle rect limit found
+
 -- the limit, or one above the distance of what is found
 abbrev pub limit_with : ℕ → Option Found → ℕ
 limit_with limit None = limit

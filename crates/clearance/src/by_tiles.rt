@@ -37,17 +37,30 @@ pub fn first_in_tile<M: Metric, R: Rows>(
         result }
     ensures rows { rows.new ≡ rows.old }
 {
-    let first = BAND_ROWS * band;
     let reach = rows_within::<M>(columns_apart(rect, tile), limit);
-    let end = rows
-        .height()
-        .min(first + BAND_ROWS)
-        .min(rect.y1 - 1 + reach);
-    let from = first.max((rect.y0 + 1).saturating_sub(reach)).min(end);
+    let (from, end) = rows_met(rows.height(), band, rect, reach);
     let middle = from.max(rect.y0).min(end);
     let below = first_downwards::<M, R>(rows, tile, (middle, end), rect, limit);
     let above = first_upwards::<M, R>(rows, tile, (from, middle), rect, limit_with(limit, below));
     merged(rect.y0, below, above)
+}
+
+/// The rows of a band that are fewer than `reach` rows outside the rectangle, of a map with this
+/// many rows: a first one and an end.
+pub fn rows_met(height: u16, band: u16, rect: Rect, reach: u16) -> (u16, u16)
+    requires height { height ≤ MOST_SIDE }
+    requires band { band < 64 }
+    requires reach { reach ≤ LAST_FRAMED }
+    ensures order { result.0 ≤ result.1 }
+    ensures end { result.1 ≤ height }
+    ensures own { (b : ℕ) → result.0 ≤ b → b < result.1 → b / BAND_ROWS ≡ band }
+    ensures all { (b : ℕ) → b / BAND_ROWS ≡ band → b < height → row_gap rect b < reach
+        → (result.0 ≤ b) × (b < result.1) }
+{
+    let first = BAND_ROWS * band;
+    let end = height.min(first + BAND_ROWS).min(rect.y1 - 1 + reach);
+    let from = first.max((rect.y0 + 1).saturating_sub(reach)).min(end);
+    (from, end)
 }
 
 /// The first of the obstacles of a tile in rows from a first one to an end, none of them above the
@@ -125,7 +138,7 @@ fn is_nearer_than_row<M: Metric>(best: Option<Found>, columns: u16, rect: Rect, 
 
 /// The least number of rows such that cells of this many columns and as many rows away are no
 /// nearer than the limit; 4097 if there is none.
-fn rows_within<M: Metric>(columns: u16, limit: u64) -> u16
+pub fn rows_within<M: Metric>(columns: u16, limit: u64) -> u16
     requires { columns ≤ MOST_SIDE }
     ensures few { result ≤ LAST_FRAMED }
     ensures far { result < LAST_FRAMED → IsFar (M.distance columns result) limit }
@@ -238,7 +251,7 @@ fn first_in_band<M: Metric, R: Rows>(
 
 /// A number of rows so large that rows as far away have no distance below the limit, or the most
 /// of all.
-fn reach<M: Metric>(limit: u64) -> u16
+pub fn reach<M: Metric>(limit: u64) -> u16
     ensures few { result ≤ MOST_SIDE }
     ensures far { result < MOST_SIDE → IsFar (M.distance 0 result) limit }
 {
@@ -253,7 +266,7 @@ fn reach<M: Metric>(limit: u64) -> u16
 }
 
 /// The bands without those of which each row is at least this many rows outside the rectangle.
-fn bands_within(bands: u64, rect: Rect, rows: u16) -> u64
+pub fn bands_within(bands: u64, rect: Rect, rows: u16) -> u64
     requires { rows ≤ MOST_SIDE }
     ensures { (b : ℕ) → b < MOST_SIDE → row_gap rect b < rows → IsMarkedRow bands b
         → IsMarkedRow result b }
@@ -265,7 +278,7 @@ fn bands_within(bands: u64, rect: Rect, rows: u16) -> u64
 
 /// The first of the obstacles, seen from the rectangle, if its distance is below the limit, band by
 /// band.
-fn first_by_bands<M: Metric, R: Rows>(rows: &mut R, rect: Rect, limit: u64) -> Option<Found>
+pub fn first_by_bands<M: Metric, R: Rows>(rows: &mut R, rect: Rect, limit: u64) -> Option<Found>
     requires bitmap { IsBitmap (R.cells rows.old) }
     ensures first { IsSpotBelow M.distance (IsObstacle (R.cells rows.old)) rect limit result }
     ensures rows { rows.new ≡ rows.old }

@@ -5,6 +5,7 @@
 //! which counts with a wall, is searched by arithmetic. None allocates memory.
 #![tactic(auto)]
 
+mod any_by_tiles;
 mod area;
 mod band;
 mod beside;

@@ -2,15 +2,15 @@
 
 ghost use Rattle.clearance.specs.Strips.{IsStripIn};
 
+use crate::any_by_tiles::any_by_tiles;
 use crate::band::{are_blank_bands, first_gap, next_gap};
 use crate::beside::is_clear_near;
-use crate::by_tiles::first_by_tiles;
 use crate::clear::{MOST_REACH, is_clear_within, small_reach};
 use crate::far_bands::near_bands;
 use crate::part::Part;
 use crate::rows::Rows;
 use crate::search::lowered;
-use crate::seed::far_seed;
+use crate::seed::seems_far;
 use crate::segment::step_towards;
 use crate::strip::Strip;
 use metric::{Edge, LAST_FRAMED, Metric, Rect};
@@ -107,10 +107,10 @@ impl Lines {
     {
         let (mut line, mut left) = (end, rect);
         'turns: for _turn in 0..MOST_TURNS {
-            let Some(seed) = far_seed::<M, R>(rows, left, self.limit) else {
+            if !seems_far::<M, R>(rows, left, self.limit) {
                 return self.first_by_rows::<M, R>(rows, left, line, reach);
-            };
-            let Some(found) = first_by_tiles::<M, R>(rows, left, self.limit, seed) else {
+            }
+            let Some(found) = any_by_tiles::<M, R>(rows, left, self.limit) else {
                 return line;
             };
             let next = self.first_by_quarters::<M, R>(rows, Part::Row(found.cell.y), line - 1);

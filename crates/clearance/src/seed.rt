@@ -10,7 +10,7 @@ use crate::far_bands::rows_apart;
 use crate::rows::Rows;
 use crate::search::{FAR_GAP, NO_LIMIT};
 use crate::tiles::{NO_TILE, after_last_tile, is_marked_tile, next_tile};
-use metric::{BAND_ROWS, MOST_SIDE, Metric, Rect, WORD_CELLS};
+use metric::{BAND_ROWS, LAST_FRAMED, MOST_SIDE, Metric, Rect, WORD_CELLS};
 
 /// A tile of a band, and a bound for the distances of its cells.
 #[derive(Clone, Copy, Debug, PartialEq, Eq)]
@@ -68,15 +68,50 @@ fn nearest_tile<M: Metric, R: Rows>(rows: &R, rect: Rect, limit: u64) -> NearTil
     'inside: for band in top..bottom + 1 {
         best = nearer_of_band::<M, R>(rows, best, rect, band);
     }
-    'outside: for step in 1..64 {
-        if u64::from(M::of(0, BAND_ROWS * (step - 1) + 1)) >= best.bound {
+    let bands = rows.bands();
+    let (mut above, mut below) = (after_last_tile(bands, top), next_tile(bands, bottom + 1));
+    'outside: while 0 < above || below < NO_TILE {
+        let (up, down) = (rows_above(rect, above), rows_below(rect, below));
+        if u64::from(M::of(0, up.min(down))) >= best.bound {
             return best;
         }
-        let above = top.saturating_sub(step);
-        best = nearer_of_band::<M, R>(rows, best, rect, above);
-        best = nearer_of_band::<M, R>(rows, best, rect, (bottom + step).min(63));
+        if up <= down {
+            best = nearer_of_band::<M, R>(rows, best, rect, above - 1);
+            above = after_last_tile(bands, above - 1);
+        } else {
+            best = nearer_of_band::<M, R>(rows, best, rect, below);
+            below = next_tile(bands, below + 1);
+        }
     }
     best
+}
+
+/// How many rows the last of the bands above lies outside the rectangle; 4097 if there is none.
+#[inline(always)]
+fn rows_above(rect: Rect, after: u16) -> u16
+    requires { after ≤ 64 }
+    ensures few { result ≤ LAST_FRAMED }
+    ensures none { after ≡ 0 → result ≡ LAST_FRAMED }
+{
+    if after == 0 {
+        LAST_FRAMED
+    } else {
+        rows_apart(rect, after - 1)
+    }
+}
+
+/// How many rows the first of the bands below lies outside the rectangle; 4097 if there is none.
+#[inline(always)]
+fn rows_below(rect: Rect, band: u16) -> u16
+    ensures few { result ≤ LAST_FRAMED }
+    ensures some { band < 64 → result < LAST_FRAMED }
+    ensures none { 64 ≤ band → result ≡ LAST_FRAMED }
+{
+    if band < NO_TILE {
+        rows_apart(rect, band)
+    } else {
+        LAST_FRAMED
+    }
 }
 
 /// A limit that leaves more rows than this is loose: it leaves many tiles.
@@ -144,8 +179,8 @@ fn are_few_marked<R: Rows>(rows: &R, bands: (u16, u16), tiles: (u16, u16), most:
 
 /// Whether few tiles within 32 cells of the rectangle may have an obstacle, none unless it has many
 /// rows, and an obstacle below the limit may be farther away: then it pays to search by tiles.
-fn seems_far<M: Metric, R: Rows>(rows: &R, rect: Rect, limit: u64) -> bool {
-    if u64::from(M::of(0, FAR_GAP)) >= limit {
+pub fn seems_far<M: Metric, R: Rows>(rows: &R, rect: Rect, limit: u64) -> bool {
+    if rows.bands() == 0 || u64::from(M::of(0, FAR_GAP)) >= limit {
         return false;
     }
     let most = u32::from(rect.y1 - rect.y0) / ROWS_A_TILE;

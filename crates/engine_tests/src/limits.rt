@@ -89,23 +89,25 @@ fn spotted_image(alloc: Global, height: u32) -> Result<String, Fail> {
 fn one_worker_writes_what_several_do(rt: HostRuntime) -> Result<(), Fail> {
     for height in [1, 15, 16, 17, 33] {
         let image = spotted_image(rt.alloc(), height)?;
-        for (edge, nearest) in [
-            (Edge::Open, false),
-            (Edge::Open, true),
-            (Edge::Wall, false),
-            (Edge::Wall, true),
-        ] {
-            let one = DistOptions {
-                metric: MetricKind::Euclid2,
-                edge,
-                nearest,
-                query: None,
-                workers: 1,
-            };
-            let several = DistOptions { workers: 3, ..one };
-            let alone = written(&rt, &one, image.as_bytes());
-            let shared = written(&rt, &several, image.as_bytes());
-            same(&rt, alone.bytes(), shared.bytes(), ("rows", height));
+        for metric in [MetricKind::Euclid2, MetricKind::City, MetricKind::Chess] {
+            for (edge, nearest) in [
+                (Edge::Open, false),
+                (Edge::Open, true),
+                (Edge::Wall, false),
+                (Edge::Wall, true),
+            ] {
+                let one = DistOptions {
+                    metric,
+                    edge,
+                    nearest,
+                    query: None,
+                    workers: 1,
+                };
+                let several = DistOptions { workers: 3, ..one };
+                let alone = written(&rt, &one, image.as_bytes());
+                let shared = written(&rt, &several, image.as_bytes());
+                same(&rt, alone.bytes(), shared.bytes(), ("rows", height));
+            }
         }
     }
     Ok(())

@@ -29,8 +29,8 @@ const FIRST: usize = 128;
 /// How many more places there are than columns.
 pub const SPARE: usize = 272;
 
-/// The fewest columns of a row that makes a list of its reaches: it costs as much as some steps of
-/// as many cells.
+/// The fewest columns of a row that makes a list of its reaches: rows of fewer columns take fewer
+/// steps in all than the list has reaches.
 const LISTED_COLUMNS: usize = 256;
 
 /// The part for no obstacle.
