@@ -25,13 +25,12 @@ use Rattle.clearance.proofs.TileRows.{AreBandsLive, IsBandFar-tiles}
 
 -- a row of a tile beyond the reach is far
 tile_row_far : (distance : ℕ → ℕ → ℕ) → Grows distance → StaysNearer distance
-    → (cells : Cells) (rect : Rect) (tile columns reach limit : ℕ) → IsBitmap cells
-    → ((a : ℕ) → a / 64 ≡ tile → columns ≤ column_gap rect a)
+    → (cells : Cells) (rect : Rect) (columns reach limit : ℕ) → IsBitmap cells
     → (reach < 4097 → IsFar (distance columns reach) limit)
-    → (a b : ℕ) → IsObstacle cells a b → a / 64 ≡ tile → reach ≤ row_gap rect b
+    → (a b : ℕ) → IsObstacle cells a b → columns ≤ column_gap rect a → reach ≤ row_gap rect b
     → IsFar (rect_distance distance rect a b) limit
-tile_row_far distance grows stays cells rect tile columns reach limit bitmap apart far a b obstacle
-    here beyond =
+tile_row_far distance grows stays cells rect columns reach limit bitmap far a b obstacle apart
+    beyond =
     let last = obstacle_within cells bitmap a b obstacle in
     let column = last.2 in
     let row = last.3 in
@@ -39,7 +38,7 @@ tile_row_far distance grows stays cells rect tile columns reach limit bitmap apa
     let bottom = rect.has_cells.bottom in
     let some = rect.has_cells.rows in
     let grown = of_grows distance grows stays columns (column_gap rect a) reach (row_gap rect b)
-    (apart a here) (omega arith) beyond (omega arith) in
+    apart (omega arith) beyond (omega arith) in
     IsFar-greater (distance columns reach) (rect_distance distance rect a b) limit grown
     (far (omega arith))
 
@@ -94,7 +93,9 @@ IsSpotBelow-row_more distance cells rect tile from end y start stop word limit b
 pub IsSpotBelow-rows_left : (distance : ℕ → ℕ → ℕ) → Grows distance → StaysNearer distance
     → (cells : Cells) (rect : Rect) (tile columns gap from end start stop limit : ℕ)
     (best : Option Found)
-    → IsBitmap cells → ((a : ℕ) → a / 64 ≡ tile → columns ≤ column_gap rect a)
+    → IsBitmap cells
+    → ((a b : ℕ) → IsObstacle cells a b → a / 64 ≡ tile → start ≤ b → b < stop
+    → columns ≤ column_gap rect a)
     → IsFar (distance columns gap) (limit_with limit best) → start ≤ from → end ≤ stop
     → ((b : ℕ) → start ≤ b → b < stop → ((from ≤ b) × (b < end)) ⊎ (gap ≤ row_gap rect b))
     → IsSpotBelow distance (IsInTileRows cells tile from end) rect limit best
@@ -114,9 +115,21 @@ IsSpotBelow-rows_left distance grows stays cells rect tile columns gap from end 
       | inr beyond ↦ inr (here, beyond)
     ])
     before
-    (λ a b here. tile_row_far distance grows stays cells rect tile columns gap
-    (limit_with limit best) bitmap apart (λ few. far) a b here.0.0 here.0.1 here.1)
+    (λ a b here. tile_row_far distance grows stays cells rect columns gap (limit_with limit best)
+    bitmap (λ few. far) a b here.0.0 (apart a b here.0.0 here.0.1 here.0.2 here.0.3) here.1)
     refl
+
+-- rows of a tile whose obstacles are all far have none near
+pub IsSpotBelow-span_far : (distance : ℕ → ℕ → ℕ) → Grows distance → StaysNearer distance
+    → (cells : Cells) (rect : Rect) (tile columns away from end limit : ℕ) → IsBitmap cells
+    → ((a b : ℕ) → IsObstacle cells a b → a / 64 ≡ tile → from ≤ b → b < end
+    → columns ≤ column_gap rect a)
+    → ((b : ℕ) → from ≤ b → b < end → away ≤ row_gap rect b) → IsFar (distance columns away) limit
+    → IsSpotBelow distance (IsInTileRows cells tile from end) rect limit None
+IsSpotBelow-span_far distance grows stays cells rect tile columns away from end limit bitmap apart
+    outside far = λ a b here.
+    tile_row_far distance grows stays cells rect columns away limit bitmap (λ few. far) a b here.0
+    (apart a b here.0 here.1 here.2 here.3) (outside b here.2 here.3)
 
 -- once all rows of a tile within the reach have been searched, the others are far
 pub IsSpotBelow-tile_all : (distance : ℕ → ℕ → ℕ) → Grows distance → StaysNearer distance
@@ -140,8 +153,8 @@ IsSpotBelow-tile_all distance grows stays cells rect band tile columns reach fro
       | inl within ↦
           let rest = all b here.1 (obstacle_within cells bitmap a b here.0).1 within in
           inl (here.0, here.2, rest.0, rest.1)
-      | inr beyond ↦ inr (tile_row_far distance grows stays cells rect tile columns reach limit
-          bitmap apart far a b here.0 here.2 beyond)
+      | inr beyond ↦ inr (tile_row_far distance grows stays cells rect columns reach limit bitmap
+          far a b here.0 (apart a here.2) beyond)
     ])
     (IsSpotBelow-merged distance (IsInTileRows cells tile middle end)
     (IsInTileRows cells tile from middle) (IsInTileRows cells tile from end) rect limit below above

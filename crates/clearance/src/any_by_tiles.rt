@@ -51,12 +51,7 @@ fn any_in_tile<M: Metric, R: Rows>(
 
 /// An obstacle of a band whose distance from the rectangle is below the limit; `None` if there is
 /// none.
-fn any_in_band<M: Metric, R: Rows>(
-    rows: &mut R,
-    band: u16,
-    rect: Rect,
-    limit: u64,
-) -> Option<Found>
+fn any_in_band<M: Metric, R: Rows>(rows: &mut R, band: u16, rect: Rect, limit: u64) -> Option<Found>
     requires bitmap { IsBitmap (R.cells rows.old) }
     requires band { band < 64 }
     ensures any { IsAnyBelow M.distance (IsInBand (R.cells rows.old) band) rect limit result }

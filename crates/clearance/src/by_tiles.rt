@@ -1,7 +1,8 @@
 //! A search for obstacles that are far away, tile by tile, of those tiles alone that may have one
 //! near enough.
 
-ghost use Rattle.std.specs.Prelude.{◌≡◌, ℕ, ◌/◌, ◌<◌, ◌≤◌, true};
+ghost use Rattle.std.specs.Prelude.{◌≡◌, ℕ, ◌/◌, ◌%◌, ◌<◌, ◌≤◌, true};
+ghost use Rattle.std.specs.Int.{bit_at};
 ghost use Rattle.bits.specs.Cells.{IsBitmap, IsObstacle};
 ghost use Rattle.bits.specs.Words.{words_across};
 ghost use Rattle.clearance.specs.Bands.{IsMarkedRow};
@@ -10,13 +11,13 @@ ghost use Rattle.clearance.specs.Search.{column_gap, row_gap};
 ghost use Rattle.clearance.specs.Spots.{IsInBand, IsInTile, IsInTileRows, IsInWord, IsSeed};
 ghost use Rattle.clearance.specs.Spots.{IsSpotBelow, IsWithNext, limit_with};
 
-use crate::bit::{bits_from, bits_through};
+use crate::bit::{bits_from, bits_through, highest_bit, lowest_bit};
 use crate::far_bands::rows_apart;
-use crate::far_columns::are_tiles_far;
+use crate::far_columns::{are_tiles_far, joined_span};
 use crate::found::Found;
 use crate::part::row_apart;
 use crate::rows::Rows;
-use crate::spot::{first_in_word, limit_with, merged};
+use crate::spot::{first_in_word, limit_with, merged, parts_of};
 use crate::tiles::{NO_TILE, next_tile};
 use metric::{BAND_ROWS, LAST_FRAMED, MOST_SIDE, Metric, Rect, WORD_CELLS};
 
@@ -39,10 +40,56 @@ pub fn first_in_tile<M: Metric, R: Rows>(
 {
     let reach = rows_within::<M>(columns_apart(rect, tile), limit);
     let (from, end) = rows_met(rows.height(), band, rect, reach);
+    let columns = columns_outside(rect, tile, joined_span(rows, tile, from, end));
+    if u64::from(M::of(columns, rows_apart(rect, band))) >= limit {
+        return None;
+    }
     let middle = from.max(rect.y0).min(end);
-    let below = first_downwards::<M, R>(rows, tile, (middle, end), rect, limit);
-    let above = first_upwards::<M, R>(rows, tile, (from, middle), rect, limit_with(limit, below));
+    let below = first_downwards::<M, R>(rows, tile, (middle, end), columns, rect, limit);
+    let next = limit_with(limit, below);
+    let above = first_upwards::<M, R>(rows, tile, (from, middle), columns, rect, next);
     merged(rect.y0, below, above)
+}
+
+/// The least number of columns that one of these columns of a tile, given as bits, lies outside the
+/// rectangle; 4096 if there is none.
+fn columns_outside(rect: Rect, tile: u16, columns: u64) -> u16
+    requires { tile < 64 }
+    ensures few { result ≤ MOST_SIDE }
+    ensures apart { (a : ℕ) → a / WORD_CELLS ≡ tile → bit_at columns (a % WORD_CELLS) ≡ 1
+        → result ≤ column_gap rect a }
+{
+    let (left, right) = parts_of(columns, tile, rect.x0);
+    columns_left(rect, tile, left).min(columns_right(rect, tile, right))
+}
+
+/// As `columns_outside`, to the left of the rectangle.
+fn columns_left(rect: Rect, tile: u16, columns: u64) -> u16
+    requires { tile < 64 }
+    ensures few { result ≤ MOST_SIDE }
+    ensures apart { (a : ℕ) → a / WORD_CELLS ≡ tile → bit_at columns (a % WORD_CELLS) ≡ 1
+        → result ≤ column_gap rect a }
+{
+    if columns == 0 {
+        MOST_SIDE
+    } else {
+        rect.x0
+            .saturating_sub(WORD_CELLS * tile + highest_bit(columns))
+    }
+}
+
+/// As `columns_outside`, to the right of the rectangle.
+fn columns_right(rect: Rect, tile: u16, columns: u64) -> u16
+    requires { tile < 64 }
+    ensures few { result ≤ MOST_SIDE }
+    ensures apart { (a : ℕ) → a / WORD_CELLS ≡ tile → bit_at columns (a % WORD_CELLS) ≡ 1
+        → result ≤ column_gap rect a }
+{
+    if columns == 0 {
+        MOST_SIDE
+    } else {
+        (WORD_CELLS * tile + lowest_bit(columns)).saturating_sub(rect.x1 - 1)
+    }
 }
 
 /// The rows of a band that are fewer than `reach` rows outside the rectangle, of a map with this
@@ -65,11 +112,12 @@ pub fn rows_met(height: u16, band: u16, rect: Rect, reach: u16) -> (u16, u16)
 
 /// The first of the obstacles of a tile in rows from a first one to an end, none of them above the
 /// rectangle, if its distance is below the limit: down, till what is found is nearer than all rows
-/// left.
+/// left. None of these obstacles lies fewer columns outside.
 fn first_downwards<M: Metric, R: Rows>(
     rows: &mut R,
     tile: u16,
     span: (u16, u16),
+    columns: u16,
     rect: Rect,
     limit: u64,
 ) -> Option<Found>
@@ -78,11 +126,14 @@ fn first_downwards<M: Metric, R: Rows>(
     requires order { span.0 ≤ span.1 }
     requires below { span.0 < span.1 → rect.y0 ≤ span.0 }
     requires end { span.1 ≤ (R.cells rows.old).height }
+    requires columns { columns ≤ MOST_SIDE }
+    requires apart { (a b : ℕ) → IsObstacle (R.cells rows.old) a b → a / WORD_CELLS ≡ tile
+        → span.0 ≤ b → b < span.1 → columns ≤ column_gap rect a }
     ensures first { IsSpotBelow M.distance (IsInTileRows (R.cells rows.old) tile span.0 span.1)
         rect limit result }
     ensures rows { rows.new ≡ rows.old }
 {
-    let (columns, mut best) = (columns_apart(rect, tile), None);
+    let mut best = None;
     'rows: for y in span.0..span.1 {
         if is_nearer_than_row::<M>(best, columns, rect, y) {
             return best;
@@ -98,6 +149,7 @@ fn first_upwards<M: Metric, R: Rows>(
     rows: &mut R,
     tile: u16,
     span: (u16, u16),
+    columns: u16,
     rect: Rect,
     limit: u64,
 ) -> Option<Found>
@@ -106,11 +158,14 @@ fn first_upwards<M: Metric, R: Rows>(
     requires order { span.0 ≤ span.1 }
     requires above { span.0 < span.1 → span.1 ≤ rect.y0 }
     requires end { span.1 ≤ (R.cells rows.old).height }
+    requires columns { columns ≤ MOST_SIDE }
+    requires apart { (a b : ℕ) → IsObstacle (R.cells rows.old) a b → a / WORD_CELLS ≡ tile
+        → span.0 ≤ b → b < span.1 → columns ≤ column_gap rect a }
     ensures first { IsSpotBelow M.distance (IsInTileRows (R.cells rows.old) tile span.0 span.1)
         rect limit result }
     ensures rows { rows.new ≡ rows.old }
 {
-    let (columns, mut best) = (columns_apart(rect, tile), None);
+    let mut best = None;
     'rows: for y in (span.0..span.1).rev() {
         if is_nearer_than_row::<M>(best, columns, rect, y) {
             return best;

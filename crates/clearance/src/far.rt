@@ -42,8 +42,8 @@ const MANY_COLUMNS: u16 = 256;
 /// The first rows of the bands nearest to the rectangle.
 const FIRST_ROWS: u16 = 16;
 
-/// As `least_in_bits`, for a rectangle with many columns whose nearest obstacle is in one of the
-/// first rows that may have one, and not near: a search by rows ends there, where one by tiles would
+/// As `least_in_bits`, for a rectangle with many columns whose nearest obstacle isn't near, but in
+/// one of the first rows that may have one: a search by rows ends there, where one by tiles would
 /// look at all tiles along the rectangle. `None` for others.
 fn least_in_first_rows<M: Metric, R: Rows>(rows: &mut R, rect: Rect, limit: u64) -> Option<u64>
     requires { IsRectIn (R.cells rows.old) rect }

@@ -177,8 +177,21 @@ fn joined_rows<R: Rows>(rows: &mut R, band: u16, tile: u16) -> u64
 {
     let first = BAND_ROWS * band;
     let end = rows.height().min(first + BAND_ROWS);
+    joined_span(rows, tile, first, end)
+}
+
+/// The columns of a tile that have an obstacle in one of the rows from a first one to an end, as
+/// bits.
+pub fn joined_span<R: Rows>(rows: &mut R, tile: u16, from: u16, end: u16) -> u64
+    requires bitmap { IsBitmap (R.cells rows.old) }
+    requires tile { tile < words_across (R.cells rows.old).width }
+    requires end { end ≤ (R.cells rows.old).height }
+    ensures joined { (x y : ℕ) → IsObstacle (R.cells rows.old) x y → from ≤ y → y < end
+        → x / WORD_CELLS ≡ tile → bit_at result (x % WORD_CELLS) ≡ 1 }
+    ensures rows { rows.new ≡ rows.old }
+{
     let mut all = 0;
-    'joined: for y in first..end {
+    'joined: for y in from..end {
         all |= rows.word(y, usize::from(tile));
     }
     all

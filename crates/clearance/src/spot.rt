@@ -134,7 +134,7 @@ fn top_bit(word: u64) -> Option<u16>
 
 /// The bits of a tile's word to the left of a column, and the others.
 #[inline(always)]
-fn parts_of(word: u64, tile: u16, x: u16) -> (u64, u64)
+pub fn parts_of(word: u64, tile: u16, x: u16) -> (u64, u64)
     requires tile { tile < 64 }
     ensures { AreParts tile x word result.0 result.1 }
 {

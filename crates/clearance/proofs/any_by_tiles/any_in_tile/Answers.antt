@@ -32,9 +32,9 @@ rows-preserved g c =
     record {
       rows = c.word-word.ensures.rows ∙ c.rows.invariant.rows;
       far = IsSpotBelow-row_more g.M.Metric.distance (g.R.Rows.cells c.args.rows.now) c.args.rect
-          c.args.tile c.rows_met-from.result.0 c.rows.y c.rows.y c.rows_met-from.result.0 (c.rows.y + 1)
-          c.word-word.result c.args.limit None None None c.requires.bitmap word (omega arith)
-          (omega arith) (omega arith) (omega arith)
+          c.args.tile c.rows_met-from.result.0 c.rows.y c.rows.y c.rows_met-from.result.0
+          (c.rows.y + 1) c.word-word.result c.args.limit None None None c.requires.bitmap word
+          (omega arith) (omega arith) (omega arith) (omega arith)
           (λ b start stop other. (omega arith, omega arith)) c.rows.invariant.far
           (rw c.in_default.is at c.first_in_word-found.ensures) refl;
     }

@@ -34,9 +34,9 @@ rows-preserved g c =
 pub returns-then-is_nearer_than_row-clause-first : goal.returns-then-is_nearer_than_row-clause-first
 returns-then-is_nearer_than_row-clause-first g c =
     IsSpotBelow-rows_left g.M.Metric.distance g.met.M.Metric.grows g.met.M.Metric.stays_nearer
-    (g.R.Rows.cells c.args.rows.now) c.args.rect c.args.tile c.columns_apart-columns.result
+    (g.R.Rows.cells c.args.rows.now) c.args.rect c.args.tile c.args.columns
     (row_gap c.args.rect (c.rows.y - 1)) c.rows.y c.args.span.1 c.args.span.0 c.args.span.1
-    c.args.limit c.rows.best c.requires.bitmap c.columns_apart-columns.ensures.apart
+    c.args.limit c.rows.best c.requires.bitmap c.requires.apart
     (c.if-is_nearer_than_row.ensures c.args.limit refl) (omega arith) (omega arith)
     (λ b from before. elim (cases_lt b c.rows.y) [
       | inl outside ↦ inr (omega arith)

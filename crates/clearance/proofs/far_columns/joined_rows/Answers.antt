@@ -1,38 +1,10 @@
--- Row by row.
-use Rattle.std.proofs.Common.{◌≡◌, ◌%◌, ◌∙◌, inl, inr, refl, subst, ℕ, arith}
-use Rattle.std.proofs.lemmas.Bool.{cases_lt}
-use Rattle.bits.specs.Cells.{IsObstacle}
-use Rattle.bits.proofs.BandLemmas.{joined_before, joined_here}
-use Rattle.clearance.specs.Rows.{words_of_row}
-use Rattle.clearance.proofs.RowWords.{IsRowOf-words}
-use Rattle.clearance.proofs.Searches.{obstacle_marked, obstacle_within}
+-- The rows of the band are those of a span.
+use Rattle.std.proofs.Common.{arith}
+use Rattle.clearance.proofs.Searches.{obstacle_within}
 use Rattle.clearance.proofs.far_columns.joined_rows.Goals as goal
-
-pub joined-init : goal.joined-init
-joined-init g c =
-    record { rows = refl; joined = λ x y obstacle here there before. absurd (omega arith) }
-
-pub joined-preserved : goal.joined-preserved
-joined-preserved g c =
-    let cells = g.R.Rows.cells c.args.rows.now in
-    let word = rw (c.joined.invariant.rows, c.from.ensures) at c.word-all.ensures.word in
-    record {
-      rows = c.word-all.ensures.rows ∙ c.joined.invariant.rows;
-      joined = λ x y obstacle here there before. elim (cases_lt y c.joined.y) [
-        | inl earlier ↦ joined_before c.joined.all c.word-all.result (x % 64)
-            (c.joined.invariant.joined x y obstacle here there earlier)
-        | inr later ↦
-            let same : y ≡ c.joined.y = omega arith in
-            let marked = obstacle_marked cells c.joined.y
-            (words_of_row cells c.joined.y) x c.height.ensures.bitmap
-            (IsRowOf-words cells c.joined.y)
-            (subst (λ (n : ℕ). IsObstacle cells x n) same obstacle) in
-            joined_here c.joined.all c.word-all.result (x % 64) (rw word (rw there at marked))
-      ];
-    }
 
 pub returns-clause-joined : goal.returns-clause-joined
 returns-clause-joined g c = λ x y obstacle here there.
     let row = (obstacle_within (g.R.Rows.cells c.args.rows.now) c.height.ensures.bitmap x y
     obstacle).1 in
-    c.joined.invariant.joined x y obstacle here there (omega arith)
+    c.joined_span.ensures.joined x y obstacle (omega arith) (omega arith) there
