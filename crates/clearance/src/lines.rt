@@ -10,7 +10,7 @@ use crate::far_bands::near_bands;
 use crate::part::Part;
 use crate::rows::Rows;
 use crate::search::lowered;
-use crate::seed::seems_far;
+use crate::seed::is_far;
 use crate::segment::step_towards;
 use crate::strip::Strip;
 use metric::{Edge, LAST_FRAMED, Metric, Rect};
@@ -107,7 +107,7 @@ impl Lines {
     {
         let (mut line, mut left) = (end, rect);
         'turns: for _turn in 0..MOST_TURNS {
-            if !seems_far::<M, R>(rows, left, self.limit) {
+            if !is_far::<M, R>(rows, left, self.limit) {
                 return self.first_by_rows::<M, R>(rows, left, line, reach);
             }
             let Some(found) = any_by_tiles::<M, R>(rows, left, self.limit) else {

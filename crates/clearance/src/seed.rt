@@ -2,10 +2,13 @@
 
 ghost use Rattle.std.specs.Prelude.{◌≡◌, ◌<◌, ◌≤◌, IfSome};
 ghost use Rattle.bits.specs.Cells.{IsBitmap};
+ghost use Rattle.clearance.specs.Search.{IsRectIn};
 ghost use Rattle.clearance.specs.Spots.{IsSeed};
 
+use crate::band::first_gap;
+use crate::beside::is_clear_beside;
 use crate::bit::{bits_from, bits_through};
-use crate::by_tiles::{columns_apart, first_in_tile};
+use crate::by_tiles::{columns_apart, first_in_tile, rows_within};
 use crate::far_bands::rows_apart;
 use crate::rows::Rows;
 use crate::search::{FAR_GAP, NO_LIMIT};
@@ -117,20 +120,125 @@ fn rows_below(rect: Rect, band: u16) -> u16
 /// A limit that leaves more rows than this is loose: it leaves many tiles.
 const LOOSE_GAP: u16 = 4 * FAR_GAP;
 
-/// A limit for a search by tiles, if that pays: if obstacles seem to be far away, and marks don't
-/// mislead.
+/// A limit for a search by tiles, if that pays: if obstacles seem to be far away, marks don't
+/// mislead, and few tiles are to be searched.
 pub fn far_seed<M: Metric, R: Rows>(rows: &mut R, rect: Rect, limit: u64) -> Option<u64>
-    requires bitmap { IsBitmap (R.cells rows.old) }
+    requires rect { IsRectIn (R.cells rows.old) rect }
     ensures seed { IfSome result (λ seed. IsSeed M.distance (R.cells rows.old) rect limit seed) }
     ensures rows { rows.new ≡ rows.old }
 {
-    if !seems_far::<M, R>(rows, rect, limit) {
+    if !seems_far::<M, R>(rows, rect, limit) || is_met_soon(rows, rect) {
         return None;
     }
-    if u64::from(M::of(0, LOOSE_GAP)) >= limit {
-        return Some(limit);
+    let seed = if u64::from(M::of(0, LOOSE_GAP)) >= limit {
+        limit
+    } else {
+        seeded::<M, R>(rows, rect, limit)?
+    };
+    if does_pay::<M, R>(rows, rect, seed) {
+        Some(seed)
+    } else {
+        None
     }
-    seeded::<M, R>(rows, rect, limit)
+}
+
+/// Whether obstacles seem to be far away, and a search by tiles pays.
+pub fn is_far<M: Metric, R: Rows>(rows: &mut R, rect: Rect, limit: u64) -> bool
+    requires rect { IsRectIn (R.cells rows.old) rect }
+    ensures rows { rows.new ≡ rows.old }
+{
+    if !seems_far::<M, R>(rows, rect, limit) || is_met_soon(rows, rect) {
+        return false;
+    }
+    does_pay::<M, R>(rows, rect, limit)
+}
+
+/// In how many rows from the first that may have an obstacle a search by rows may end soon.
+const SOON_ROWS: u16 = 8;
+
+/// How many columns outside the rectangle an obstacle ends it soon.
+const SOON_COLUMNS: u16 = 16;
+
+/// Whether a search by rows, once it is past the blank bands round the rectangle, soon meets an
+/// obstacle above or below it.
+fn is_met_soon<R: Rows>(rows: &mut R, rect: Rect) -> bool
+    requires rect { IsRectIn (R.cells rows.old) rect }
+    ensures rows { rows.new ≡ rows.old }
+{
+    let gap = first_gap(rows.bands(), rect.y0, rect.y1 - 1, 1);
+    if gap <= FAR_GAP {
+        return false;
+    }
+    let first = gap.min(MOST_SIDE - SOON_ROWS);
+    'rows: for step in 0..SOON_ROWS {
+        if !is_clear_beside(rows, rect, first + step, SOON_COLUMNS) {
+            return true;
+        }
+    }
+    false
+}
+
+/// What the search of a tile costs: as much as that of this many words of rows.
+const TILE_WORDS: u32 = 160;
+
+/// What the search of a row costs besides its words: as much as that of this many.
+const ROW_WORDS: u32 = 16;
+
+/// Whether a search by tiles for obstacles below the limit costs less than one by rows, by the
+/// tiles of the nearest marked band that are within the limit, and the rows from there on.
+fn does_pay<M: Metric, R: Rows>(rows: &R, rect: Rect, limit: u64) -> bool {
+    let gap = first_gap(rows.bands(), rect.y0, rect.y1 - 1, 1).min(LAST_FRAMED);
+    let rows_left = u32::from(rows_within::<M>(0, limit)).saturating_sub(u32::from(gap));
+    let across = rows.across().min(64) as u32;
+    let by_rows = (rows_left + 1) * (ROW_WORDS + across);
+    let columns = columns_within::<M>(gap, limit);
+    let tiles = tiles_near(rect, columns);
+    let above = count_marked::<R>(rows, rect.y0.saturating_sub(gap) / BAND_ROWS, tiles);
+    let below = (rect.y1 - 1 + gap).min(MOST_SIDE - 1) / BAND_ROWS;
+    let marked = above + count_marked::<R>(rows, below, tiles);
+    TILE_WORDS * marked * (rows_left / 64 + 1) < by_rows
+}
+
+/// How many of these tiles of a band may have an obstacle, from a first one to a last.
+fn count_marked<R: Rows>(rows: &R, band: u16, tiles: (u16, u16)) -> u32
+    requires band { band < 64 }
+    requires first { tiles.0 < 64 }
+    requires last { tiles.1 < 64 }
+    ensures { result ≤ 64 }
+{
+    bits_through(bits_from(rows.tiles(band), tiles.0), tiles.1).count_ones()
+}
+
+/// The first and the last tile with a cell that is fewer than this many columns outside the
+/// rectangle.
+fn tiles_near(rect: Rect, columns: u16) -> (u16, u16)
+    requires { columns ≤ LAST_FRAMED }
+    ensures first { result.0 < 64 }
+    ensures last { result.1 < 64 }
+{
+    let last = (rect.x1 - 1 + columns).min(MOST_SIDE - 1);
+    (
+        rect.x0.saturating_sub(columns) / WORD_CELLS,
+        last / WORD_CELLS,
+    )
+}
+
+/// The least number of columns such that cells as many columns and this many rows away are no
+/// nearer than the limit; 4097 if there is none.
+fn columns_within<M: Metric>(gap: u16, limit: u64) -> u16
+    requires { gap ≤ LAST_FRAMED }
+    ensures { result ≤ LAST_FRAMED }
+{
+    let (mut low, mut high) = (0, LAST_FRAMED);
+    'halves: while low < high {
+        let middle = low + (high - low) / 2;
+        if u64::from(M::of(middle, gap)) >= limit {
+            high = middle;
+        } else {
+            low = middle + 1;
+        }
+    }
+    high
 }
 
 /// The limit, or a lesser one such that some obstacle is nearer: searches the tile of which a cell
@@ -179,7 +287,7 @@ fn are_few_marked<R: Rows>(rows: &R, bands: (u16, u16), tiles: (u16, u16), most:
 
 /// Whether few tiles within 32 cells of the rectangle may have an obstacle, none unless it has many
 /// rows, and an obstacle below the limit may be farther away: then it pays to search by tiles.
-pub fn seems_far<M: Metric, R: Rows>(rows: &R, rect: Rect, limit: u64) -> bool {
+fn seems_far<M: Metric, R: Rows>(rows: &R, rect: Rect, limit: u64) -> bool {
     if rows.bands() == 0 || u64::from(M::of(0, FAR_GAP)) >= limit {
         return false;
     }
