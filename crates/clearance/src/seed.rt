@@ -127,7 +127,7 @@ pub fn far_seed<M: Metric, R: Rows>(rows: &mut R, rect: Rect, limit: u64) -> Opt
     ensures seed { IfSome result (λ seed. IsSeed M.distance (R.cells rows.old) rect limit seed) }
     ensures rows { rows.new ≡ rows.old }
 {
-    if !seems_far::<M, R>(rows, rect, limit) || is_met_soon(rows, rect) {
+    if !looks_far::<M, R>(rows, rect, limit) {
         return None;
     }
     let seed = if u64::from(M::of(0, LOOSE_GAP)) >= limit {
@@ -147,10 +147,15 @@ pub fn is_far<M: Metric, R: Rows>(rows: &mut R, rect: Rect, limit: u64) -> bool
     requires rect { IsRectIn (R.cells rows.old) rect }
     ensures rows { rows.new ≡ rows.old }
 {
-    if !seems_far::<M, R>(rows, rect, limit) || is_met_soon(rows, rect) {
-        return false;
-    }
-    does_pay::<M, R>(rows, rect, limit)
+    looks_far::<M, R>(rows, rect, limit) && does_pay::<M, R>(rows, rect, limit)
+}
+
+/// Whether obstacles seem to be far away, and a search by rows doesn't meet one soon.
+fn looks_far<M: Metric, R: Rows>(rows: &mut R, rect: Rect, limit: u64) -> bool
+    requires rect { IsRectIn (R.cells rows.old) rect }
+    ensures rows { rows.new ≡ rows.old }
+{
+    seems_far::<M, R>(rows, rect, limit) && !is_met_soon(rows, rect)
 }
 
 /// In how many rows from the first that may have an obstacle a search by rows may end soon.
@@ -191,8 +196,9 @@ fn does_pay<M: Metric, R: Rows>(rows: &R, rect: Rect, limit: u64) -> bool {
     let rows_left = u32::from(rows_within::<M>(0, limit)).saturating_sub(u32::from(gap));
     let across = rows.across().min(64) as u32;
     let by_rows = (rows_left + 1) * (ROW_WORDS + across);
-    let columns = columns_within::<M>(gap, limit);
-    let tiles = tiles_near(rect, columns);
+    // A metric is the same by columns and by rows.
+    let columns = rows_within::<M>(gap.min(MOST_SIDE), limit);
+    let tiles = places_near(rect.x0, rect.x1, columns);
     let above = count_marked::<R>(rows, rect.y0.saturating_sub(gap) / BAND_ROWS, tiles);
     let below = (rect.y1 - 1 + gap).min(MOST_SIDE - 1) / BAND_ROWS;
     let marked = above + count_marked::<R>(rows, below, tiles);
@@ -207,38 +213,6 @@ fn count_marked<R: Rows>(rows: &R, band: u16, tiles: (u16, u16)) -> u32
     ensures { result ≤ 64 }
 {
     bits_through(bits_from(rows.tiles(band), tiles.0), tiles.1).count_ones()
-}
-
-/// The first and the last tile with a cell that is fewer than this many columns outside the
-/// rectangle.
-fn tiles_near(rect: Rect, columns: u16) -> (u16, u16)
-    requires { columns ≤ LAST_FRAMED }
-    ensures first { result.0 < 64 }
-    ensures last { result.1 < 64 }
-{
-    let last = (rect.x1 - 1 + columns).min(MOST_SIDE - 1);
-    (
-        rect.x0.saturating_sub(columns) / WORD_CELLS,
-        last / WORD_CELLS,
-    )
-}
-
-/// The least number of columns such that cells as many columns and this many rows away are no
-/// nearer than the limit; 4097 if there is none.
-fn columns_within<M: Metric>(gap: u16, limit: u64) -> u16
-    requires { gap ≤ LAST_FRAMED }
-    ensures { result ≤ LAST_FRAMED }
-{
-    let (mut low, mut high) = (0, LAST_FRAMED);
-    'halves: while low < high {
-        let middle = low + (high - low) / 2;
-        if u64::from(M::of(middle, gap)) >= limit {
-            high = middle;
-        } else {
-            low = middle + 1;
-        }
-    }
-    high
 }
 
 /// The limit, or a lesser one such that some obstacle is nearer: searches the tile of which a cell
@@ -277,7 +251,7 @@ fn are_few_marked<R: Rows>(rows: &R, bands: (u16, u16), tiles: (u16, u16), most:
 {
     let mut count = 0;
     'bands: for band in bands.0..bands.1 + 1 {
-        count += bits_through(bits_from(rows.tiles(band), tiles.0), tiles.1).count_ones();
+        count += count_marked::<R>(rows, band, tiles);
         if most < count {
             return false;
         }
@@ -302,22 +276,21 @@ fn seems_far<M: Metric, R: Rows>(rows: &R, rect: Rect, limit: u64) -> bool {
     }
     are_few_marked::<R>(
         rows,
-        places_near(rect.y0, rect.y1),
-        places_near(rect.x0, rect.x1),
+        places_near(rect.y0, rect.y1, FAR_GAP),
+        places_near(rect.x0, rect.x1, FAR_GAP),
         most,
     )
 }
 
-/// The tiles or bands of cells that are at most 32 before a first one, or after an end.
-fn places_near(first: u16, end: u16) -> (u16, u16)
+/// The first and the last tile or band of cells that are at most this many before a first one, or
+/// after an end.
+fn places_near(first: u16, end: u16, gap: u16) -> (u16, u16)
     requires order { first < end }
     requires end { end ≤ MOST_SIDE }
+    requires gap { gap ≤ LAST_FRAMED }
     ensures first { result.0 < 64 }
     ensures last { result.1 < 64 }
 {
-    let last = (end - 1 + FAR_GAP).min(MOST_SIDE - 1);
-    (
-        first.saturating_sub(FAR_GAP) / WORD_CELLS,
-        last / WORD_CELLS,
-    )
+    let last = (end - 1 + gap).min(MOST_SIDE - 1);
+    (first.saturating_sub(gap) / WORD_CELLS, last / WORD_CELLS)
 }
