@@ -23,15 +23,41 @@ pub fn reach_at<M: Metric>(first: u16, before: u16, gap: u16, limit: u64) -> u16
     ensures some { 0 < result }
     ensures far { result < NOT_CLOSE → IsFar (M.distance result gap) limit }
 {
-    let mut reach = before.max(1).min(NOT_CLOSE - 1);
-    if gap < first || !is_away::<M>(reach, gap, limit) {
+    let most = before.max(1).min(NOT_CLOSE - 1);
+    if gap < first || !is_away::<M>(most, gap, limit) {
         return NOT_CLOSE;
     }
+    let mut reach = halved::<M>(most, gap, limit);
     'lower: while 1 < reach {
         if !is_away::<M>(reach - 1, gap, limit) {
             return reach;
         }
         reach -= 1;
+    }
+    reach
+}
+
+/// A reach, halved as long as it stays one. Only a large one is: it is the first of a search, and
+/// those after it are lowered by a few columns.
+#[inline(always)]
+fn halved<M: Metric>(most: u16, gap: u16, limit: u64) -> u16
+    requires some { 0 < most }
+    requires few { most < NOT_CLOSE }
+    requires gap { gap ≤ LAST_FRAMED }
+    requires far { IsFar (M.distance most gap) limit }
+    ensures some { 0 < result }
+    ensures few { result < NOT_CLOSE }
+    ensures far { IsFar (M.distance result gap) limit }
+{
+    let mut reach = most;
+    if reach < MOST_REACH {
+        return reach;
+    }
+    'halves: while 1 < reach {
+        if !is_away::<M>(reach / 2, gap, limit) {
+            return reach;
+        }
+        reach /= 2;
     }
     reach
 }
