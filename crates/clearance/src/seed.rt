@@ -1,6 +1,6 @@
 //! Whether a search by tiles pays, and a limit for it, from the tile that may be the nearest.
 
-ghost use Rattle.std.specs.Prelude.{◌≡◌, ◌<◌, ◌≤◌, IfSome};
+ghost use Rattle.std.specs.Prelude.{◌≡◌, ◌+◌, ◌<◌, ◌≤◌, IfSome, true};
 ghost use Rattle.bits.specs.Cells.{IsBitmap};
 ghost use Rattle.clearance.specs.Search.{IsRectIn};
 ghost use Rattle.clearance.specs.Spots.{IsSeed};
@@ -122,19 +122,62 @@ const LOOSE_GAP: u16 = 4 * FAR_GAP;
 
 /// A limit for a search by tiles, if that pays: if obstacles seem to be far away, marks don't
 /// mislead, and few tiles are to be searched.
+#[inline(always)]
 pub fn far_seed<M: Metric, R: Rows>(rows: &mut R, rect: Rect, limit: u64) -> Option<u64>
     requires rect { IsRectIn (R.cells rows.old) rect }
     ensures seed { IfSome result (λ seed. IsSeed M.distance (R.cells rows.old) rect limit seed) }
     ensures rows { rows.new ≡ rows.old }
 {
-    if !looks_far::<M, R>(rows, rect, limit) {
+    if is_near::<M, R>(rows, rect, limit) {
         return None;
     }
-    let seed = if u64::from(M::of(0, LOOSE_GAP)) >= limit {
-        limit
-    } else {
-        seeded::<M, R>(rows, rect, limit)?
-    };
+    seed_beyond::<M, R>(rows, rect, limit)
+}
+
+/// Whether obstacles seem to be far away, and a search by tiles pays.
+#[inline(always)]
+pub fn is_far<M: Metric, R: Rows>(rows: &mut R, rect: Rect, limit: u64) -> bool
+    requires rect { IsRectIn (R.cells rows.old) rect }
+    ensures rows { rows.new ≡ rows.old }
+{
+    !is_near::<M, R>(rows, rect, limit) && looks_far::<M, R>(rows, rect, limit)
+}
+
+/// Whether the map has no obstacle, those below the limit are near, or the tile of a rectangle of
+/// few rows may have one: then a search by rows soon ends.
+#[inline(always)]
+fn is_near<M: Metric, R: Rows>(rows: &R, rect: Rect, limit: u64) -> bool {
+    if rows.bands() == 0 || u64::from(M::of(0, FAR_GAP)) >= limit {
+        return true;
+    }
+    !is_tall(rect) && is_marked_tile(rows.tiles(rect.y0 / BAND_ROWS), rect.x0 / WORD_CELLS)
+}
+
+/// Whether the rectangle has many rows.
+#[inline(always)]
+fn is_tall(rect: Rect) -> bool
+    ensures { result ≡ true → rect.y0 + 64 ≤ rect.y1 }
+{
+    u32::from(rect.y1 - rect.y0) >= ROWS_A_TILE
+}
+
+/// As `far_seed`, where `is_near` doesn't hold.
+fn seed_beyond<M: Metric, R: Rows>(rows: &mut R, rect: Rect, limit: u64) -> Option<u64>
+    requires rect { IsRectIn (R.cells rows.old) rect }
+    ensures seed { IfSome result (λ seed. IsSeed M.distance (R.cells rows.old) rect limit seed) }
+    ensures rows { rows.new ≡ rows.old }
+{
+    if u64::from(M::of(0, LOOSE_GAP)) >= limit {
+        return if looks_far::<M, R>(rows, rect, limit) {
+            Some(limit)
+        } else {
+            None
+        };
+    }
+    if !seems_far::<M, R>(rows, rect, limit) {
+        return None;
+    }
+    let seed = seeded::<M, R>(rows, rect, limit)?;
     if does_pay::<M, R>(rows, rect, seed) {
         Some(seed)
     } else {
@@ -142,20 +185,26 @@ pub fn far_seed<M: Metric, R: Rows>(rows: &mut R, rect: Rect, limit: u64) -> Opt
     }
 }
 
-/// Whether obstacles seem to be far away, and a search by tiles pays.
-pub fn is_far<M: Metric, R: Rows>(rows: &mut R, rect: Rect, limit: u64) -> bool
-    requires rect { IsRectIn (R.cells rows.old) rect }
-    ensures rows { rows.new ≡ rows.old }
-{
-    looks_far::<M, R>(rows, rect, limit) && does_pay::<M, R>(rows, rect, limit)
-}
-
-/// Whether obstacles seem to be far away, and a search by rows doesn't meet one soon.
+/// As `is_far`, where `is_near` doesn't hold.
 fn looks_far<M: Metric, R: Rows>(rows: &mut R, rect: Rect, limit: u64) -> bool
     requires rect { IsRectIn (R.cells rows.old) rect }
     ensures rows { rows.new ≡ rows.old }
 {
-    seems_far::<M, R>(rows, rect, limit) && !is_met_soon(rows, rect)
+    seems_far::<M, R>(rows, rect, limit) && does_pay::<M, R>(rows, rect, limit)
+}
+
+/// Whether obstacles below the limit seem to be far away, and a search by rows doesn't meet one
+/// soon.
+fn seems_far<M: Metric, R: Rows>(rows: &mut R, rect: Rect, limit: u64) -> bool
+    requires rect { IsRectIn (R.cells rows.old) rect }
+    ensures rows { rows.new ≡ rows.old }
+{
+    let gap = first_gap(rows.bands(), rect.y0, rect.y1 - 1, 1).min(MOST_SIDE);
+    let end = (gap.max(FAR_GAP) + SOON_ROWS).min(LAST_FRAMED);
+    if u64::from(M::of(0, end)) >= limit || !can_pay(rows, rect, gap) {
+        return false;
+    }
+    !is_met_inside(rows, rect) && are_few_near(rows, rect) && !is_met_soon(rows, rect, gap)
 }
 
 /// In how many rows from the first that may have an obstacle a search by rows may end soon.
@@ -164,13 +213,35 @@ const SOON_ROWS: u16 = 8;
 /// How many columns outside the rectangle an obstacle ends it soon.
 const SOON_COLUMNS: u16 = 16;
 
-/// Whether a search by rows, once it is past the blank bands round the rectangle, soon meets an
-/// obstacle above or below it.
-fn is_met_soon<R: Rows>(rows: &mut R, rect: Rect) -> bool
+/// Whether a rectangle with many rows has an obstacle in one of the first.
+#[inline(always)]
+fn is_met_inside<R: Rows>(rows: &mut R, rect: Rect) -> bool
     requires rect { IsRectIn (R.cells rows.old) rect }
     ensures rows { rows.new ≡ rows.old }
 {
-    let gap = first_gap(rows.bands(), rect.y0, rect.y1 - 1, 1);
+    if !is_tall(rect) {
+        return false;
+    }
+    'rows: for y in rect.y0..rect.y0 + SOON_ROWS {
+        let own = Rect {
+            x0: rect.x0,
+            y0: y,
+            x1: rect.x1,
+            y1: y + 1,
+        };
+        if !is_clear_beside(rows, own, 0, 1) {
+            return true;
+        }
+    }
+    false
+}
+
+/// Whether a search by rows, once it is past the blank bands round the rectangle, which end so many
+/// rows away, soon meets an obstacle above or below it.
+fn is_met_soon<R: Rows>(rows: &mut R, rect: Rect, gap: u16) -> bool
+    requires rect { IsRectIn (R.cells rows.old) rect }
+    ensures rows { rows.new ≡ rows.old }
+{
     if gap <= FAR_GAP {
         return false;
     }
@@ -192,17 +263,42 @@ const ROW_WORDS: u32 = 16;
 /// Whether a search by tiles for obstacles below the limit costs less than one by rows, by the
 /// tiles of the nearest marked band that are within the limit, and the rows from there on.
 fn does_pay<M: Metric, R: Rows>(rows: &R, rect: Rect, limit: u64) -> bool {
-    let gap = first_gap(rows.bands(), rect.y0, rect.y1 - 1, 1).min(LAST_FRAMED);
+    let gap = first_gap(rows.bands(), rect.y0, rect.y1 - 1, 1).min(MOST_SIDE);
     let rows_left = u32::from(rows_within::<M>(0, limit)).saturating_sub(u32::from(gap));
-    let across = rows.across().min(64) as u32;
-    let by_rows = (rows_left + 1) * (ROW_WORDS + across);
     // A metric is the same by columns and by rows.
-    let columns = rows_within::<M>(gap.min(MOST_SIDE), limit);
+    let marked = count_beside(rows, rect, gap, rows_within::<M>(gap, limit));
+    TILE_WORDS * marked * (rows_left / 64 + 1) < (rows_left + 1) * words_a_row(rows)
+}
+
+/// Whether a search by tiles may cost less than one by rows with some limit: not, if the tiles of
+/// the nearest marked band above and below the rectangle cost more than its rows.
+#[inline(always)]
+fn can_pay<R: Rows>(rows: &R, rect: Rect, gap: u16) -> bool
+    requires { gap ≤ MOST_SIDE }
+{
+    TILE_WORDS * count_beside(rows, rect, gap, 0) < 64 * words_a_row(rows)
+}
+
+/// What the search of a row costs, in words.
+#[inline(always)]
+fn words_a_row<R: Rows>(rows: &R) -> u32
+    ensures few { result ≤ 80 }
+{
+    ROW_WORDS + rows.across().min(64) as u32
+}
+
+/// How many tiles may have an obstacle `gap` rows above and below the rectangle, and at most so
+/// many columns aside.
+#[inline(always)]
+fn count_beside<R: Rows>(rows: &R, rect: Rect, gap: u16, columns: u16) -> u32
+    requires gap { gap ≤ MOST_SIDE }
+    requires columns { columns ≤ LAST_FRAMED }
+    ensures few { result ≤ 128 }
+{
     let tiles = places_near(rect.x0, rect.x1, columns);
     let above = count_marked::<R>(rows, rect.y0.saturating_sub(gap) / BAND_ROWS, tiles);
     let below = (rect.y1 - 1 + gap).min(MOST_SIDE - 1) / BAND_ROWS;
-    let marked = above + count_marked::<R>(rows, below, tiles);
-    TILE_WORDS * marked * (rows_left / 64 + 1) < by_rows
+    above + count_marked::<R>(rows, below, tiles)
 }
 
 /// How many of these tiles of a band may have an obstacle, from a first one to a last.
@@ -260,25 +356,18 @@ fn are_few_marked<R: Rows>(rows: &R, bands: (u16, u16), tiles: (u16, u16), most:
 }
 
 /// Whether few tiles within 32 cells of the rectangle may have an obstacle, none unless it has many
-/// rows, and an obstacle below the limit may be farther away: then it pays to search by tiles.
-fn seems_far<M: Metric, R: Rows>(rows: &R, rect: Rect, limit: u64) -> bool {
-    if rows.bands() == 0 || u64::from(M::of(0, FAR_GAP)) >= limit {
-        return false;
-    }
-    let most = u32::from(rect.y1 - rect.y0) / ROWS_A_TILE;
-    if most == 0 && is_marked_tile(rows.tiles(rect.y0 / BAND_ROWS), rect.x0 / WORD_CELLS) {
-        return false;
-    }
+/// rows.
+fn are_few_near<R: Rows>(rows: &R, rect: Rect) -> bool {
     let bands_met = (rect.y0 / BAND_ROWS, (rect.y1 - 1) / BAND_ROWS);
     let tiles_met = (rect.x0 / WORD_CELLS, (rect.x1 - 1) / WORD_CELLS);
-    if most > 0 && !are_few_marked::<R>(rows, bands_met, tiles_met, TILES_INSIDE) {
+    if is_tall(rect) && !are_few_marked::<R>(rows, bands_met, tiles_met, TILES_INSIDE) {
         return false;
     }
     are_few_marked::<R>(
         rows,
         places_near(rect.y0, rect.y1, FAR_GAP),
         places_near(rect.x0, rect.x1, FAR_GAP),
-        most,
+        u32::from(rect.y1 - rect.y0) / ROWS_A_TILE,
     )
 }
 
