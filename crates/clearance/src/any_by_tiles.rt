@@ -6,15 +6,17 @@ ghost use Rattle.bits.specs.Cells.{IsBitmap, IsObstacle};
 ghost use Rattle.bits.specs.Words.{words_across};
 ghost use Rattle.clearance.specs.Spots.{IsAnyBelow, IsInBand, IsInTile};
 
-use crate::by_tiles::{bands_within, columns_apart, is_away, reach, rows_met, rows_within};
+use crate::by_tiles::{
+    bands_within, columns_apart, columns_outside, is_away, reach, rows_met, rows_within,
+};
 use crate::far_bands::rows_apart;
-use crate::far_columns::are_tiles_far;
+use crate::far_columns::{are_tiles_far, joined_span};
 use crate::found::Found;
 use crate::part::row_apart;
 use crate::rows::Rows;
 use crate::spot::first_in_word;
 use crate::tiles::{NO_TILE, next_tile};
-use metric::{Metric, Rect};
+use metric::{BAND_ROWS, Metric, Rect};
 
 /// An obstacle in a tile of a band whose distance from the rectangle is below the limit; `None` if
 /// there is none.
@@ -33,12 +35,16 @@ fn any_in_tile<M: Metric, R: Rows>(
 {
     let few = usize::from(tile) < rows.across();
     prove!(few);
-    let columns = columns_apart(rect, tile);
-    if u64::from(M::of(columns, rows_apart(rect, band))) >= limit {
+    let (columns, away) = (columns_apart(rect, tile), rows_apart(rect, band));
+    if u64::from(M::of(columns, away)) >= limit {
         return None;
     }
     let within = rows_within::<M>(columns, limit);
     let (from, end) = rows_met(rows.height(), band, rect, within);
+    let outside = columns_outside(rect, tile, joined_span(rows, tile, from, end));
+    if u64::from(M::of(outside, away)) >= limit {
+        return None;
+    }
     'rows: for y in from..end {
         let word = rows.word(y, usize::from(tile));
         let found = first_in_word::<M>(word, tile, y, rect, row_apart(rect, y), limit);
@@ -71,8 +77,21 @@ fn any_in_band<M: Metric, R: Rows>(rows: &mut R, band: u16, rect: Rect, limit: u
     None
 }
 
-/// An obstacle whose distance from the rectangle is below the limit; `None` if there is none.
+/// An obstacle whose distance from the rectangle is below the limit; `None` if there is none. Looks
+/// in the rectangle's first band first.
 pub fn any_by_tiles<M: Metric, R: Rows>(rows: &mut R, rect: Rect, limit: u64) -> Option<Found>
+    requires bitmap { IsBitmap (R.cells rows.old) }
+    ensures any { IsAnyBelow M.distance (IsObstacle (R.cells rows.old)) rect limit result }
+    ensures rows { rows.new ≡ rows.old }
+{
+    if let Some(found) = any_in_band::<M, R>(rows, rect.y0 / BAND_ROWS, rect, limit) {
+        return Some(found);
+    }
+    any_by_bands::<M, R>(rows, rect, limit)
+}
+
+/// As `any_by_tiles`, band by band.
+fn any_by_bands<M: Metric, R: Rows>(rows: &mut R, rect: Rect, limit: u64) -> Option<Found>
     requires bitmap { IsBitmap (R.cells rows.old) }
     ensures any { IsAnyBelow M.distance (IsObstacle (R.cells rows.old)) rect limit result }
     ensures rows { rows.new ≡ rows.old }

@@ -53,7 +53,7 @@ pub fn first_in_tile<M: Metric, R: Rows>(
 
 /// The least number of columns that one of these columns of a tile, given as bits, lies outside the
 /// rectangle; 4096 if there is none.
-fn columns_outside(rect: Rect, tile: u16, columns: u64) -> u16
+pub fn columns_outside(rect: Rect, tile: u16, columns: u64) -> u16
     requires { tile < 64 }
     ensures few { result ≤ MOST_SIDE }
     ensures apart { (a : ℕ) → a / WORD_CELLS ≡ tile → bit_at columns (a % WORD_CELLS) ≡ 1

@@ -8,6 +8,7 @@ ghost use Rattle.clearance.specs.Rows.{IsFar};
 ghost use Rattle.clearance.specs.Search.{IsRectIn};
 ghost use Rattle.clearance.specs.Spots.{IsSpotBelow};
 
+use crate::band::are_blank_bands;
 use crate::bit::{bits_from, bits_through};
 use crate::rows::Rows;
 use metric::{MOST_SIDE, Metric, Rect, WORD_CELLS};
@@ -73,7 +74,7 @@ fn is_reach<M: Metric>(reach: u16, limit: u64) -> bool
 }
 
 /// Whether no obstacle lies in these columns, `right` included, of these rows. False for columns of
-/// more than two words.
+/// more than two words, unless the bands of these rows are known to be blank.
 fn is_blank_box<R: Rows>(rows: &mut R, left: u16, right: u16, top: u16, end: u16) -> bool
     requires bitmap { IsBitmap (R.cells rows.old) }
     requires columns { left ≤ right }
@@ -83,6 +84,9 @@ fn is_blank_box<R: Rows>(rows: &mut R, left: u16, right: u16, top: u16, end: u16
         → a ≤ right → top ≤ b → b < end → ⊥ }
     ensures rows { rows.new ≡ rows.old }
 {
+    if top < end && are_blank_bands(rows.bands(), top, end - 1) {
+        return true;
+    }
     if left / WORD_CELLS + 1 < right / WORD_CELLS {
         return false;
     }

@@ -14,6 +14,7 @@ mod border;
 mod bound;
 mod by_tiles;
 mod clear;
+mod cost;
 mod far;
 mod far_bands;
 mod far_columns;

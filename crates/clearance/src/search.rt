@@ -20,7 +20,7 @@ pub const NO_LIMIT: u64 = 1 << 32;
 
 /// From this many rows away on, a row with many tiles that may have an obstacle is first searched
 /// as a whole: obstacles are rare there.
-const SPARSE_GAP: u16 = 128;
+pub const SPARSE_GAP: u16 = 128;
 
 /// If obstacles may be at least this many rows away, rows in bands known to be blank are skipped:
 /// with many obstacles, one is nearer.

@@ -7,8 +7,8 @@ ghost use Rattle.clearance.specs.Spots.{IsSeed};
 
 use crate::band::first_gap;
 use crate::beside::is_clear_beside;
-use crate::bit::{bits_from, bits_through};
-use crate::by_tiles::{columns_apart, first_in_tile, rows_within};
+use crate::by_tiles::{columns_apart, first_in_tile};
+use crate::cost::{can_pay, count_marked, does_pay, places_near};
 use crate::far_bands::rows_apart;
 use crate::rows::Rows;
 use crate::search::{FAR_GAP, NO_LIMIT};
@@ -143,11 +143,14 @@ pub fn is_far<M: Metric, R: Rows>(rows: &mut R, rect: Rect, limit: u64) -> bool
     !is_near::<M, R>(rows, rect, limit) && looks_far::<M, R>(rows, rect, limit)
 }
 
-/// Whether the map has no obstacle, those below the limit are near, or the tile of a rectangle of
-/// few rows may have one: then a search by rows soon ends.
+/// Whether the map has a single band or no obstacle, those below the limit are near, or the tile of
+/// a rectangle of few rows may have one: then a search by rows soon ends.
 #[inline(always)]
 fn is_near<M: Metric, R: Rows>(rows: &R, rect: Rect, limit: u64) -> bool {
-    if rows.bands() == 0 || u64::from(M::of(0, FAR_GAP)) >= limit {
+    if rows.height() <= BAND_ROWS || rows.bands() == 0 {
+        return true;
+    }
+    if u64::from(M::of(0, FAR_GAP)) >= limit {
         return true;
     }
     !is_tall(rect) && is_marked_tile(rows.tiles(rect.y0 / BAND_ROWS), rect.x0 / WORD_CELLS)
@@ -178,7 +181,7 @@ fn seed_beyond<M: Metric, R: Rows>(rows: &mut R, rect: Rect, limit: u64) -> Opti
         return None;
     }
     let seed = seeded::<M, R>(rows, rect, limit)?;
-    if does_pay::<M, R>(rows, rect, seed) {
+    if does_pay::<M, R>(rows, rect, seed, true) {
         Some(seed)
     } else {
         None
@@ -190,7 +193,7 @@ fn looks_far<M: Metric, R: Rows>(rows: &mut R, rect: Rect, limit: u64) -> bool
     requires rect { IsRectIn (R.cells rows.old) rect }
     ensures rows { rows.new ≡ rows.old }
 {
-    seems_far::<M, R>(rows, rect, limit) && does_pay::<M, R>(rows, rect, limit)
+    seems_far::<M, R>(rows, rect, limit) && does_pay::<M, R>(rows, rect, limit, false)
 }
 
 /// Whether obstacles below the limit seem to be far away, and a search by rows doesn't meet one
@@ -200,7 +203,12 @@ fn seems_far<M: Metric, R: Rows>(rows: &mut R, rect: Rect, limit: u64) -> bool
     ensures rows { rows.new ≡ rows.old }
 {
     let gap = first_gap(rows.bands(), rect.y0, rect.y1 - 1, 1).min(MOST_SIDE);
-    let end = (gap.max(FAR_GAP) + SOON_ROWS).min(LAST_FRAMED);
+    let few = if is_wide(rect) || is_tall(rect) {
+        SOON_ROWS
+    } else {
+        BAND_ROWS
+    };
+    let end = (gap.max(FAR_GAP) + few).min(LAST_FRAMED);
     if u64::from(M::of(0, end)) >= limit || !can_pay(rows, rect, gap) {
         return false;
     }
@@ -213,13 +221,23 @@ const SOON_ROWS: u16 = 8;
 /// How many columns outside the rectangle an obstacle ends it soon.
 const SOON_COLUMNS: u16 = 16;
 
-/// Whether a rectangle with many rows has an obstacle in one of the first.
+/// The most columns of a rectangle of which these rows are looked at.
+const FEW_COLUMNS: u16 = 256;
+
+/// Whether the rectangle has so many columns that a look at its rows costs more than it tells.
+#[inline(always)]
+fn is_wide(rect: Rect) -> bool {
+    rect.x1 - rect.x0 > FEW_COLUMNS
+}
+
+/// Whether a rectangle with many rows, and not so many columns, has an obstacle in one of the first
+/// rows.
 #[inline(always)]
 fn is_met_inside<R: Rows>(rows: &mut R, rect: Rect) -> bool
     requires rect { IsRectIn (R.cells rows.old) rect }
     ensures rows { rows.new ≡ rows.old }
 {
-    if !is_tall(rect) {
+    if !is_tall(rect) || is_wide(rect) {
         return false;
     }
     'rows: for y in rect.y0..rect.y0 + SOON_ROWS {
@@ -237,12 +255,12 @@ fn is_met_inside<R: Rows>(rows: &mut R, rect: Rect) -> bool
 }
 
 /// Whether a search by rows, once it is past the blank bands round the rectangle, which end so many
-/// rows away, soon meets an obstacle above or below it.
+/// rows away, soon meets an obstacle above or below it. Doesn't look for that of a wide rectangle.
 fn is_met_soon<R: Rows>(rows: &mut R, rect: Rect, gap: u16) -> bool
     requires rect { IsRectIn (R.cells rows.old) rect }
     ensures rows { rows.new ≡ rows.old }
 {
-    if gap <= FAR_GAP {
+    if gap <= FAR_GAP || is_wide(rect) {
         return false;
     }
     let first = gap.min(MOST_SIDE - SOON_ROWS);
@@ -252,63 +270,6 @@ fn is_met_soon<R: Rows>(rows: &mut R, rect: Rect, gap: u16) -> bool
         }
     }
     false
-}
-
-/// What the search of a tile costs: as much as that of this many words of rows.
-const TILE_WORDS: u32 = 160;
-
-/// What the search of a row costs besides its words: as much as that of this many.
-const ROW_WORDS: u32 = 16;
-
-/// Whether a search by tiles for obstacles below the limit costs less than one by rows, by the
-/// tiles of the nearest marked band that are within the limit, and the rows from there on.
-fn does_pay<M: Metric, R: Rows>(rows: &R, rect: Rect, limit: u64) -> bool {
-    let gap = first_gap(rows.bands(), rect.y0, rect.y1 - 1, 1).min(MOST_SIDE);
-    let rows_left = u32::from(rows_within::<M>(0, limit)).saturating_sub(u32::from(gap));
-    // A metric is the same by columns and by rows.
-    let marked = count_beside(rows, rect, gap, rows_within::<M>(gap, limit));
-    TILE_WORDS * marked * (rows_left / 64 + 1) < (rows_left + 1) * words_a_row(rows)
-}
-
-/// Whether a search by tiles may cost less than one by rows with some limit: not, if the tiles of
-/// the nearest marked band above and below the rectangle cost more than its rows.
-#[inline(always)]
-fn can_pay<R: Rows>(rows: &R, rect: Rect, gap: u16) -> bool
-    requires { gap ≤ MOST_SIDE }
-{
-    TILE_WORDS * count_beside(rows, rect, gap, 0) < 64 * words_a_row(rows)
-}
-
-/// What the search of a row costs, in words.
-#[inline(always)]
-fn words_a_row<R: Rows>(rows: &R) -> u32
-    ensures few { result ≤ 80 }
-{
-    ROW_WORDS + rows.across().min(64) as u32
-}
-
-/// How many tiles may have an obstacle `gap` rows above and below the rectangle, and at most so
-/// many columns aside.
-#[inline(always)]
-fn count_beside<R: Rows>(rows: &R, rect: Rect, gap: u16, columns: u16) -> u32
-    requires gap { gap ≤ MOST_SIDE }
-    requires columns { columns ≤ LAST_FRAMED }
-    ensures few { result ≤ 128 }
-{
-    let tiles = places_near(rect.x0, rect.x1, columns);
-    let above = count_marked::<R>(rows, rect.y0.saturating_sub(gap) / BAND_ROWS, tiles);
-    let below = (rect.y1 - 1 + gap).min(MOST_SIDE - 1) / BAND_ROWS;
-    above + count_marked::<R>(rows, below, tiles)
-}
-
-/// How many of these tiles of a band may have an obstacle, from a first one to a last.
-fn count_marked<R: Rows>(rows: &R, band: u16, tiles: (u16, u16)) -> u32
-    requires band { band < 64 }
-    requires first { tiles.0 < 64 }
-    requires last { tiles.1 < 64 }
-    ensures { result ≤ 64 }
-{
-    bits_through(bits_from(rows.tiles(band), tiles.0), tiles.1).count_ones()
 }
 
 /// The limit, or a lesser one such that some obstacle is nearer: searches the tile of which a cell
@@ -369,17 +330,4 @@ fn are_few_near<R: Rows>(rows: &R, rect: Rect) -> bool {
         places_near(rect.x0, rect.x1, FAR_GAP),
         u32::from(rect.y1 - rect.y0) / ROWS_A_TILE,
     )
-}
-
-/// The first and the last tile or band of cells that are at most this many before a first one, or
-/// after an end.
-fn places_near(first: u16, end: u16, gap: u16) -> (u16, u16)
-    requires order { first < end }
-    requires end { end ≤ MOST_SIDE }
-    requires gap { gap ≤ LAST_FRAMED }
-    ensures first { result.0 < 64 }
-    ensures last { result.1 < 64 }
-{
-    let last = (end - 1 + gap).min(MOST_SIDE - 1);
-    (first.saturating_sub(gap) / WORD_CELLS, last / WORD_CELLS)
 }

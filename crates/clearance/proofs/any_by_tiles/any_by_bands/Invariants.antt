@@ -2,7 +2,7 @@
 use Rattle.std.proofs.Common.{◌≡◌, ◌-◌, ◌/◌, ◌<◌, ◌≤◌, None}
 use Rattle.bits.specs.Cells.{IsObstacle}
 use Rattle.clearance.specs.Spots.{IsSpotBelow}
-use Rattle.clearance.proofs.any_by_tiles.any_by_tiles.Given as goal
+use Rattle.clearance.proofs.any_by_tiles.any_by_bands.Given as goal
 
 abbrev pub invariant-bands : goal.invariant-bands
 invariant-bands g l = record {
