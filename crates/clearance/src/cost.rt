@@ -78,8 +78,9 @@ fn words_within<R: Rows>(rows: &R, band: u16, tiles: (u16, u16)) -> u32
     }
 }
 
-/// Whether a search by tiles may cost less than one by rows with some limit: not, if the tiles of
-/// the nearest marked band above and below the rectangle cost more than its rows.
+/// Whether a search by tiles may cost less than one by rows with some limit: not, if the tiles
+/// above and below the rectangle, in the nearest bands that may have an obstacle, cost more than
+/// the rows of a band.
 #[inline(always)]
 pub fn can_pay<R: Rows>(rows: &R, rect: Rect, gap: u16) -> bool
     requires { gap ≤ MOST_SIDE }
@@ -88,16 +89,21 @@ pub fn can_pay<R: Rows>(rows: &R, rect: Rect, gap: u16) -> bool
     TILE_WORDS * count_beside(rows, rect, gap) < u32::from(BAND_ROWS) * words
 }
 
-/// How many tiles may have an obstacle `gap` rows above and below the rectangle.
+/// How many tiles in the rectangle's columns may have an obstacle, in the bands of the rows `gap`
+/// rows above and below it, or of the first and the last row of a map.
 #[inline(always)]
 fn count_beside<R: Rows>(rows: &R, rect: Rect, gap: u16) -> u32
     requires gap { gap ≤ MOST_SIDE }
     ensures few { result ≤ 128 }
 {
     let tiles = (rect.x0 / WORD_CELLS, (rect.x1 - 1) / WORD_CELLS);
-    let above = count_marked::<R>(rows, rect.y0.saturating_sub(gap) / BAND_ROWS, tiles);
+    let above = rect.y0.saturating_sub(gap) / BAND_ROWS;
     let below = (rect.y1 - 1 + gap).min(MOST_SIDE - 1) / BAND_ROWS;
-    above + count_marked::<R>(rows, below, tiles)
+    let count = count_marked::<R>(rows, below, tiles);
+    if above == below {
+        return count;
+    }
+    count + count_marked::<R>(rows, above, tiles)
 }
 
 /// How many of these tiles of a band may have an obstacle, from a first one to a last.

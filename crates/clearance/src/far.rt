@@ -41,6 +41,9 @@ fn least_by_tiles<M: Metric, R: Rows>(rows: &mut R, rect: Rect, limit: u64, seed
     ensures rows { rows.new ≡ rows.old }
 {
     let near = limit_below(limit, seed);
+    if near == 0 {
+        return near;
+    }
     match first_by_bands::<M, R>(rows, rect, near) {
         Some(found) => distance_of(found),
         None => near,

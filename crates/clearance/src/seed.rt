@@ -69,6 +69,9 @@ fn nearest_tile<M: Metric, R: Rows>(rows: &R, rect: Rect, limit: u64) -> NearTil
         bound: limit,
     };
     'inside: for band in top..bottom + 1 {
+        if best.bound == 0 {
+            return best;
+        }
         best = nearer_of_band::<M, R>(rows, best, rect, band);
     }
     let bands = rows.bands();
@@ -181,7 +184,7 @@ fn seed_beyond<M: Metric, R: Rows>(rows: &mut R, rect: Rect, limit: u64) -> Opti
         return None;
     }
     let seed = seeded::<M, R>(rows, rect, limit)?;
-    if does_pay::<M, R>(rows, rect, seed, true) {
+    if seed <= 1 || does_pay::<M, R>(rows, rect, seed, true) {
         Some(seed)
     } else {
         None
@@ -221,26 +224,36 @@ const SOON_ROWS: u16 = 8;
 /// How many columns outside the rectangle an obstacle ends it soon.
 const SOON_COLUMNS: u16 = 16;
 
-/// The most columns of a rectangle of which these rows are looked at.
+/// A rectangle with more columns is wide.
 const FEW_COLUMNS: u16 = 256;
 
-/// Whether the rectangle has so many columns that a look at its rows costs more than it tells.
+/// Whether a row of the rectangle takes many words.
 #[inline(always)]
 fn is_wide(rect: Rect) -> bool {
     rect.x1 - rect.x0 > FEW_COLUMNS
 }
 
-/// Whether a rectangle with many rows, and not so many columns, has an obstacle in one of the first
-/// rows.
+/// In how many of the rectangle's own rows it is looked whether a search by rows ends soon: fewer
+/// of a wide one, so that they have no more than 64 words.
+#[inline(always)]
+fn rows_looked_at(rect: Rect) -> u16
+    ensures some { 0 < result }
+    ensures few { result ≤ 8 }
+{
+    let words = (rect.x1 - 1) / WORD_CELLS - rect.x0 / WORD_CELLS + 1;
+    (64 / words).max(1).min(SOON_ROWS)
+}
+
+/// Whether a rectangle with many rows has an obstacle in one of the first.
 #[inline(always)]
 fn is_met_inside<R: Rows>(rows: &mut R, rect: Rect) -> bool
     requires rect { IsRectIn (R.cells rows.old) rect }
     ensures rows { rows.new ≡ rows.old }
 {
-    if !is_tall(rect) || is_wide(rect) {
+    if !is_tall(rect) {
         return false;
     }
-    'rows: for y in rect.y0..rect.y0 + SOON_ROWS {
+    'rows: for y in rect.y0..rect.y0 + rows_looked_at(rect) {
         let own = Rect {
             x0: rect.x0,
             y0: y,
