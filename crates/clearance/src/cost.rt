@@ -37,7 +37,7 @@ pub fn does_pay<M: Metric, R: Rows>(rows: &R, rect: Rect, limit: u64, loose: boo
         let words = if loose {
             words_of_row(rows, rect, band)
         } else {
-            words_within(rows, band, tiles)
+            words_within(rows, band, tiles, count)
         };
         by_tiles = by_tiles.wrapping_add(TILE_WORDS * count);
         by_rows = by_rows.wrapping_add((ROW_WORDS + words) * u32::from(met));
@@ -64,15 +64,16 @@ fn words_of_row<R: Rows>(rows: &R, rect: Rect, band: u16) -> u32
     }
 }
 
-/// What the search of a row in a band costs, in words, if it is searched in these tiles.
-fn words_within<R: Rows>(rows: &R, band: u16, tiles: (u16, u16)) -> u32
+/// What the search of a row in a band costs, in words, if it is searched in these tiles, of which
+/// so many may have an obstacle.
+fn words_within<R: Rows>(rows: &R, band: u16, tiles: (u16, u16), count: u32) -> u32
     requires band { band < 64 }
-    requires first { tiles.0 < 64 }
     requires last { tiles.1 < 64 }
+    requires count { count ≤ 64 }
     ensures { result ≤ 64 }
 {
     if are_few(rows.tiles(band), rows.across()) {
-        count_marked::<R>(rows, band, tiles)
+        count
     } else {
         u32::from(tiles.1.saturating_sub(tiles.0)) + 1
     }

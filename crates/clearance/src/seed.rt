@@ -150,10 +150,7 @@ pub fn is_far<M: Metric, R: Rows>(rows: &mut R, rect: Rect, limit: u64) -> bool
 /// a rectangle of few rows may have one: then a search by rows soon ends.
 #[inline(always)]
 fn is_near<M: Metric, R: Rows>(rows: &R, rect: Rect, limit: u64) -> bool {
-    if rows.height() <= BAND_ROWS || rows.bands() == 0 {
-        return true;
-    }
-    if u64::from(M::of(0, FAR_GAP)) >= limit {
+    if rows.height() <= BAND_ROWS || rows.bands() == 0 || u64::from(M::of(0, FAR_GAP)) >= limit {
         return true;
     }
     !is_tall(rect) && is_marked_tile(rows.tiles(rect.y0 / BAND_ROWS), rect.x0 / WORD_CELLS)
@@ -237,11 +234,10 @@ fn is_wide(rect: Rect) -> bool {
 /// of a wide one, so that they have no more than 64 words.
 #[inline(always)]
 fn rows_looked_at(rect: Rect) -> u16
-    ensures some { 0 < result }
     ensures few { result ≤ 8 }
 {
     let words = (rect.x1 - 1) / WORD_CELLS - rect.x0 / WORD_CELLS + 1;
-    (64 / words).max(1).min(SOON_ROWS)
+    (64 / words).min(SOON_ROWS)
 }
 
 /// Whether a rectangle with many rows has an obstacle in one of the first.
