@@ -1,12 +1,15 @@
 -- Any obstacle that is nearer than a limit, as tiles are searched.
-use Rattle.std.proofs.Common.{◌≡◌, ℕ, ◌/◌, sym, subst}
+use Rattle.std.proofs.Common.{◌≡◌, ◌≢◌, ℕ, ◌/◌, ◌<◌, None, sym, subst, arith}
+use Rattle.std.specs.Int.{bit_at}
 use Rattle.metric.specs.declared.rect.Rect.{Rect}
-use Rattle.bits.specs.Cells.{Cells, IsObstacle}
+use Rattle.bits.specs.Cells.{Cells, IsBitmap, IsObstacle}
 use Rattle.std.proofs.Common.{get_or}
 use Rattle.clearance.specs.Rows.{IsMarked, words_of_row}
-use Rattle.clearance.specs.Spots.{IsInTile, IsInWord, IsLeastSpot, IsNearSpot}
+use Rattle.clearance.specs.Spots.{IsAnyBelow, IsInBand, IsInTile, IsInWord, IsLeastSpot}
+use Rattle.clearance.specs.Spots.{IsNearSpot}
 use Rattle.clearance.specs.declared.found.Found.{Found}
 use Rattle.clearance.proofs.RowWords.{IsRowOf-words}
+use Rattle.clearance.proofs.TileRows.{AreBandsLive, AreBandsLive-thinned, IsThinned-without}
 use Rattle.clearance.proofs.Searches.{marked_obstacle}
 
 -- what is near of a set is near of a larger one
@@ -18,6 +21,18 @@ IsNearSpot-more distance One Other rect limit found more near = record {
   distance_is = near.distance_is;
   nearer = near.nearer;
 }
+
+-- bands stay live without one that has no obstacle near
+pub AreBandsLive-without : (distance : ℕ → ℕ → ℕ) (cells : Cells) (rect : Rect)
+    (limit bands left band : ℕ) → IsBitmap cells
+    → IsAnyBelow distance (IsInBand cells band) rect limit None
+    → ((i : ℕ) → i < 64 → i ≢ band → bit_at left i ≡ bit_at bands i)
+    → AreBandsLive distance cells rect 0 limit bands → AreBandsLive distance cells rect 0 limit left
+AreBandsLive-without distance cells rect limit bands left band bitmap far kept live =
+    AreBandsLive-thinned distance cells rect 0 limit bands 0 limit left (omega arith) (omega arith)
+    live
+    (IsThinned-without distance cells rect 0 limit bands left band bitmap
+    (λ a b obstacle here away. far a b (obstacle, here)) kept)
 
 -- the first obstacle of a word of a tile is one of the tile
 pub IsNearSpot-word : (distance : ℕ → ℕ → ℕ) (cells : Cells) (rect : Rect)

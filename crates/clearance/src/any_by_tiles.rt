@@ -1,11 +1,12 @@
 //! A search, tile by tile, for any obstacle that is nearer to a rectangle than a limit: it ends at
 //! the first that it meets.
 
-ghost use Rattle.std.specs.Prelude.{◌≡◌, ◌<◌};
+ghost use Rattle.std.specs.Prelude.{◌≡◌, None, ◌<◌};
 ghost use Rattle.bits.specs.Cells.{IsBitmap, IsObstacle};
 ghost use Rattle.bits.specs.Words.{words_across};
 ghost use Rattle.clearance.specs.Spots.{IsAnyBelow, IsInBand, IsInTile};
 
+use crate::bit::without_bit;
 use crate::by_tiles::{
     bands_within, columns_apart, columns_outside, is_away, reach, rows_met, rows_within,
 };
@@ -84,20 +85,29 @@ pub fn any_by_tiles<M: Metric, R: Rows>(rows: &mut R, rect: Rect, limit: u64) ->
     ensures any { IsAnyBelow M.distance (IsObstacle (R.cells rows.old)) rect limit result }
     ensures rows { rows.new ≡ rows.old }
 {
-    if let Some(found) = any_in_band::<M, R>(rows, rect.y0 / BAND_ROWS, rect, limit) {
+    let own = rect.y0 / BAND_ROWS;
+    if let Some(found) = any_in_band::<M, R>(rows, own, rect, limit) {
         return Some(found);
     }
-    any_by_bands::<M, R>(rows, rect, limit)
+    any_by_bands::<M, R>(rows, own, rect, limit)
 }
 
-/// As `any_by_tiles`, band by band.
-fn any_by_bands<M: Metric, R: Rows>(rows: &mut R, rect: Rect, limit: u64) -> Option<Found>
+/// As `any_by_tiles`, band by band, but for one that is known to have none.
+fn any_by_bands<M: Metric, R: Rows>(
+    rows: &mut R,
+    known: u16,
+    rect: Rect,
+    limit: u64,
+) -> Option<Found>
     requires bitmap { IsBitmap (R.cells rows.old) }
+    requires known { known < 64 }
+    requires far { IsAnyBelow M.distance (IsInBand (R.cells rows.old) known) rect limit None }
     ensures any { IsAnyBelow M.distance (IsObstacle (R.cells rows.old)) rect limit result }
     ensures rows { rows.new ≡ rows.old }
 {
     let marks = rows.bands();
-    let bands = bands_within(marks, rect, reach::<M>(limit));
+    let within = bands_within(marks, rect, reach::<M>(limit));
+    let bands = without_bit(within, known);
     let mut band = next_tile(bands, 0);
     'bands: while band < NO_TILE {
         if let Some(found) = any_in_band::<M, R>(rows, band, rect, limit) {
