@@ -100,7 +100,7 @@ fn take_plain<R: Source>(
     }
 }
 
-/// Takes a raw raster into a blank bitmap, row by row.
+/// Takes a raw raster into a blank bitmap, row by row, and keeps what the source has after it.
 fn take_raw<R: Source>(
     window: &mut Window,
     reader: &mut R,
@@ -129,7 +129,10 @@ fn take_raw<R: Source>(
             Err(stop) => return Err(stop),
         }
     }
-    Ok(())
+    match window.fill_whole(reader) {
+        Ok(()) => Ok(()),
+        Err(stop) => Err(stop),
+    }
 }
 
 /// Takes the raster of an image of this form into a blank bitmap.
@@ -213,11 +216,12 @@ fn pass_rest<R: Source>(window: &mut Window, reader: &mut R) -> Result<(), Image
 
 /// Reads the image at the front of a source, and the source to its end.
 ///
-/// Reads images as `read_image` does, and drops what follows one. Packs an image as its bytes come,
-/// through a window of about 128 KB; the window grows only where as many bytes stand between two
-/// pixels or before the raster, and from a fault of the image on. When out of memory for bytes that
-/// were read, it reads no further; when out of memory for the bitmap, it reads and drops the rest.
-/// After a failed read it doesn't call the source again.
+/// Reads images as `read_image` does. Packs an image as its bytes come, through a window of about
+/// 128 KB; the window grows only where as many bytes stand between two pixels or before the raster,
+/// from a fault of the image on, and after a raw image: what follows that is kept to the end, and
+/// what follows a plain image is read and dropped. When out of memory for bytes that were read, it
+/// reads no further; when out of memory for the bitmap, it reads and drops the rest. After a failed
+/// read it doesn't call the source again.
 pub fn read_source<R: Source>(alloc: Global, reader: &mut R) -> Result<Bitmap, ImageStop>
     requires { CanFail (R.failed_reads reader.old) }
     ensures image { IfOk result (HasImage (R.rest reader.old)) }

@@ -1,5 +1,5 @@
 -- One more line of 70 digits, and then the rest of the row, if there is one.
-use Rattle.std.proofs.Common.{rules, ◌≡◌, ℕ, ◌+◌, ◌-◌, ◌*◌, ◌++◌, [], ◌∷◌, ◌∙◌, List, take, drop}
+use Rattle.std.proofs.Common.{rules, ℕ, ◌+◌, ◌-◌, ◌*◌, ◌++◌, [], ◌∷◌, ◌∙◌, List, take, drop}
 use Rattle.std.proofs.Common.{ap, arith, length}
 use Rattle.std.specs.List.{range_with_len, flat_map}
 use Rattle.pbm.specs.Writing.{plain_digit}

@@ -40,8 +40,8 @@ returns-in-Err-clause-fault g c =
     c.rows.invariant.taken met)
     c.in-Err.ensures.fault
 
-pub returns-clause-raster : goal.returns-clause-raster
-returns-clause-raster g c =
+pub returns-in-Ok-fill_whole-clause-raster : goal.returns-in-Ok-fill_whole-clause-raster
+returns-in-Ok-fill_whole-clause-raster g c =
     let down : c.rows.y ≡ c.args.bitmap.now.height = omega arith in
     AreRowsTaken-all _ _ _ _ c.args.bitmap.now.width c.args.bitmap.now.height c.rows.y
     c.rows.bitmap down c.rows.invariant.taken
