@@ -199,11 +199,11 @@ fn column_of(x: usize, away: u16x8, place: usize) -> usize
 fn steps_for(entries: &[u16]) -> u16
     requires { length entries.now ≤ 4098 }
 {
-    let mut with = 0u16;
+    let mut without = 0u16;
     'columns: for column in 0..entries.len() {
-        with += u16::from(entries[column] != NONE);
+        without += u16::from(entries[column] == NONE);
     }
-    let without = entries.len() as u16 - with;
+    let with = entries.len() as u16 - without;
     let added = TENTHS_WITH * u32::from(with) + TENTHS_WITHOUT * u32::from(without);
     (FREE_STEPS + added / 10) as u16
 }

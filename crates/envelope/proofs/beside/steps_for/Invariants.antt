@@ -3,4 +3,4 @@ use Rattle.std.proofs.Common.{◌≤◌}
 use Rattle.envelope.proofs.beside.steps_for.Given as goal
 
 abbrev pub invariant-columns : goal.invariant-columns
-invariant-columns l = l.with ≤ l.column
+invariant-columns l = l.without ≤ l.column
