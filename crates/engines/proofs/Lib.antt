@@ -1,5 +1,4 @@
 mod Answering
-mod ByRowLemmas
 mod Fours
 mod Lines
 mod MeasuredLines

@@ -1,45 +1,16 @@
 -- The line of a row's distances is that of its nearest obstacles.
-use Rattle.std.proofs.Common.{◌≡◌, ℕ, ◌+◌, ◌-◌, ◌*◌, ◌<◌, ◌≤◌, ◌==◌, suc, List, [], ◌∷◌, ◌++◌, map}
-use Rattle.std.proofs.Common.{false, Option, Some, None, refl, sym, subst, ap, arith}
-use Rattle.std.proofs.Common.{slice_index_or}
+use Rattle.std.proofs.Common.{◌≡◌, ℕ, ◌*◌, ◌≤◌, ◌==◌, suc, List, [], ◌∷◌, ◌++◌, map}
+use Rattle.std.proofs.Common.{false, Option, Some, None, refl, ap, arith}
 use Rattle.std.proofs.Math.Nat.{mul-le-mul}
-use Rattle.std.specs.List.{join_with_byte, flat_map, slice_range}
+use Rattle.std.specs.List.{join_with_byte, flat_map}
 use Rattle.metric.specs.Kind.{distance_of}
 use Rattle.metric.specs.declared.kind.MetricKind.{MetricKind}
 use Rattle.metric.specs.declared.kind.MetricKind.TheVariants.{Euclid2, City, Chess}
 use Rattle.metric.specs.declared.near.Near.{Near}
-use Rattle.field.specs.Obstacles.{AreMeasured, IsMeasured}
 use Rattle.engines.specs.dist.Tabled.{IsBelowNone}
 use Rattle.engines.specs.dist.Measured.{AreDistances, IsDistanceOf, distance_text, distances_line}
 use Rattle.engines.specs.dist.Table.{entry_text, row_line}
 use Rattle.engines.proofs.Lines.{join_with_byte-cons}
-
--- in a table whose first row is row 0 a row stands where its number says
-pub row_of_table : {A : Type 0} (nears : List A) (y y0 across width : ℕ) → y0 ≡ 0 → across ≡ width
-    → slice_range nears ((y - y0) * across) ((y - y0) * across + across)
-    ≡ slice_range nears (y * width) (y * width + width)
-row_of_table nears y y0 across width from same =
-    let here : y - y0 ≡ y = omega (arith, from) in
-    rw (here, same) refl
-
--- measured numbers are the distances of the nearest obstacles, where all distances are below the
--- number that stands for none
-pub AreDistances-measured : (distance : ℕ → ℕ → ℕ) (nears : List (Option Near)) (numbers : List ℕ)
-    → IsBelowNone distance → AreMeasured distance nears numbers → AreDistances nears numbers
-AreDistances-measured distance nears numbers below are = record {
-  as_many = are.as_many;
-  each = λ x inside. one (slice_index_or nears x None) (slice_index_or numbers x 0)
-      (are.each x inside);
-}
-  where
-    one : (near : Option Near) (number : ℕ) → IsMeasured distance near number
-        → IsDistanceOf near number
-    one None number is = is
-    one (Some near) number (is, far) = (
-      is,
-      subst (λ (n : ℕ). n < 4294967295) (sym far.is)
-          (below far.columns far.rows far.few_columns far.few_rows),
-    )
 
 -- each metric's distances are below the number that stands for none
 pub below_none : (metric : MetricKind) → IsBelowNone (distance_of metric)

@@ -24,7 +24,7 @@ table_text-between nearest width height nears =
 
 -- the lines from one row to another are those up to a row between them, and then those from there
 -- on
-pub rows_between-join : (nearest : Bool) (width : ℕ) (nears : List (Option Near)) (from middle to : ℕ)
+rows_between-join : (nearest : Bool) (width : ℕ) (nears : List (Option Near)) (from middle to : ℕ)
     → from ≤ middle → middle ≤ to
     → rows_between nearest width nears from to ≡ rows_between nearest width nears from middle
     ++ rows_between nearest width nears middle to
@@ -34,7 +34,7 @@ rows_between-join nearest width nears from middle to above below =
     rw (both, rows_text-append nearest width from (middle - from) (to - middle) nears, on) refl
 
 -- a prefix of the lines in the middle, after all those above them, is a prefix of all
-pub AppendsFront-rows : (nearest : Bool) (width : ℕ) (nears : List (Option Near))
+AppendsFront-rows : (nearest : Bool) (width : ℕ) (nears : List (Option Near))
     (from middle next to : ℕ) (before between after : Option (List ℕ)) → from ≤ middle
     → middle ≤ next → next ≤ to
     → Appends before (rows_between nearest width nears from middle) between

@@ -1,5 +1,4 @@
 -- What the command `dist` writes.
-pub mod ByRow
 pub mod Dist
 pub mod Measured
 pub mod Parts

@@ -4,12 +4,10 @@ ghost use Rattle.std.specs.Prelude.{◌≡◌, ◌≢◌, ◌+◌, ◌≤◌, �
 ghost use Rattle.metric.specs.Kind.{distance_of};
 ghost use Rattle.metric.specs.Refusal.{image_text};
 ghost use Rattle.metric.specs.Stream.{Appends, AppendsFront, Counts, CanFail};
-ghost use Rattle.engines.specs.dist.ByRow.{AppendsTable, AppendsTableFront, IsReady};
 ghost use Rattle.engines.specs.dist.Dist.{AnswersImage, AnswersMap, BeginsToAnswerImage};
 ghost use Rattle.engines.specs.dist.Dist.{BeginsToAnswerMap};
 ghost use Rattle.engines.specs.dist.Parts.{AreShares};
 ghost use Rattle.engines.specs.dist.Table.{table_text};
-ghost use Rattle.engines.specs.dist.Tabled.{IsBelowNone};
 
 mod decimals;
 mod distances;
@@ -20,18 +18,16 @@ mod put;
 mod quad;
 mod query;
 mod reply;
-mod row_writer;
 mod table;
 mod table_writer;
 
 use crate::command_line::arguments::DistOptions;
 use crate::dist::reply::QueryReply;
-use crate::dist::row_writer::RowWriter;
 use crate::dist::table_writer::TableWriter;
 use crate::streams::output::{write_refusal, write_text};
 use crate::{DONE, REFUSED};
 use bits::Bitmap;
-use field::{Batch, Workers};
+use field::Workers;
 use metric::{
     Chess, City, Euclid2, Metric, MetricKind, PbmFault, Refusal, Sink, Source, WriteFault,
 };
@@ -43,10 +39,9 @@ use std::thread::Threads;
 /// obstacles, one line per row, as the options ask. Returns the status.
 ///
 /// As many workers as the options say share the rows; the text doesn't depend on their number. A
-/// refused image, or out of memory, is one line instead, with status 1. Everything that allocates
-/// memory is done before the first byte is written; one worker writes the lines of rows while it
-/// computes them. If a call of the reader or the writer fails, it calls neither again, and the
-/// status is 1.
+/// refused image, or out of memory, is one line instead, with status 1. Everything is computed
+/// before the first byte is written. If a call of the reader or the writer fails, it calls neither
+/// again, and the status is 1.
 pub fn dist_run<R: Source, W: Sink, T: Threads + Sync>(
     rt: &T,
     alloc: Global,
@@ -129,9 +124,6 @@ fn write_map<M: Metric + Sync, W: Sink, T: Threads + Sync>(
     ensures counts { Counts (W.failed_writes writer.old) result (W.failed_writes writer.new) }
 {
     let workers = workers_of(options.workers);
-    if workers.count == 1 {
-        return write_by_row::<M, W>(alloc, options, map, writer);
-    }
     match TableWriter::<M>::of(rt, alloc, map, options.edge, options.nearest, workers) {
         Ok(print) => write_rows(rt, writer, print),
         Err(refusal) => write_refusal(writer, refusal),
@@ -146,59 +138,6 @@ fn workers_of(count: u32) -> Workers
         return Workers { count: count as u8 };
     }
     Workers { count: 1 }
-}
-
-/// Writes the lines of a map's table by this metric, which is the one in the options, while one
-/// worker computes them.
-fn write_by_row<M: Metric, W: Sink>(
-    alloc: Global,
-    options: &DistOptions<'_>,
-    map: &Bitmap,
-    writer: &mut W,
-) -> Result<u8, WriteFault>
-    requires writer { CanFail (W.failed_writes writer.old) }
-    requires table { options.now.query ≡ None }
-    requires metric { M.distance ≡ distance_of options.now.metric }
-    ensures whole { IfOk result
-        (AnswersMap options.now map.now (W.held writer.old) (W.held writer.new)) }
-    ensures front { OnErr result
-        (BeginsToAnswerMap options.now map.now (W.held writer.old) (W.held writer.new)) }
-    ensures counts { Counts (W.failed_writes writer.old) result (W.failed_writes writer.new) }
-{
-    let batch = Batch {
-        bitmap: map,
-        edge: options.edge,
-        y0: 0,
-        y1: map.height(),
-    };
-    match RowWriter::of(alloc, &batch, options.nearest) {
-        Ok(rows) => write_computed::<M, W>(&batch, options.nearest, writer, rows),
-        Err(refusal) => write_refusal(writer, refusal),
-    }
-}
-
-/// Computes and writes the lines of all rows of a map.
-fn write_computed<M: Metric, W: Sink>(
-    batch: &Batch<'_>,
-    nearest: bool,
-    writer: &mut W,
-    rows: RowWriter,
-) -> Result<u8, WriteFault>
-    requires can_fail { CanFail (W.failed_writes writer.old) }
-    requires below { IsBelowNone M.distance }
-    requires to { batch.now.y1 ≡ batch.now.bitmap.now.height }
-    requires ready { IsReady batch.now nearest 0 rows }
-    ensures status { IfOk result (λ status. status ≡ 0) }
-    ensures whole { OnOk result (AppendsTable M.distance batch.now nearest (W.held writer.old)
-        (W.held writer.new)) }
-    ensures front { OnErr result (AppendsTableFront M.distance batch.now nearest
-        (W.held writer.old) (W.held writer.new)) }
-    ensures counts { Counts (W.failed_writes writer.old) result (W.failed_writes writer.new) }
-{
-    let mut rows = rows;
-    rows.write::<M, W>(batch, nearest, writer)?;
-    writer.flush()?;
-    Ok(DONE)
 }
 
 /// Writes the table's lines.

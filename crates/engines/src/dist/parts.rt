@@ -29,7 +29,7 @@ impl WorkerLines {
     ghost use Rattle.engines.specs.dist.Parts.{HasRows, IsShare};
 
     /// Buffers for the lines of this many rows of this width.
-    pub fn new(alloc: Global, nearest: bool, width: u16, rows: u32) -> Result<Self, AllocError>
+    fn new(alloc: Global, nearest: bool, width: u16, rows: u32) -> Result<Self, AllocError>
         requires { rows ≤ 4096 }
         ensures { IfOk result (IsShare nearest width rows) }
     {
@@ -137,7 +137,7 @@ fn put_next<M: Metric + Sync>(
 }
 
 /// Lengthens a text to this many bytes, if it has fewer. It has capacity for them.
-pub fn lengthen(text: &mut Vec<u8>, count: usize)
+fn lengthen(text: &mut Vec<u8>, count: usize)
     requires { count ≤ vec_capacity text.old }
     ensures long { count ≤ vec_len text.new }
     ensures longer { vec_len text.old ≤ vec_len text.new }

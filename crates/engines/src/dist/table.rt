@@ -89,10 +89,11 @@ impl<M: Metric + Sync> Table<M> {
         ensures nearest { IfOk result (λ table. table.nearest ≡ true) }
         ensures memory { IfErr result (λ refusal. refusal ≡ Memory) }
     {
+        let (width, height) = (batch.bitmap.width(), batch.bitmap.height());
         let obstacles = ObstacleTable::<M>::of(rt, alloc, batch, workers, &Passing)?;
         Ok(Table {
-            width: batch.bitmap.width(),
-            height: batch.bitmap.height(),
+            width,
+            height,
             obstacles: Some(obstacles),
             distances: None,
         })
@@ -112,10 +113,11 @@ impl<M: Metric + Sync> Table<M> {
         ensures nearest { IfOk result (λ table. table.nearest ≡ false) }
         ensures memory { IfErr result (λ refusal. refusal ≡ Memory) }
     {
+        let (width, height) = (batch.bitmap.width(), batch.bitmap.height());
         let distances = DistanceTable::of::<M, Passing, T>(rt, alloc, batch, workers, &Passing)?;
         Ok(Table {
-            width: batch.bitmap.width(),
-            height: batch.bitmap.height(),
+            width,
+            height,
             obstacles: None,
             distances: Some(distances),
         })
@@ -195,7 +197,7 @@ impl<M: Metric + Sync> Table<M> {
 }
 
 /// Rows a thread writes per batch when it is the only one, so that their lines stay in cache.
-pub const FEW_ROWS: u32 = 16;
+const FEW_ROWS: u32 = 16;
 
 /// The fewest cells of a map whose rows several threads share. On a smaller map, starting threads,
 /// and waiting for the last one on a busy machine, takes longer than it saves.
