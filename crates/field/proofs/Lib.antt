@@ -1,6 +1,5 @@
 pub mod BandLemmas
-pub mod Existence
 mod ObstacleLemmas
 mod RowLemmas
 mod StripLemmas
-pub mod DistanceLemmas
+mod DistanceLemmas

@@ -4,8 +4,7 @@ use Rattle.std.specs.Prelude.{ℕ, ◌+◌, ◌*◌, ◌≤◌}
 use Rattle.metric.specs.Edge.{shift}
 use Rattle.bits.specs.Cells.{IsBitmap}
 use Rattle.column.specs.Carrying.{IsNextRow}
-pub use Rattle.column.specs.declared.batch.Batch.{Batch}
-pub use Rattle.envelope.specs.Rows.{AreRowAnswers, AreRowDistances}
+use Rattle.column.specs.declared.batch.Batch.{Batch}
 use Rattle.field.specs.declared.phases.Phases.{Phases}
 
 -- row y of the batch is the next, and the stack has room for it

@@ -19,6 +19,5 @@ pub use distance_table::DistanceTable;
 pub use filling::fill;
 pub use measuring::measure;
 pub use obstacle_table::ObstacleTable;
-pub use phases::Phases;
 pub use table::rows;
 pub use workers::Workers;

@@ -9,9 +9,7 @@ use envelope::{CellAnswer, Stack, distances_from, row_from};
 use metric::{Metric, Refusal};
 use std::alloc::Global;
 
-/// Both phases over a batch, one row at a time: rows `y0` to `y1 - 1`, in order, each once.
-///
-/// It carries what the rows so far say of later ones, and allocates nothing after `of`.
+/// What both phases need between two rows of a batch.
 #[derive(Drop)]
 pub struct Phases {
     pub columns: Columns,
@@ -21,8 +19,7 @@ pub struct Phases {
 impl Phases {
     ghost use Rattle.field.specs.Phases.{IsNextLine};
 
-    /// Both phases before the batch's first row, which is the next one. Fails only when out of
-    /// memory.
+    /// Both phases before the batch's first row. Fails only when out of memory.
     pub fn of(alloc: Global, batch: &Batch<'_>) -> Result<Self, Refusal>
         ensures ready { IfOk result (λ phases. IsNextLine batch.now phases batch.now.y0) }
         ensures memory { IfErr result (λ refusal. refusal ≡ Memory) }
@@ -32,8 +29,7 @@ impl Phases {
         Ok(Phases { columns, stack })
     }
 
-    /// Fills a line with the answers of row `y`'s cells, from the left, as many as the bitmap is
-    /// wide. Row `y` is the next one of the batch's rows `y0` to `y1 - 1`; after it row `y + 1` is.
+    /// Fills a line with the answers of row `y`, which is the next row.
     pub fn fill_line<M: Metric, A: CellAnswer>(&mut self, batch: &Batch<'_>, y: u16, line: &mut [A])
         requires ready { IsNextLine batch.now self.old y }
         requires row { y < batch.now.y1 }
@@ -53,9 +49,7 @@ impl Phases {
         );
     }
 
-    /// Fills a line with the distances alone of row `y`'s cells, from the left, as many as the
-    /// bitmap is wide; `u32::MAX` where there is no obstacle. Row `y` is the next one, as for
-    /// `fill_line`.
+    /// Fills a line with the distances alone of the cells of row `y`, which is the next row.
     pub fn measure_line<M: Metric>(&mut self, batch: &Batch<'_>, y: u16, line: &mut [u32])
         requires ready { IsNextLine batch.now self.old y }
         requires row { y < batch.now.y1 }
