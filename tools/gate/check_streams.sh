@@ -89,15 +89,10 @@ check_dist() {
 # If there is no memory for an image, one whole line says so.
 check_memory() {
     (printf 'P4\n4096 4096\n'; head -c $((512 * 4096)) /dev/zero) > "$room/blank"
-    least=1000 # KB of address space with which a map of one cell is answered
-    until (ulimit -v $least && printf 'P1\n1 1\n1' | clearmap dist) > /dev/null 2>&1; do
-        least=$((least + 500))
-        [ $least -lt 100000 ] || break
-    done
-    (ulimit -v $((least + 1000)) && clearmap dist) < "$room/blank" > "$room/said"
+    (ulimit -v 40000 && clearmap dist) < "$room/blank" > "$room/said"
     expect 'dist with little memory' $? 1 "$(od -An -c "$room/said" | tr -d ' ')" 'ERR5Memory\n'
-    (ulimit -v 40000 && clearmap dist --workers 2) < "$room/blank" > "$room/said" # keeps a table
-    expect 'a table with little memory' $? 1 "$(od -An -c "$room/said" | tr -d ' ')" 'ERR5Memory\n'
+    (ulimit -v 40000 && clearmap dist --workers 2) < "$room/blank" > "$room/said"
+    expect 'workers with little memory' $? 1 "$(od -An -c "$room/said" | tr -d ' ')" 'ERR5Memory\n'
     (ulimit -v 12000 && clearmap serve --connections 1) < "$room/blank" > "$room/said"
     expect 'serve with little memory' $? 1 "$(od -An -c "$room/said" | tr -d ' ')" 'ERR5Memory\n'
 }
