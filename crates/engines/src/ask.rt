@@ -56,7 +56,7 @@ pub fn ask_run<S: Stream, R: Source, W: Sink>(
         → AsksAll (R.rest reader.old) (R.rest reader.new) (S.held stream.old) (S.held stream.new)
         (W.held writer.old) (W.held writer.new) }
 
-    // A run that succeeds has written all that the server said, and nothing else.
+    // A run that succeeds has written all that was read of the stream, and nothing else.
     ensures printed { result ≡ 0
         → PassesOn (S.rest stream.old) (S.rest stream.new) (W.held writer.old) (W.held writer.new) }
     ensures well { result ≡ 0 → (R.failed_reads reader.new ≡ R.failed_reads reader.old)
