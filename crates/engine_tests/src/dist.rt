@@ -256,21 +256,43 @@ fn a_failed_read_writes_nothing(rt: HostRuntime) {
     }
 }
 
+/// Answers the worked map where this call of the writer fails, and compares what is written.
+fn fails_at_call<R: Abort + AllocGlobal + Threads + Sync>(
+    rt: &R,
+    options: &DistOptions<'_>,
+    call: u64,
+    want: &str,
+) {
+    let mut reader = MemorySource::new(ROOM);
+    let mut writer = MemorySink::new(rt.alloc()).failing_at(call);
+    let status = dist_run(rt, rt.alloc(), options, &mut reader, &mut writer);
+    let case = (options.nearest, options.workers, call);
+    same(rt, (status, writer.failed_writes()), (1, 1), case);
+    same(rt, writer.bytes(), want.as_bytes(), case);
+}
+
 #[test]
 fn a_failed_write_ends_the_run(rt: HostRuntime) {
-    // All lines of a small image are written at once, and then all is flushed. A failing write
-    // leaves half of them.
-    let beginnings: [&[u8]; 2] = [b"0 1 4\n", b"0 1 4\n1 2 5\n"];
-    for (call, want) in (1u64..).zip(beginnings) {
-        let mut reader = MemorySource::new(ROOM);
-        let mut writer = MemorySink::new(rt.alloc()).failing_at(call);
-        let status = dist_run(&rt, rt.alloc(), &DEFAULT, &mut reader, &mut writer);
-        same(
-            &rt,
-            (status, writer.failed_writes()),
-            (1, 1),
-            ("at call", call),
-        );
-        same(&rt, writer.bytes(), want, ("at call", call));
+    // Each worker's lines are written at once, and then all is flushed. The first worker has all
+    // lines of a small image. A failing write leaves half of them.
+    for (nearest, half, whole) in [
+        (false, "0 1 4\n", "0 1 4\n1 2 5\n"),
+        (
+            true,
+            "0/0/0 1/0/0 4/0/0\n",
+            "0/0/0 1/0/0 4/0/0\n1/0/0 2/0/0 5/0/0\n",
+        ),
+    ] {
+        for (workers, calls) in [(1, 2), (3, 4)] {
+            let options = DistOptions {
+                nearest,
+                workers,
+                ..DEFAULT
+            };
+            fails_at_call(&rt, &options, 1, half);
+            for call in 2..=calls {
+                fails_at_call(&rt, &options, call, whole);
+            }
+        }
     }
 }

@@ -1,11 +1,11 @@
 //! Worked rows on images high enough for lines to be carried from row to row, up to the highest,
-//! and images of about as many rows as are written at once.
+//! images of about as many rows as are written at once, and one whose rows threads share.
 
 ghost use Rattle.std.specs.Prelude.{◌<◌};
 
 use crate::compare::same;
 use engines::{DistOptions, dist_run};
-use metric::{Edge, MemorySink, MemorySource, MetricKind};
+use metric::{Edge, MemorySink, MemorySource, MetricKind, Sink};
 use std::alloc::Global;
 use std::process::Abort;
 use std::test::Fail;
@@ -109,6 +109,29 @@ fn one_worker_writes_what_several_do(rt: HostRuntime) -> Result<(), Fail> {
                 same(&rt, alone.bytes(), shared.bytes(), ("rows", height));
             }
         }
+    }
+    Ok(())
+}
+
+#[test]
+fn a_failed_write_beside_threads_ends_the_run(rt: HostRuntime) -> Result<(), Fail> {
+    // In each of two turns four workers write 64 rows each, and then all is flushed. A failing
+    // write leaves half of its lines, of which each has 8,192 bytes.
+    let mut image = Vec::from_slice(rt.alloc(), b"P4\n4096 512\n")?;
+    image.resize(image.len() + 512 * 512, 0)?;
+    for (call, rows) in [(1, 32), (2, 96), (5, 288), (8, 480), (9, 512)] {
+        let options = DistOptions {
+            metric: MetricKind::Euclid2,
+            edge: Edge::Open,
+            nearest: true,
+            query: None,
+            workers: 4,
+        };
+        let mut reader = MemorySource::new(image.as_slice());
+        let mut writer = MemorySink::new(rt.alloc()).failing_at(call);
+        let status = dist_run(&rt, rt.alloc(), &options, &mut reader, &mut writer);
+        let seen = (status, writer.failed_writes(), writer.bytes().len());
+        same(&rt, seen, (1, 1, rows * 8192), ("at call", call));
     }
     Ok(())
 }
