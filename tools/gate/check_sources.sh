@@ -1,9 +1,15 @@
 #!/bin/sh
 # Looks for what no contract sees: code that forgets what it should free, by whatever name it was
 # imported (tests may, to leave a session out), and code that reports out of memory though no
-# allocation was refused. Lines of over 100 columns, too.
+# allocation was refused. Lines of over 100 columns, too. First the tests of what judges sources and
+# edits.
 set -u
 cd "$(dirname "$0")/../.." || exit 1
+export PYTHONDONTWRITEBYTECODE=1
+for test in try_edits; do
+    echo "tools/gate/test_$test.py"
+    timeout 60 python3 "tools/gate/test_$test.py" || exit 1
+done
 found=$(find crates -name out -prune -o -path '*_tests' -prune -o -path '*/src/*.rt' -print | xargs grep -nwE 'ManuallyDrop|forget|leak' | grep -vE '^[^:]*:[0-9]+: *//')
 if [ -n "$found" ]; then
     echo "code that may forget what it holds:"
