@@ -6,7 +6,7 @@
 set -u
 cd "$(dirname "$0")/../.." || exit 1
 export PYTHONDONTWRITEBYTECODE=1
-for test in try_edits; do
+for test in check_memory try_edits; do
     echo "tools/gate/test_$test.py"
     timeout 60 python3 "tools/gate/test_$test.py" || exit 1
 done
