@@ -136,6 +136,13 @@ class Verdicts(unittest.TestCase):
                 self.assertEqual(try_edits.function_at(SOURCE, place), function)
 
 
+    def test_what_is_asked_for(self):
+        asked = try_edits.asked_by(["shelf", "--folder", "must-fail", "first", "second"])
+        self.assertEqual(asked.edit, ["first", "second"])
+        self.assertEqual((asked.crate, asked.folder), ("shelf", "must-fail"))
+        self.assertEqual(try_edits.asked_by(["shelf"]).folder, "more-edits")
+
+
 class Tries(unittest.TestCase):
     def setUp(self):
         folder = tempfile.TemporaryDirectory()
