@@ -35,18 +35,6 @@ far_down distance grows stays rect reach limit a b column row far beyond =
     (of_grows distance grows stays 0 (column_gap rect a) reach (row_gap rect b) (omega arith)
     (omega arith) beyond (omega arith)) far
 
--- a column that isn't one of those within the reach is as many columns outside
-pub column_gap-outside : (rect : Rect) (width reach left right a : ℕ) → a < width → 0 < reach
-    → left ≡ rect.x0 + 1 - reach → right ≡ min (rect.x1 - 1 + (reach - 1)) (width - 1)
-    → (left ≤ a → a ≤ right → ⊥) → reach ≤ column_gap rect a
-column_gap-outside rect width reach left right a column some left_is right_is none =
-    let columns = rect.has_cells.columns in
-    elim (cases_lt a left) [
-      | inl before ↦ omega arith
-      | inr from ↦ elim (cases_lt right a)
-          [ inl after ↦ omega arith | inr to ↦ absurd (none from to) ]
-    ]
-
 -- where the box within the reach has no obstacle, none is near
 pub IsSpotBelow-clear : (distance : ℕ → ℕ → ℕ) → Grows distance → StaysNearer distance
     → (cells : Cells) (rect : Rect) (reach limit left right top end : ℕ) → IsBitmap cells

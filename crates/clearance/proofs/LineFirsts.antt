@@ -14,7 +14,7 @@ use Rattle.bits.specs.Edges.{IsBlack, IsBlocked}
 use Rattle.clearance.specs.Lines.{IsFirstAmong, IsFirstBefore, IsLineRow, IsRectOf}
 use Rattle.clearance.specs.Paths.{towards}
 use Rattle.clearance.specs.Parts.{IsBlackInRow, IsPart}
-use Rattle.clearance.specs.Search.{IsInRect, IsLeastBelow, IsRectIn, column_gap, row_gap}
+use Rattle.clearance.specs.Search.{IsInRect, IsLeastBelow, IsRectIn, row_gap}
 use Rattle.clearance.specs.Strips.{IsFirstNear, IsLineNear, IsOnLine, IsSomeNear, IsStripIn}
 use Rattle.clearance.specs.declared.lines.Lines.{Lines}
 use Rattle.clearance.specs.declared.part.Part.TheVariants.{Row, Frame}
@@ -254,34 +254,6 @@ IsFirstAmong-far distance grows stays cells lines rect gap end line bitmap low o
         omega arith
   ];
 }
-
--- rows whose obstacles are all as many columns away as is far have none near
-pub IsFirstAmong-clear : (distance : ℕ → ℕ → ℕ) → Grows distance → StaysNearer distance
-    → (cells : Cells) (lines : Lines) (rect : Rect) (IsRow : ℕ → Type 0) (reach end : ℕ)
-    → IsBitmap cells → IsRectOf lines end rect → lines.limit ≤ distance reach 0
-    → ((a b : ℕ) → IsObstacle cells a b → IsRow b → reach ≤ column_gap rect a)
-    → IsFirstAmong distance cells lines IsRow end end
-IsFirstAmong-clear distance grows stays cells lines rect IsRow reach end bitmap of low clear =
-    let some = of.some in
-    record {
-      from = omega arith;
-      within = omega arith;
-      near = λ less. absurd (omega arith);
-      far = λ k x y a b from before on_line obstacle row.
-          let last = obstacle_within cells bitmap a b obstacle in
-          let column = last.2 in
-          let b_last = last.3 in
-          let cell = of.all k x y from before on_line in
-          let x_low = cell.left in
-          let x_high = cell.right in
-          let y_high = cell.bottom in
-          let right = rect.has_cells.right in
-          let bottom = rect.has_cells.bottom in
-          let beyond = clear a b obstacle row in
-          let grown = of_grows distance grows stays reach (abs_diff x a) 0 (abs_diff y b)
-          (omega arith) (omega arith) (omega arith) (omega arith) in
-          omega arith;
-    }
 
 -- no line before the first one has an obstacle near
 open_before : (distance : ℕ → ℕ → ℕ) (cells : Cells) (lines : Lines) (IsRow : ℕ → Type 0)

@@ -21,7 +21,7 @@ use Rattle.clearance.specs.Nearest.{IsBetter, IsCellRect}
 use Rattle.clearance.proofs.RowSearches.{mark_within}
 use Rattle.clearance.proofs.TileRows.{AreBandsLive}
 use Rattle.clearance.proofs.Searches.{marked_obstacle, obstacle_marked, obstacle_within}
-use Rattle.clearance.proofs.Searches.{IsFar-greater, unmarked_row}
+use Rattle.clearance.proofs.Searches.{unmarked_row}
 
 -- the obstacles that have been searched, restated
 pub IsNearAmong-same : (distance : ℕ → ℕ → ℕ) (Obstacle IsSeen IsNext : ℕ → ℕ → Type 0) (x y : ℕ)
@@ -392,38 +392,6 @@ IsNear-beyond distance grows stays cells x y gap best bitmap column row low smal
           inr (record { not_below = omega arith; is_limit = small })
     ])
     before)
-
--- rows whose obstacles are all as many columns away as is far leave the best as it is
-pub IsNearAmong-clear : (distance : ℕ → ℕ → ℕ) → Grows distance → StaysNearer distance
-    → (cells : Cells) (x y gap reach : ℕ) (here : Rect) (best : Option Found) → IsBitmap cells
-    → x < cells.width → y < cells.height → IsCellRect x y here
-    → IsFar (distance reach gap) (limit_of best)
-    → ((a b : ℕ) → IsObstacle cells a b → row_gap here b ≡ gap → reach ≤ column_gap here a)
-    → IsNearAmong distance (IsObstacle cells) (IsWithin y gap) x y best
-    → IsNearAmong distance (IsObstacle cells) (IsWithin y (gap + 1)) x y best
-IsNearAmong-clear distance grows stays cells x y gap reach here best bitmap column row rect far clear
-    before =
-    let left = rect.left in
-    let top = rect.top in
-    let right = rect.right in
-    let bottom = rect.bottom in
-    IsNearAmong-far distance (IsObstacle cells) (IsWithin y gap) (IsWithin y (gap + 1)) x y best
-    (λ a b obstacle seen. omega arith)
-    (λ a b obstacle next. elim (cases_lt (abs_diff y b) gap) [
-      | inl nearer ↦ inl nearer
-      | inr away ↦
-          let last = obstacle_within cells bitmap a b obstacle in
-          let a_last = last.2 in
-          let b_last = last.3 in
-          let wide = bitmap.width_is.few in
-          let high = bitmap.height_is.few in
-          let beyond = clear a b obstacle (omega arith) in
-          inr (IsFar-greater (distance reach gap) (distance_between distance x y a b)
-          (limit_of best)
-          (of_grows distance grows stays reach (abs_diff x a) gap (abs_diff y b)
-          (omega arith) (omega arith) away (omega arith)) far)
-    ])
-    before
 
 -- once as many rows have been searched as the bitmap has, the best is the nearest
 pub IsNear-all : (distance : ℕ → ℕ → ℕ) (cells : Cells) (x y gap : ℕ) (best : Option Found)

@@ -387,48 +387,6 @@ IsLeastAmong-none distance Obstacle rect IsRow limit none = record {
   reached = λ less. absurd (omega arith);
 }
 
--- a row whose obstacles are all as many columns away as is far says nothing more
-pub IsLoweredBy-clear : (distance : ℕ → ℕ → ℕ) → Grows distance → StaysNearer distance
-    → (cells : Cells) (rect : Rect) (y gap reach least : ℕ) → IsBitmap cells → gap ≤ 4097
-    → IsFar (distance reach gap) least
-    → ((a : ℕ) → IsObstacle cells a y → reach ≤ column_gap rect a)
-    → IsLoweredBy distance (IsObstacle cells) rect y gap least least
-IsLoweredBy-clear distance grows stays cells rect y gap reach least bitmap few far clear = record {
-  within = omega arith;
-  far = λ a obstacle.
-      let column = (obstacle_within cells bitmap a y obstacle).2 in
-      let right = rect.has_cells.right in
-      IsFar-greater (distance reach gap) (distance (column_gap rect a) gap) least
-      (of_grows distance grows stays reach (column_gap rect a) gap gap (clear a obstacle)
-      (omega arith) (omega arith) few) far;
-  reached = λ less. absurd (omega arith);
-}
-
--- rows whose obstacles are all as many columns away as is far say nothing more
-pub IsLeastWithin-clear : (distance : ℕ → ℕ → ℕ) → Grows distance → StaysNearer distance
-    → (cells : Cells) (rect : Rect) (gap reach limit least : ℕ) → IsBitmap cells
-    → IsFar (distance reach gap) least
-    → ((a b : ℕ) → IsObstacle cells a b → row_gap rect b ≡ gap → reach ≤ column_gap rect a)
-    → IsLeastWithin distance (IsObstacle cells) rect gap limit least
-    → IsLeastWithin distance (IsObstacle cells) rect (gap + 1) limit least
-IsLeastWithin-clear distance grows stays cells rect gap reach limit least bitmap far clear before =
-    record {
-      within = before.within;
-      far = λ a b obstacle next. elim (cases_lt (row_gap rect b) gap) [
-        | inl earlier ↦ before.far a b obstacle earlier
-        | inr away ↦
-            let last = obstacle_within cells bitmap a b obstacle in
-            let column = last.2 in
-            let row = last.3 in
-            let right = rect.has_cells.right in
-            let bottom = rect.has_cells.bottom in
-            IsFar-greater (distance reach gap) (rect_distance distance rect a b) least
-            (of_grows distance grows stays reach (column_gap rect a) gap (row_gap rect b)
-            (clear a b obstacle (omega arith)) (omega arith) away (omega arith)) far
-      ];
-      reached = before.reached;
-    }
-
 -- an obstacle's row is one of the largest map's
 pub row_within : (cells : Cells) → IsBitmap cells → (a b : ℕ) → IsObstacle cells a b → b < 4096
 row_within cells bitmap a b obstacle = let last = (obstacle_within cells bitmap a b obstacle).3 in

@@ -214,6 +214,54 @@ IsSpotBelow-right distance stays rect tile y word gap limit bit next gap_is few 
     ]))
     is
 
+-- where the lowest of a word's bits, all of which are left, is as near as the highest, it is first
+pub IsSpotBelow-tied : (distance : ℕ → ℕ → ℕ) → StaysNearer distance
+    → (rect : Rect) (tile y word gap limit low high : ℕ) (next : Option Found)
+    → gap ≡ row_gap rect y → gap ≤ 4097 → low < 64 → bit_at word low ≡ 1
+    → ((i : ℕ) → i < low → bit_at word i ≡ 0) → high < 64 → bit_at word high ≡ 1
+    → ((i : ℕ) → high < i → bit_at word i ≡ 0) → AreLeftOf tile word rect.x0
+    → distance (rect.x0 - (64 * tile + low)) gap ≡ distance (rect.x0 - (64 * tile + high)) gap
+    → IsSpotIf (64 * tile + low) y (distance (rect.x0 - (64 * tile + low)) gap) limit next
+    → IsSpotBelow distance (IsInWord tile y word) rect limit next
+IsSpotBelow-tied distance stays rect tile y word gap limit low high next gap_is few low_in low_one
+    below high_in high_one above left tied is =
+    let place : (64 * tile + low) / 64 ≡ tile = omega arith in
+    let part : (64 * tile + low) % 64 ≡ low = omega arith in
+    let marked : bit_at word ((64 * tile + low) % 64) ≡ 1 = rw part low_one in
+    let high_place : (64 * tile + high) / 64 ≡ tile = omega arith in
+    let high_part : (64 * tile + high) % 64 ≡ high = omega arith in
+    let high_marked : bit_at word ((64 * tile + high) % 64) ≡ 1 = rw high_part high_one in
+    let inside : 64 * tile + low < rect.x0 = left (64 * tile + low) place marked in
+    let high_inside : 64 * tile + high < rect.x0 = left (64 * tile + high) high_place high_marked in
+    let columns = rect.has_cells.columns in
+    let right = rect.has_cells.right in
+    let across : rect.x0 - (64 * tile + low) ≡ column_gap rect (64 * tile + low) = omega arith in
+    IsSpotBelow-first distance (IsInWord tile y word) rect limit (64 * tile + low) y
+    (distance (rect.x0 - (64 * tile + low)) gap) next
+    (ap (λ (n : ℕ). distance n gap) across
+    ∙ ap (distance (column_gap rect (64 * tile + low))) gap_is)
+    (refl, place, marked)
+    (λ a b here.
+    let column = here.1 in
+    let from : low ≤ a % 64 = elim (cases_lt (a % 64) low) [
+      | inl before ↦ let zero = below (a % 64) before in let one = here.2 in absurd (omega arith)
+      | inr after ↦ after
+    ] in
+    let to : a % 64 ≤ high = elim (cases_lt high (a % 64)) [
+      | inl after ↦ let zero = above (a % 64) after in let one = here.2 in absurd (omega arith)
+      | inr before ↦ before
+    ] in
+    let rows : gap ≡ row_gap rect b = gap_is ∙ ap (row_gap rect) (sym here.0) in
+    let a_inside : a < rect.x0 = left a here.1 here.2 in
+    let grown = of_grows_with_dx distance stays (rect.x0 - (64 * tile + high)) (column_gap rect a)
+    gap (omega arith) (omega arith) few in (
+      here.0,
+      (omega arith),
+      subst (λ (n : ℕ). distance (rect.x0 - (64 * tile + low)) gap ≤ distance (column_gap rect a) n)
+          rows (subst (λ (n : ℕ). n ≤ distance (column_gap rect a) gap) (sym tied) grown),
+    ))
+    is
+
 -- one obstacle more of a word, all of which are left of the rectangle's first column
 pub IsSpotBelow-left_more : (distance : ℕ → ℕ → ℕ) (rect : Rect)
     (tile y word gap limit end bit : ℕ) (best next merged : Option Found)

@@ -1,10 +1,10 @@
 //! A search, tile by tile, for any obstacle that is nearer to a rectangle than a limit: it ends at
 //! the first that it meets.
 
-ghost use Rattle.std.specs.Prelude.{◌≡◌, None, ◌<◌};
+ghost use Rattle.std.specs.Prelude.{◌≡◌, None, ◌<◌, IfSome};
 ghost use Rattle.bits.specs.Cells.{IsBitmap, IsObstacle};
 ghost use Rattle.bits.specs.Words.{words_across};
-ghost use Rattle.clearance.specs.Spots.{IsAnyBelow, IsInBand, IsInTile};
+ghost use Rattle.clearance.specs.Spots.{IsAnyBelow, IsInBand, IsInTile, IsNearSpot};
 
 use crate::bit::without_bit;
 use crate::by_tiles::{
@@ -13,6 +13,7 @@ use crate::by_tiles::{
 use crate::far_bands::rows_apart;
 use crate::far_columns::{are_tiles_far, joined_span};
 use crate::found::Found;
+use crate::near_tile::{NearTile, nearest_tile};
 use crate::part::row_apart;
 use crate::rows::Rows;
 use crate::spot::first_in_word;
@@ -56,6 +57,26 @@ fn any_in_tile<M: Metric, R: Rows>(
     None
 }
 
+/// An obstacle in a tile, which may be none of the map, whose distance from the rectangle is below
+/// the limit; `None` if none is found.
+fn any_in_near_tile<M: Metric, R: Rows>(
+    rows: &mut R,
+    near: NearTile,
+    rect: Rect,
+    limit: u64,
+) -> Option<Found>
+    requires bitmap { IsBitmap (R.cells rows.old) }
+    requires band { near.band < 64 }
+    ensures any { IfSome result
+        (IsNearSpot M.distance (IsObstacle (R.cells rows.old)) rect limit) }
+    ensures rows { rows.new ≡ rows.old }
+{
+    if usize::from(near.tile) >= rows.across() {
+        return None;
+    }
+    any_in_tile::<M, R>(rows, near.band, near.tile, rect, limit)
+}
+
 /// An obstacle of a band whose distance from the rectangle is below the limit; `None` if there is
 /// none.
 fn any_in_band<M: Metric, R: Rows>(rows: &mut R, band: u16, rect: Rect, limit: u64) -> Option<Found>
@@ -79,12 +100,16 @@ fn any_in_band<M: Metric, R: Rows>(rows: &mut R, band: u16, rect: Rect, limit: u
 }
 
 /// An obstacle whose distance from the rectangle is below the limit; `None` if there is none. Looks
-/// in the rectangle's first band first.
+/// first in the tile that may be the nearest, and then in the rectangle's first band.
 pub fn any_by_tiles<M: Metric, R: Rows>(rows: &mut R, rect: Rect, limit: u64) -> Option<Found>
     requires bitmap { IsBitmap (R.cells rows.old) }
     ensures any { IsAnyBelow M.distance (IsObstacle (R.cells rows.old)) rect limit result }
     ensures rows { rows.new ≡ rows.old }
 {
+    let near = nearest_tile::<M, R>(rows, rect, limit);
+    if let Some(found) = any_in_near_tile::<M, R>(rows, near, rect, limit) {
+        return Some(found);
+    }
     let own = rect.y0 / BAND_ROWS;
     if let Some(found) = any_in_band::<M, R>(rows, own, rect, limit) {
         return Some(found);

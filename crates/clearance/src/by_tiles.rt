@@ -198,7 +198,10 @@ pub fn rows_within<M: Metric>(columns: u16, limit: u64) -> u16
     ensures few { result ≤ LAST_FRAMED }
     ensures far { result < LAST_FRAMED → IsFar (M.distance columns result) limit }
 {
-    let (mut low, mut high) = (0, LAST_FRAMED);
+    if !is_away::<M>(columns, MOST_SIDE, limit) {
+        return LAST_FRAMED;
+    }
+    let (mut low, mut high) = (0, MOST_SIDE);
     'halves: while low < high {
         let middle = low + (high - low) / 2;
         if is_away::<M>(columns, middle, limit) {

@@ -8,13 +8,16 @@ ghost use Rattle.clearance.specs.Rows.{IsFar};
 ghost use Rattle.clearance.specs.Search.{IsRectIn};
 ghost use Rattle.clearance.specs.Spots.{IsSpotBelow};
 
-use crate::band::are_blank_bands;
+use crate::band::{are_blank_bands, first_gap};
 use crate::bit::{bits_from, bits_through};
 use crate::rows::Rows;
 use metric::{MOST_SIDE, Metric, Rect, WORD_CELLS};
 
 /// Obstacles this many columns or rows away aren't close.
 pub const MOST_REACH: u16 = 32;
+
+/// The most rows of a box that is read: four bands.
+const MOST_ROWS: u16 = 256;
 
 /// Whether no obstacle lies less than this many columns and rows outside the rectangle: looks at
 /// the box of those that may. False for 32 or more.
@@ -36,6 +39,16 @@ pub fn is_clear_within<M: Metric, R: Rows>(rows: &mut R, rect: Rect, reach: u16)
     let top = (rect.y0 + 1).saturating_sub(reach);
     let end = (rect.y1 + (reach - 1)).min(height);
     is_blank_box(rows, left, right, top, end)
+}
+
+/// Whether a search by rows ends at once: the rectangle's own rows, and those near enough for an
+/// obstacle below the limit, are all in bands known to be blank.
+#[inline(always)]
+pub fn ends_at_once<M: Metric, R: Rows>(rows: &R, rect: Rect, limit: u64) -> bool
+    requires { IsRectIn (R.cells rows.now) rect }
+{
+    let gap = first_gap(rows.bands(), rect.y0, rect.y1 - 1, 1);
+    1 < gap && u64::from(M::of(0, gap)) >= limit
 }
 
 /// The least number of columns and rows, below 32, such that cells as far away are no nearer than
@@ -73,8 +86,9 @@ fn is_reach<M: Metric>(reach: u16, limit: u64) -> bool
     u64::from(M::of(reach, 0)) >= limit && u64::from(M::of(0, reach)) >= limit
 }
 
-/// Whether no obstacle lies in these columns, `right` included, of these rows. False for columns of
-/// more than two words, unless the bands of these rows are known to be blank.
+/// Whether no obstacle lies in these columns, `right` included, of these rows. Unless the bands of
+/// these rows are known to be blank, false for columns of more than two words, and for many rows: a
+/// search that begins at one end of them may soon end.
 fn is_blank_box<R: Rows>(rows: &mut R, left: u16, right: u16, top: u16, end: u16) -> bool
     requires bitmap { IsBitmap (R.cells rows.old) }
     requires columns { left ≤ right }
@@ -87,7 +101,7 @@ fn is_blank_box<R: Rows>(rows: &mut R, left: u16, right: u16, top: u16, end: u16
     if top < end && are_blank_bands(rows.bands(), top, end - 1) {
         return true;
     }
-    if left / WORD_CELLS + 1 < right / WORD_CELLS {
+    if left / WORD_CELLS + 1 < right / WORD_CELLS || end.saturating_sub(top) > MOST_ROWS {
         return false;
     }
     'rows: for y in top..end {

@@ -10,11 +10,18 @@ use crate::search::SPARSE_GAP;
 use crate::tiles::{NO_TILE, are_few, next_tile};
 use metric::{BAND_ROWS, LAST_FRAMED, MOST_SIDE, Metric, Rect, WORD_CELLS};
 
-/// What the search of a tile costs: as much as that of this many words of rows.
-const TILE_WORDS: u32 = 100;
+/// What the search of a tile costs, in instructions as those below: counted on plans, yards and
+/// walls, as are the others.
+const TILE: u32 = 1000;
 
-/// What the search of a row costs besides its words: as much as that of this many.
-const ROW_WORDS: u32 = 8;
+/// What the search of a row costs besides its words.
+const ROW: u32 = 60;
+
+/// What a word costs in the search of a row.
+const WORD: u32 = 11;
+
+/// What a word costs where it is first asked whether the row is blank.
+const BLANK_WORD: u32 = 3;
 
 /// Whether a search by tiles for obstacles below the limit costs less than one by rows: by the
 /// tiles and the rows, of the bands that may have an obstacle, that are within the limit. Where it
@@ -39,72 +46,76 @@ pub fn does_pay<M: Metric, R: Rows>(rows: &R, rect: Rect, limit: u64, loose: boo
         } else {
             words_within(rows, band, tiles, count)
         };
-        by_tiles = by_tiles.wrapping_add(TILE_WORDS * count);
-        by_rows = by_rows.wrapping_add((ROW_WORDS + words) * u32::from(met));
+        by_tiles = by_tiles.wrapping_add(TILE * count);
+        by_rows = by_rows.wrapping_add((ROW + words) * u32::from(met));
         band = next_tile(bands, band + 1);
     }
-    by_tiles < by_rows
+    is_less::<M>(by_tiles, by_rows)
 }
 
-/// What the search of a row in a band costs, in words, as long as no obstacle is found: half as
-/// much where it is first asked whether the row is blank.
+/// What the words of a row in a band cost, as long as no obstacle is found.
 fn words_of_row<R: Rows>(rows: &R, rect: Rect, band: u16) -> u32
     requires { band < 64 }
-    ensures { result ≤ 64 }
+    ensures { result ≤ 704 }
 {
     let (tiles, across) = (rows.tiles(band), rows.across());
     if are_few(tiles, across) {
-        return tiles.count_ones();
+        return WORD * tiles.count_ones();
     }
     let words = across.min(64) as u32;
     if rows_apart(rect, band) >= SPARSE_GAP {
-        words / 2
+        BLANK_WORD * words
     } else {
-        words
+        WORD * words
     }
 }
 
-/// What the search of a row in a band costs, in words, if it is searched in these tiles, of which
-/// so many may have an obstacle.
+/// What the words of a row in a band cost, if it is searched in these tiles, of which so many may
+/// have an obstacle.
 fn words_within<R: Rows>(rows: &R, band: u16, tiles: (u16, u16), count: u32) -> u32
     requires band { band < 64 }
     requires last { tiles.1 < 64 }
     requires count { count ≤ 64 }
-    ensures { result ≤ 64 }
+    ensures { result ≤ 704 }
 {
     if are_few(rows.tiles(band), rows.across()) {
-        count
+        WORD * count
     } else {
-        u32::from(tiles.1.saturating_sub(tiles.0)) + 1
+        WORD * (u32::from(tiles.1.saturating_sub(tiles.0)) + 1)
     }
 }
 
-/// Whether a search by tiles may cost less than one by rows with some limit: not, if the tiles
-/// above and below the rectangle, in the nearest bands that may have an obstacle, cost more than
-/// the rows of a band.
+/// Whether a search by tiles of this cost is the cheaper one. By the chess metric it has to be
+/// twice as cheap: any obstacle in a row, no more columns away than the row, ends one by rows.
 #[inline(always)]
-pub fn can_pay<R: Rows>(rows: &R, rect: Rect, gap: u16) -> bool
-    requires { gap ≤ MOST_SIDE }
-{
-    let words = ROW_WORDS + rows.across().min(64) as u32;
-    TILE_WORDS * count_beside(rows, rect, gap) < u32::from(BAND_ROWS) * words
+fn is_less<M: Metric>(by_tiles: u32, by_rows: u32) -> bool {
+    by_tiles < if is_flat::<M>() { by_rows / 2 } else { by_rows }
 }
 
-/// How many tiles in the rectangle's columns may have an obstacle, in the bands of the rows `gap`
-/// rows above and below it, or of the first and the last row of a map.
+/// Whether cells of a row, no more columns away than the row, are all equally near.
 #[inline(always)]
-fn count_beside<R: Rows>(rows: &R, rect: Rect, gap: u16) -> u32
+fn is_flat<M: Metric>() -> bool {
+    M::of(1, 1) == M::of(0, 1)
+}
+
+/// Whether a search by tiles may cost less than one by rows with some limit: not, if the tiles that
+/// may be the nearest, in the bands of the rows `gap` rows above and below the rectangle, cost more
+/// than the rows of these bands.
+#[inline(always)]
+pub fn can_pay<M: Metric, R: Rows>(rows: &R, rect: Rect, gap: u16) -> bool
+    requires order { rect.y0 < rect.y1 }
     requires gap { gap ≤ MOST_SIDE }
-    ensures few { result ≤ 128 }
 {
-    let tiles = (rect.x0 / WORD_CELLS, (rect.x1 - 1) / WORD_CELLS);
+    let tiles = places_near(rect.x0, rect.x1, if is_flat::<M>() { gap } else { 0 });
     let above = rect.y0.saturating_sub(gap) / BAND_ROWS;
     let below = (rect.y1 - 1 + gap).min(MOST_SIDE - 1) / BAND_ROWS;
-    let count = count_marked::<R>(rows, below, tiles);
-    if above == below {
-        return count;
+    let mut count = count_marked::<R>(rows, above, tiles);
+    let mut words = ROW + words_of_row(rows, rect, above);
+    if above != below && rows.tiles(below) != 0 {
+        count += count_marked::<R>(rows, below, tiles);
+        words += ROW + words_of_row(rows, rect, below);
     }
-    count + count_marked::<R>(rows, above, tiles)
+    is_less::<M>(TILE * count, u32::from(BAND_ROWS) * words)
 }
 
 /// How many of these tiles of a band may have an obstacle, from a first one to a last.

@@ -8,7 +8,7 @@ ghost use Rattle.clearance.specs.Search.{IsLeastInBits, IsRectIn};
 ghost use Rattle.clearance.specs.Spots.{IsSeed};
 
 use crate::by_tiles::{first_by_bands, first_by_tiles};
-use crate::clear::{is_clear_within, small_reach};
+use crate::clear::{ends_at_once, is_clear_within, small_reach};
 use crate::found::Found;
 use crate::nearest::{cell_rect, nearest_by_rows};
 use crate::rows::{Rows, holds};
@@ -22,13 +22,15 @@ pub fn least_in_bits<M: Metric, R: Rows>(rows: &mut R, rect: Rect, limit: u64) -
     ensures least { IsLeastInBits M.distance (IsObstacle (R.cells rows.old)) rect limit result }
     ensures rows { rows.new ≡ rows.old }
 {
-    let reach = small_reach::<M>(limit);
-    if is_clear_within::<M, R>(rows, rect, reach) {
+    if ends_at_once::<M, R>(rows, rect, limit) {
+        return least_by_rows::<M, R>(rows, rect, limit);
+    }
+    if is_clear_within::<M, R>(rows, rect, small_reach::<M>(limit)) {
         return limit;
     }
     match far_seed::<M, R>(rows, rect, limit) {
         Some(seed) => least_by_tiles::<M, R>(rows, rect, limit, seed),
-        None => least_by_rows::<M, R>(rows, rect, limit, reach),
+        None => least_by_rows::<M, R>(rows, rect, limit),
     }
 }
 

@@ -8,7 +8,6 @@
 mod any_by_tiles;
 mod area;
 mod band;
-mod beside;
 mod bit;
 mod border;
 mod bound;
@@ -21,6 +20,7 @@ mod far_columns;
 mod found;
 mod frame;
 mod lines;
+mod near_tile;
 mod nearest;
 mod part;
 mod path;

@@ -4,8 +4,7 @@ ghost use Rattle.clearance.specs.Strips.{IsStripIn};
 
 use crate::any_by_tiles::any_by_tiles;
 use crate::band::{are_blank_bands, first_gap, next_gap};
-use crate::beside::is_clear_near;
-use crate::clear::{MOST_REACH, is_clear_within, small_reach};
+use crate::clear::{ends_at_once, is_clear_within, small_reach};
 use crate::far_bands::near_bands;
 use crate::part::Part;
 use crate::rows::Rows;
@@ -33,7 +32,6 @@ impl Lines {
     ghost use Rattle.bits.specs.Edges.{IsBlocked};
     ghost use Rattle.clearance.specs.Lines.{IsFirstAmong, IsFirstBefore, IsLineRow, IsRectOf};
     ghost use Rattle.clearance.specs.Parts.{IsPart, IsPartIn};
-    ghost use Rattle.clearance.specs.Rows.{IsFar};
     ghost use Rattle.clearance.specs.Search.{row_gap};
     ghost use Rattle.clearance.specs.declared.part.Part.TheVariants.{Frame};
     ghost use Rattle.clearance.specs.Strips.{IsFirstNear, IsSomeNear};
@@ -80,27 +78,22 @@ impl Lines {
             result }
         ensures rows { rows.new ≡ rows.old }
     {
+        if ends_at_once::<M, R>(rows, rect, self.limit) {
+            return self.first_by_rows::<M, R>(rows, rect, end);
+        }
         let reach = small_reach::<M>(self.limit);
         if is_clear_within::<M, R>(rows, rect, reach) {
             return end;
         }
-        self.first_by_tiles::<M, R>(rows, rect, end, reach)
+        self.first_by_tiles::<M, R>(rows, rect, end)
     }
 
     /// As `first_in_bits`, by tiles while that pays. Each row in which an obstacle is found near
     /// leaves fewer lines for the next search; after a few of them the lines that are left are
     /// searched by rows, so that no order of obstacles asks for many.
-    fn first_by_tiles<M: Metric, R: Rows>(
-        self,
-        rows: &mut R,
-        rect: Rect,
-        end: u16,
-        reach: u16,
-    ) -> u16
+    fn first_by_tiles<M: Metric, R: Rows>(self, rows: &mut R, rect: Rect, end: u16) -> u16
         requires strip { IsStripIn (R.cells rows.old) self.strip }
         requires lines { IsRectOf self end rect }
-        requires reach { 0 < reach }
-        requires far { reach < MOST_REACH → IsFar (M.distance reach 0) self.limit }
         ensures found { IsFirstBefore M.distance (IsBlocked (R.cells rows.old) Open) self end
             result }
         ensures rows { rows.new ≡ rows.old }
@@ -108,7 +101,7 @@ impl Lines {
         let (mut line, mut left) = (end, rect);
         'turns: for _turn in 0..MOST_TURNS {
             if !is_far::<M, R>(rows, left, self.limit) {
-                return self.first_by_rows::<M, R>(rows, left, line, reach);
+                return self.first_by_rows::<M, R>(rows, left, line);
             }
             let Some(found) = any_by_tiles::<M, R>(rows, left, self.limit) else {
                 return line;
@@ -120,30 +113,21 @@ impl Lines {
             left = self.rect_left(left, line, next);
             line = next;
         }
-        self.first_by_rows::<M, R>(rows, left, line, reach)
+        self.first_by_rows::<M, R>(rows, left, line)
     }
 
     /// As `first_in_bits`, by rows.
     ///
     /// Searches the rows that may have an obstacle from the lines outwards. Each row with one near
-    /// leaves fewer lines for the rows after it. Cells as many columns away as the reach, which is
-    /// below 32, are no nearer than the limit.
-    fn first_by_rows<M: Metric, R: Rows>(
-        self,
-        rows: &mut R,
-        rect: Rect,
-        end: u16,
-        reach: u16,
-    ) -> u16
+    /// leaves fewer lines for the rows after it.
+    fn first_by_rows<M: Metric, R: Rows>(self, rows: &mut R, rect: Rect, end: u16) -> u16
         requires strip { IsStripIn (R.cells rows.old) self.strip }
         requires lines { IsRectOf self end rect }
-        requires reach { 0 < reach }
-        requires far { reach < MOST_REACH → IsFar (M.distance reach 0) self.limit }
         ensures found { IsFirstBefore M.distance (IsBlocked (R.cells rows.old) Open) self end
             result }
         ensures rows { rows.new ≡ rows.old }
     {
-        let mut line = self.first_inside::<M, R>(rows, rect, end, reach);
+        let mut line = self.first_inside::<M, R>(rows, rect, end);
         if line <= self.first {
             return line;
         }
@@ -154,7 +138,7 @@ impl Lines {
             if u64::from(M::of(0, gap)) >= self.limit {
                 return line;
             }
-            let next = self.first_beside::<M, R>(rows, left, gap, line, reach);
+            let next = self.first_beside::<M, R>(rows, left, gap, line);
             if next <= self.first {
                 return next;
             }
@@ -168,11 +152,9 @@ impl Lines {
 
     /// The first of the lines before `end` that has an obstacle near in one of their own rows;
     /// `end` if none has.
-    fn first_inside<M: Metric, R: Rows>(self, rows: &mut R, rect: Rect, end: u16, reach: u16) -> u16
+    fn first_inside<M: Metric, R: Rows>(self, rows: &mut R, rect: Rect, end: u16) -> u16
         requires strip { IsStripIn (R.cells rows.old) self.strip }
         requires lines { IsRectOf self end rect }
-        requires reach { 0 < reach }
-        requires far { reach < MOST_REACH → IsFar (M.distance reach 0) self.limit }
         ensures found { IsFirstAmong M.distance (R.cells rows.old) self
             (IsLineRow self result) end result }
         ensures rows { rows.new ≡ rows.old }
@@ -187,8 +169,7 @@ impl Lines {
                 return line;
             }
             let y = step_towards(from, to, index);
-            let near = self.reach_behind(index, reach);
-            let next = self.first_in_own_row::<M, R>(rows, y, left, line, near);
+            let next = self.first_in_row::<M, R>(rows, y, 0, left, line);
             if next <= self.first {
                 return next;
             }
@@ -229,81 +210,21 @@ impl Lines {
 
     /// The first of the lines before `end` that has an obstacle near in one of the two rows `gap`
     /// rows above and below their rectangle; `end` if none has.
-    fn first_beside<M: Metric, R: Rows>(
-        self,
-        rows: &mut R,
-        rect: Rect,
-        gap: u16,
-        end: u16,
-        reach: u16,
-    ) -> u16
+    fn first_beside<M: Metric, R: Rows>(self, rows: &mut R, rect: Rect, gap: u16, end: u16) -> u16
         requires strip { IsStripIn (R.cells rows.old) self.strip }
         requires lines { IsRectOf self end rect }
         requires some { 0 < gap }
         requires gap { gap ≤ LAST_FRAMED }
-        requires reach { 0 < reach }
-        requires far { reach < MOST_REACH → IsFar (M.distance reach 0) self.limit }
         ensures found { IsFirstAmong M.distance (R.cells rows.old) self
             (λ b. row_gap rect b ≡ gap) end result }
         ensures rows { rows.new ≡ rows.old }
     {
-        if is_clear_near(rows, rect, gap, reach) {
-            return end;
-        }
         let above = self.first_above::<M, R>(rows, rect, gap, end);
         if above <= self.first {
             return above;
         }
         let left = self.rect_left(rect, end, above);
         self.first_below::<M, R>(rows, rect.y1 - 1 + gap, left, above)
-    }
-
-    /// The reach in the row of a line; none in that of the first, which often has an obstacle near.
-    #[inline(always)]
-    fn reach_behind(self, index: u16, reach: u16) -> u16
-        requires { 0 < reach }
-        ensures some { 0 < result }
-        ensures same { result < MOST_REACH → result ≡ reach }
-    {
-        if index == self.first {
-            MOST_REACH
-        } else {
-            reach
-        }
-    }
-
-    /// The first of the lines before `end` that has an obstacle near in one of their own rows, `y`;
-    /// `end` if none has. Looks first whether the row has an obstacle within the reach.
-    #[inline(always)]
-    fn first_in_own_row<M: Metric, R: Rows>(
-        self,
-        rows: &mut R,
-        y: u16,
-        rect: Rect,
-        end: u16,
-        reach: u16,
-    ) -> u16
-        requires strip { IsStripIn (R.cells rows.old) self.strip }
-        requires row { y < (R.cells rows.old).height }
-        requires own { 0 ≡ row_gap rect y }
-        requires lines { IsRectOf self end rect }
-        requires reach { 0 < reach }
-        requires far { reach < MOST_REACH → IsFar (M.distance reach 0) self.limit }
-        ensures found { IsFirstAmong M.distance (R.cells rows.old) self (λ b. b ≡ y) end result }
-        ensures rows { rows.new ≡ rows.old }
-    {
-        let inside = y < rows.height();
-        prove!(inside);
-        let own = Rect {
-            x0: rect.x0,
-            y0: y,
-            x1: rect.x1,
-            y1: y + 1,
-        };
-        if is_clear_near(rows, own, 0, reach) {
-            return end;
-        }
-        self.first_in_row::<M, R>(rows, y, 0, rect, end)
     }
 
     /// As `first_beside`, only for the row above the rectangle.

@@ -6,10 +6,8 @@ ghost use Rattle.bits.specs.Cells.{IsInside, IsObstacle};
 ghost use Rattle.clearance.specs.Nearest.{IsAhead, IsBetter, IsCellRect, IsNearCell, IsRowFirst};
 ghost use Rattle.clearance.specs.Nearest.{IsRowUpTo, IsSeenInRow, IsSought, IsWithin};
 ghost use Rattle.clearance.specs.Nearest.{IsWithinOrAbove, limit_of};
-ghost use Rattle.clearance.specs.Rows.{IsFar};
 
 use crate::band::{first_gap, next_gap};
-use crate::beside::{NOT_CLOSE, is_clear_beside, reach_at};
 use crate::far_bands::near_bands;
 use crate::found::Found;
 use crate::rows::Rows;
@@ -17,9 +15,6 @@ use crate::search::{FAR_GAP, NO_LIMIT, is_found_blank, is_passed};
 use crate::tiles::{SearchedRow, has_few_tiles};
 use crate::words::{last_nearer, next_nearer};
 use metric::{Cell, MOST_SIDE, Metric, Rect};
-
-/// The rows fewer rows away are searched at once: often one of them has the nearest obstacle.
-const FIRST_GAP: u16 = 4;
 
 /// The nearest obstacle of the cell; `None` if the map has no obstacle.
 ///
@@ -30,7 +25,7 @@ pub fn nearest_by_rows<M: Metric, R: Rows>(rows: &mut R, cell: Cell) -> Option<F
     ensures near { IsNearCell M.distance (IsObstacle (R.cells rows.old)) cell.x cell.y result }
     ensures rows { rows.new ≡ rows.old }
 {
-    let (mut best, mut reach) = (None, NOT_CLOSE);
+    let mut best = None;
     let (mut bands, height) = (rows.bands(), rows.height());
     let here = cell_rect(cell);
     let mut gap = first_gap(bands, cell.y, cell.y, 0);
@@ -38,8 +33,8 @@ pub fn nearest_by_rows<M: Metric, R: Rows>(rows: &mut R, cell: Cell) -> Option<F
         if u64::from(M::of(0, gap)) >= limit_of(best) {
             return best;
         }
-        reach = reach_at::<M>(FIRST_GAP, reach, gap, limit_of(best));
-        best = with_rows::<M, R>(rows, cell, here, gap, reach, best);
+        best = with_row_above::<M, R>(rows, cell, gap, best);
+        best = with_row_below::<M, R>(rows, cell, gap, best);
         bands = near_bands::<M, R>(rows, bands, here, gap + 1, limit_of(best));
         gap = next_gap(bands, cell.y, cell.y, gap + 1);
     }
@@ -70,33 +65,6 @@ fn limit_of(best: Option<Found>) -> u64
         Some(near) => u64::from(near.dist) + 1,
         None => NO_LIMIT,
     }
-}
-
-/// The best after a search of the rows this many rows above and below the cell. Passes over them if
-/// their obstacles are all at least `reach` columns away, which is no nearer than the best.
-#[inline(always)]
-fn with_rows<M: Metric, R: Rows>(
-    rows: &mut R,
-    cell: Cell,
-    here: Rect,
-    gap: u16,
-    reach: u16,
-    best: Option<Found>,
-) -> Option<Found>
-    requires here { IsCellRect cell.x cell.y here }
-    requires gap { gap < MOST_SIDE }
-    requires some { 0 < reach }
-    requires far { reach < NOT_CLOSE → IsFar (M.distance reach gap) (limit_of best) }
-    requires sought { IsSought M.distance (R.cells rows.old) cell (IsWithin cell.y gap) best }
-    ensures sought { IsSought M.distance (R.cells rows.new) cell
-        (IsWithin cell.y (gap + 1)) result }
-    ensures rows { rows.new ≡ rows.old }
-{
-    if is_clear_beside(rows, here, gap, reach) {
-        return best;
-    }
-    let above = with_row_above::<M, R>(rows, cell, gap, best);
-    with_row_below::<M, R>(rows, cell, gap, above)
 }
 
 /// The best after a search of the row this many rows above the cell, if there is one.

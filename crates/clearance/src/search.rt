@@ -1,14 +1,12 @@
 //! The least distance of a rectangle's cells, searched in the words of a map.
 
-ghost use Rattle.std.specs.Prelude.{◌≡◌, ℕ, ◌+◌, ◌-◌, ◌<◌, ◌≤◌, true};
+ghost use Rattle.std.specs.Prelude.{◌≡◌, ◌+◌, ◌-◌, ◌<◌, ◌≤◌, true};
 ghost use Rattle.bits.specs.Cells.{IsObstacle};
-ghost use Rattle.clearance.specs.Rows.{IsBlankRow, IsFar, words_of_row};
+ghost use Rattle.clearance.specs.Rows.{IsBlankRow, words_of_row};
 ghost use Rattle.clearance.specs.Search.{IsLeastInBits, IsLeastWithin, IsLoweredBy, IsLoweredLeft};
 ghost use Rattle.clearance.specs.Search.{IsLoweredRight, IsRectIn};
 
 use crate::band::{are_blank_bands, first_gap, is_in_blank_band, next_gap};
-use crate::beside::{NOT_CLOSE, is_clear_beside, is_clear_near, reach_at};
-use crate::clear::MOST_REACH;
 use crate::far_bands::near_bands;
 use crate::rows::Rows;
 use crate::tiles::{SearchedRow, has_few_tiles};
@@ -29,25 +27,22 @@ pub const FAR_GAP: u16 = 32;
 /// The least of `limit` and of the distances of the rectangle's cells to the bitmap's obstacles.
 ///
 /// Searches the rows that may have an obstacle from the rectangle outwards, and the words of each
-/// row no further than a distance below the least so far can be. Cells as many columns away as the
-/// reach, which is below 32, are no nearer than the limit.
-pub fn least_by_rows<M: Metric, R: Rows>(rows: &mut R, rect: Rect, limit: u64, reach: u16) -> u64
-    requires rect { IsRectIn (R.cells rows.old) rect }
-    requires some { 0 < reach }
-    requires far { reach < MOST_REACH → IsFar (M.distance reach 0) limit }
+/// row no further than a distance below the least so far can be.
+pub fn least_by_rows<M: Metric, R: Rows>(rows: &mut R, rect: Rect, limit: u64) -> u64
+    requires { IsRectIn (R.cells rows.old) rect }
     ensures least { IsLeastInBits M.distance (IsObstacle (R.cells rows.old)) rect limit result }
     ensures rows { rows.new ≡ rows.old }
 {
-    let mut least = least_inside::<M, R>(rows, rect, limit, reach);
+    let mut least = least_inside::<M, R>(rows, rect, limit);
     let (mut bands, height) = (rows.bands(), rows.height());
     let (top, bottom) = (rect.y0, rect.y1 - 1);
-    let (mut gap, mut near) = (first_gap(bands, top, bottom, 1), reach);
+    let mut gap = first_gap(bands, top, bottom, 1);
     'gaps: while gap < height {
         if u64::from(M::of(0, gap)) >= least {
             return least;
         }
-        near = reach_at::<M>(1, near, gap, least);
-        least = lowered_beside::<M, R>(rows, rect, gap, near, least);
+        least = lowered_above::<M, R>(rows, rect, gap, least);
+        least = lowered_below::<M, R>(rows, rect, gap, least);
         bands = near_bands::<M, R>(rows, bands, rect, gap + 1, least);
         gap = next_gap(bands, top, bottom, gap + 1);
     }
@@ -55,10 +50,8 @@ pub fn least_by_rows<M: Metric, R: Rows>(rows: &mut R, rect: Rect, limit: u64, r
 }
 
 /// The least of `limit` and of the distances to the obstacles in the rectangle's own rows.
-fn least_inside<M: Metric, R: Rows>(rows: &mut R, rect: Rect, limit: u64, reach: u16) -> u64
-    requires rect { IsRectIn (R.cells rows.old) rect }
-    requires some { 0 < reach }
-    requires far { reach < MOST_REACH → IsFar (M.distance reach 0) limit }
+fn least_inside<M: Metric, R: Rows>(rows: &mut R, rect: Rect, limit: u64) -> u64
+    requires { IsRectIn (R.cells rows.old) rect }
     ensures least { IsLeastWithin M.distance (IsObstacle (R.cells rows.old)) rect 1 limit result }
     ensures rows { rows.new ≡ rows.old }
 {
@@ -70,67 +63,14 @@ fn least_inside<M: Metric, R: Rows>(rows: &mut R, rect: Rect, limit: u64, reach:
         if u64::from(M::of(0, 0)) >= least {
             return least;
         }
-        least = lowered_own::<M, R>(rows, rect, y, reach, least);
+        least = lowered::<M, R>(rows, rect, y, 0, least);
     }
     least
 }
 
-/// The least so far, or a lesser distance to an obstacle of one of the rectangle's own rows. Passes
-/// over the row if its obstacles are all at least `reach` columns outside.
-#[inline(always)]
-fn lowered_own<M: Metric, R: Rows>(rows: &mut R, rect: Rect, y: u16, reach: u16, least: u64) -> u64
-    requires rect { IsRectIn (R.cells rows.old) rect }
-    requires top { rect.y0 ≤ y }
-    requires bottom { y < rect.y1 }
-    requires some { 0 < reach }
-    requires far { reach < MOST_REACH → IsFar (M.distance reach 0) least }
-    ensures least { IsLoweredBy M.distance (IsObstacle (R.cells rows.old)) rect y 0 least result }
-    ensures rows { rows.new ≡ rows.old }
-{
-    let own = Rect {
-        x0: rect.x0,
-        y0: y,
-        x1: rect.x1,
-        y1: y + 1,
-    };
-    if is_clear_near(rows, own, 0, reach) {
-        return least;
-    }
-    lowered::<M, R>(rows, rect, y, 0, least)
-}
-
-/// The least so far, or a lesser distance to an obstacle this many rows above or below the
-/// rectangle. Passes over these rows if their obstacles are all at least `reach` columns outside,
-/// which is no nearer than the least.
-#[inline(always)]
-fn lowered_beside<M: Metric, R: Rows>(
-    rows: &mut R,
-    rect: Rect,
-    gap: u16,
-    reach: u16,
-    least: u64,
-) -> u64
-    requires rect { IsRectIn (R.cells rows.old) rect }
-    requires beside { 0 < gap }
-    requires gap { gap ≤ LAST_FRAMED }
-    requires some { 0 < reach }
-    requires far { reach < NOT_CLOSE → IsFar (M.distance reach gap) least }
-    ensures within { result ≤ least }
-    ensures more { (limit : ℕ)
-        → IsLeastWithin M.distance (IsObstacle (R.cells rows.old)) rect gap limit least
-        → IsLeastWithin M.distance (IsObstacle (R.cells rows.old)) rect (gap + 1) limit result }
-    ensures rows { rows.new ≡ rows.old }
-{
-    if is_clear_beside(rows, rect, gap, reach) {
-        return least;
-    }
-    let above = lowered_above::<M, R>(rows, rect, gap, least);
-    lowered_below::<M, R>(rows, rect, gap, above)
-}
-
 /// The least so far, or a lesser distance to an obstacle this many rows above the rectangle, if
 /// there is such a row.
-fn lowered_above<M: Metric, R: Rows>(rows: &mut R, rect: Rect, gap: u16, least: u64) -> u64
+pub fn lowered_above<M: Metric, R: Rows>(rows: &mut R, rect: Rect, gap: u16, least: u64) -> u64
     requires rect { IsRectIn (R.cells rows.old) rect }
     requires gap { gap ≤ LAST_FRAMED }
     ensures row { gap ≤ rect.y0
@@ -147,7 +87,7 @@ fn lowered_above<M: Metric, R: Rows>(rows: &mut R, rect: Rect, gap: u16, least: 
 }
 
 /// As `lowered_above`, below the rectangle.
-fn lowered_below<M: Metric, R: Rows>(rows: &mut R, rect: Rect, gap: u16, least: u64) -> u64
+pub fn lowered_below<M: Metric, R: Rows>(rows: &mut R, rect: Rect, gap: u16, least: u64) -> u64
     requires rect { IsRectIn (R.cells rows.old) rect }
     requires gap { gap ≤ LAST_FRAMED }
     ensures row { rect.y1 - 1 + gap < (R.cells rows.old).height

@@ -6,119 +6,14 @@ ghost use Rattle.clearance.specs.Search.{IsRectIn};
 ghost use Rattle.clearance.specs.Spots.{IsSeed};
 
 use crate::band::first_gap;
-use crate::beside::is_clear_beside;
-use crate::by_tiles::{columns_apart, first_in_tile};
+use crate::bit::{bits_from, bits_through};
+use crate::by_tiles::first_in_tile;
 use crate::cost::{can_pay, count_marked, does_pay, places_near};
-use crate::far_bands::rows_apart;
+use crate::near_tile::nearest_tile;
 use crate::rows::Rows;
-use crate::search::{FAR_GAP, NO_LIMIT};
-use crate::tiles::{NO_TILE, after_last_tile, is_marked_tile, next_tile};
+use crate::search::{FAR_GAP, NO_LIMIT, lowered, lowered_above, lowered_below};
+use crate::tiles::{NO_TILE, is_marked_tile, next_tile};
 use metric::{BAND_ROWS, LAST_FRAMED, MOST_SIDE, Metric, Rect, WORD_CELLS};
-
-/// A tile of a band, and a bound for the distances of its cells.
-#[derive(Clone, Copy, Debug, PartialEq, Eq)]
-struct NearTile {
-    band: u16,
-    tile: u16,
-    bound: u64,
-}
-
-/// The nearer of a tile and another of a band; the other may be no tile.
-#[inline(always)]
-fn nearer_tile<M: Metric>(best: NearTile, rect: Rect, band: u16, tile: u16) -> NearTile
-    requires best { best.band < 64 }
-    requires band { band < 64 }
-    ensures { result.band < 64 }
-{
-    if tile >= NO_TILE {
-        return best;
-    }
-    let bound = u64::from(M::of(columns_apart(rect, tile), rows_apart(rect, band)));
-    if bound < best.bound {
-        NearTile { band, tile, bound }
-    } else {
-        best
-    }
-}
-
-/// The nearer of a tile and those of a band on both sides of the rectangle's first column.
-#[inline(always)]
-fn nearer_of_band<M: Metric, R: Rows>(rows: &R, best: NearTile, rect: Rect, band: u16) -> NearTile
-    requires best { best.band < 64 }
-    requires band { band < 64 }
-    ensures { result.band < 64 }
-{
-    let (tiles, own) = (rows.tiles(band), rect.x0 / WORD_CELLS);
-    let right = nearer_tile::<M>(best, rect, band, next_tile(tiles, own));
-    let after = after_last_tile(tiles, own);
-    if after == 0 {
-        return right;
-    }
-    nearer_tile::<M>(right, rect, band, after - 1)
-}
-
-/// The tile of which a cell may be nearest to the rectangle; tile 64 if none may have an obstacle
-/// below the limit.
-fn nearest_tile<M: Metric, R: Rows>(rows: &R, rect: Rect, limit: u64) -> NearTile
-    ensures { result.band < 64 }
-{
-    let (top, bottom) = (rect.y0 / BAND_ROWS, (rect.y1 - 1) / BAND_ROWS);
-    let mut best = NearTile {
-        band: 0,
-        tile: NO_TILE,
-        bound: limit,
-    };
-    'inside: for band in top..bottom + 1 {
-        if best.bound == 0 {
-            return best;
-        }
-        best = nearer_of_band::<M, R>(rows, best, rect, band);
-    }
-    let bands = rows.bands();
-    let (mut above, mut below) = (after_last_tile(bands, top), next_tile(bands, bottom + 1));
-    'outside: while 0 < above || below < NO_TILE {
-        let (up, down) = (rows_above(rect, above), rows_below(rect, below));
-        if u64::from(M::of(0, up.min(down))) >= best.bound {
-            return best;
-        }
-        if up <= down {
-            best = nearer_of_band::<M, R>(rows, best, rect, above - 1);
-            above = after_last_tile(bands, above - 1);
-        } else {
-            best = nearer_of_band::<M, R>(rows, best, rect, below);
-            below = next_tile(bands, below + 1);
-        }
-    }
-    best
-}
-
-/// How many rows the last of the bands above lies outside the rectangle; 4097 if there is none.
-#[inline(always)]
-fn rows_above(rect: Rect, after: u16) -> u16
-    requires { after ≤ 64 }
-    ensures few { result ≤ LAST_FRAMED }
-    ensures none { after ≡ 0 → result ≡ LAST_FRAMED }
-{
-    if after == 0 {
-        LAST_FRAMED
-    } else {
-        rows_apart(rect, after - 1)
-    }
-}
-
-/// How many rows the first of the bands below lies outside the rectangle; 4097 if there is none.
-#[inline(always)]
-fn rows_below(rect: Rect, band: u16) -> u16
-    ensures few { result ≤ LAST_FRAMED }
-    ensures some { band < 64 → result < LAST_FRAMED }
-    ensures none { 64 ≤ band → result ≡ LAST_FRAMED }
-{
-    if band < NO_TILE {
-        rows_apart(rect, band)
-    } else {
-        LAST_FRAMED
-    }
-}
 
 /// A limit that leaves more rows than this is loose: it leaves many tiles.
 const LOOSE_GAP: u16 = 4 * FAR_GAP;
@@ -181,7 +76,11 @@ fn seed_beyond<M: Metric, R: Rows>(rows: &mut R, rect: Rect, limit: u64) -> Opti
         return None;
     }
     let seed = seeded::<M, R>(rows, rect, limit)?;
-    if seed <= 1 || does_pay::<M, R>(rows, rect, seed, true) {
+    if seed <= 1 {
+        return Some(seed);
+    }
+    let gap = gap_to_marks(rows, rect);
+    if !ends_soon::<M>(gap, 2 * SOON_ROWS, seed) && does_pay::<M, R>(rows, rect, seed, true) {
         Some(seed)
     } else {
         None
@@ -202,24 +101,46 @@ fn seems_far<M: Metric, R: Rows>(rows: &mut R, rect: Rect, limit: u64) -> bool
     requires rect { IsRectIn (R.cells rows.old) rect }
     ensures rows { rows.new ≡ rows.old }
 {
-    let gap = first_gap(rows.bands(), rect.y0, rect.y1 - 1, 1).min(MOST_SIDE);
+    let gap = gap_to_marks(rows, rect);
     let few = if is_wide(rect) || is_tall(rect) {
         SOON_ROWS
     } else {
         BAND_ROWS
     };
-    let end = (gap.max(FAR_GAP) + few).min(LAST_FRAMED);
-    if u64::from(M::of(0, end)) >= limit || !can_pay(rows, rect, gap) {
+    if ends_soon::<M>(gap.max(FAR_GAP), few, limit) {
         return false;
     }
-    !is_met_inside(rows, rect) && are_few_near(rows, rect) && !is_met_soon(rows, rect, gap)
+    if is_met_soon::<M, R>(rows, rect, gap, limit) || !can_pay::<M, R>(rows, rect, gap) {
+        return false;
+    }
+    if gap == 1 && is_met_inside::<M, R>(rows, rect) {
+        return false;
+    }
+    are_few_near(rows, rect)
+}
+
+/// How many rows outside the rectangle the first is that may have an obstacle: 1 if its own rows
+/// may have some.
+#[inline(always)]
+fn gap_to_marks<R: Rows>(rows: &R, rect: Rect) -> u16
+    requires rect { IsRectIn (R.cells rows.now) rect }
+    ensures some { 1 ≤ result }
+    ensures few { result ≤ MOST_SIDE }
+{
+    first_gap(rows.bands(), rect.y0, rect.y1 - 1, 1)
+}
+
+/// Whether a search by rows that is so many rows away has at most this many left.
+#[inline(always)]
+fn ends_soon<M: Metric>(gap: u16, rows: u16, limit: u64) -> bool
+    requires gap { gap ≤ MOST_SIDE }
+    requires rows { rows ≤ 64 }
+{
+    u64::from(M::of(0, (gap + rows).min(LAST_FRAMED))) >= limit
 }
 
 /// In how many rows from the first that may have an obstacle a search by rows may end soon.
 const SOON_ROWS: u16 = 8;
-
-/// How many columns outside the rectangle an obstacle ends it soon.
-const SOON_COLUMNS: u16 = 16;
 
 /// A rectangle with more columns is wide.
 const FEW_COLUMNS: u16 = 256;
@@ -242,7 +163,7 @@ fn rows_looked_at(rect: Rect) -> u16
 
 /// Whether a rectangle with many rows has an obstacle in one of the first.
 #[inline(always)]
-fn is_met_inside<R: Rows>(rows: &mut R, rect: Rect) -> bool
+fn is_met_inside<M: Metric, R: Rows>(rows: &mut R, rect: Rect) -> bool
     requires rect { IsRectIn (R.cells rows.old) rect }
     ensures rows { rows.new ≡ rows.old }
 {
@@ -250,35 +171,26 @@ fn is_met_inside<R: Rows>(rows: &mut R, rect: Rect) -> bool
         return false;
     }
     'rows: for y in rect.y0..rect.y0 + rows_looked_at(rect) {
-        let own = Rect {
-            x0: rect.x0,
-            y0: y,
-            x1: rect.x1,
-            y1: y + 1,
-        };
-        if !is_clear_beside(rows, own, 0, 1) {
+        if lowered::<M, R>(rows, rect, y, 0, 1) == 0 {
             return true;
         }
     }
     false
 }
 
-/// Whether a search by rows, once it is past the blank bands round the rectangle, which end so many
-/// rows away, soon meets an obstacle above or below it. Doesn't look for that of a wide rectangle.
-fn is_met_soon<R: Rows>(rows: &mut R, rect: Rect, gap: u16) -> bool
+/// Whether a search by rows soon ends once it is past the blank bands round the rectangle, which
+/// end so many rows away: its first rows there have an obstacle that leaves few others.
+fn is_met_soon<M: Metric, R: Rows>(rows: &mut R, rect: Rect, gap: u16, limit: u64) -> bool
     requires rect { IsRectIn (R.cells rows.old) rect }
+    requires gap { gap ≤ MOST_SIDE }
     ensures rows { rows.new ≡ rows.old }
 {
-    if gap <= FAR_GAP || is_wide(rect) {
+    if gap <= FAR_GAP {
         return false;
     }
-    let first = gap.min(MOST_SIDE - SOON_ROWS);
-    'rows: for step in 0..SOON_ROWS {
-        if !is_clear_beside(rows, rect, first + step, SOON_COLUMNS) {
-            return true;
-        }
-    }
-    false
+    let above = lowered_above::<M, R>(rows, rect, gap, limit);
+    let least = lowered_below::<M, R>(rows, rect, gap, above);
+    ends_soon::<M>(gap, SOON_ROWS, least)
 }
 
 /// The limit, or a lesser one such that some obstacle is nearer: searches the tile of which a cell
@@ -310,17 +222,20 @@ const TILES_INSIDE: u32 = 2;
 /// the first and the last.
 #[inline(always)]
 fn are_few_marked<R: Rows>(rows: &R, bands: (u16, u16), tiles: (u16, u16), most: u32) -> bool
-    requires bands { bands.1 < 64 }
+    requires top { bands.0 < 64 }
+    requires bottom { bands.1 < 64 }
     requires first { tiles.0 < 64 }
     requires last { tiles.1 < 64 }
     requires most { most ≤ 64 }
 {
-    let mut count = 0;
-    'bands: for band in bands.0..bands.1 + 1 {
+    let marked = bits_through(bits_from(rows.bands(), bands.0), bands.1);
+    let (mut count, mut band) = (0, next_tile(marked, 0));
+    'bands: while band < NO_TILE {
         count += count_marked::<R>(rows, band, tiles);
         if most < count {
             return false;
         }
+        band = next_tile(marked, band + 1);
     }
     true
 }

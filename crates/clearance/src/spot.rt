@@ -78,9 +78,36 @@ fn right_in_word<M: Metric>(
 }
 
 /// The first of the obstacles of a word, all of which are left of the rectangle's first column: its
-/// highest bit, or a lower one that is as near.
+/// highest bit, or a lower one that is as near. By the chess metric often all are: then it is the
+/// lowest.
 #[inline(always)]
 fn left_in_word<M: Metric>(
+    word: u64,
+    tile: u16,
+    y: u16,
+    rect: Rect,
+    gap: u16,
+    limit: u64,
+) -> Option<Found>
+    requires tile { tile < 64 }
+    requires gap { gap ≡ row_gap rect y }
+    requires few { gap ≤ LAST_FRAMED }
+    requires left { AreLeftOf tile word rect.x0 }
+    ensures { IsSpotBelow M.distance (IsInWord tile y word) rect limit result }
+{
+    if word == 0 {
+        return None;
+    }
+    let low = WORD_CELLS * tile + lowest_bit(word);
+    let high = WORD_CELLS * tile + highest_bit(word);
+    if M::of(rect.x0 - low, gap) == M::of(rect.x0 - high, gap) {
+        return spot_if::<M>(Cell { x: low, y }, rect.x0 - low, gap, limit);
+    }
+    left_by_bits::<M>(word, tile, y, rect, gap, limit)
+}
+
+/// As `left_in_word`, bit by bit from the highest, as long as one is as near.
+fn left_by_bits<M: Metric>(
     word: u64,
     tile: u16,
     y: u16,

@@ -33,15 +33,15 @@ gaps-preserved g c =
     let x = c.args.cell.x in
     let y = c.args.cell.y in
     let gap = c.gaps.gap in
-    let best = c.with_rows-best.result in
-    let rows : c.with_rows-best.new.rows ≡ c.args.rows.now = c.with_rows-best.ensures.rows
-    ∙ c.gaps.invariant.rows in
-    let sought = rw rows at c.with_rows-best.ensures.sought in
+    let best = c.with_row_below-best.result in
+    let rows : c.with_row_below-best.new.rows ≡ c.args.rows.now = c.with_row_below-best.ensures.rows
+    ∙ (c.with_row_above-best.ensures.rows ∙ c.gaps.invariant.rows) in
+    let sought = rw rows at c.with_row_below-best.ensures.sought in
     let before = rw (c.gaps.invariant.rows) at c.gaps.invariant.sought in
-    let thinned = rw (c.limit_of-in-gaps-2.ensures.is, rows) at c.near_bands-bands.ensures.thinned in
+    let thinned = rw (c.limit_of-in-gaps.ensures.is, rows) at c.near_bands-bands.ensures.thinned in
     let done = c.near_bands-bands.ensures.rows ∙ rows in
-    let few : limit_of best ≤ 2 ^ 32 = rw (c.limit_of-in-gaps-2.ensures.is) at
-    c.limit_of-in-gaps-2.ensures.few in
+    let few : limit_of best ≤ 2 ^ 32 = rw (c.limit_of-in-gaps.ensures.is) at
+    c.limit_of-in-gaps.ensures.few in
     let falls = limit_of-falls g.M.Metric.distance (IsObstacle cells) (IsWithin y gap)
     (IsWithin y (gap + 1)) x y c.gaps.best best (λ a b seen. omega arith) few before.near
     sought.near in

@@ -4,7 +4,7 @@ use Rattle.std.proofs.lemmas.Bool.{cases_lt}
 use Rattle.bits.specs.Cells.{IsObstacle}
 use Rattle.clearance.specs.Search.{row_gap}
 use Rattle.clearance.proofs.Searches.{IsLeastAmong-none, IsLeastAmong-more, IsLeastAmong-same}
-use Rattle.clearance.proofs.Searches.{IsFar-lower, IsLeastAmong-far}
+use Rattle.clearance.proofs.Searches.{IsLeastAmong-far}
 use Rattle.clearance.proofs.search.least_inside.Goals as goal
 
 pub inside-init : goal.inside-init
@@ -15,29 +15,25 @@ inside-init g c = record {
       (λ b row. (let low = row.0 in let high = row.1 in omega arith));
 }
 
-pub lowered_own-least-requires-clause-rect : goal.lowered_own-least-requires-clause-rect
-lowered_own-least-requires-clause-rect g c = rw (c.inside.invariant.rows) (c.requires.rect)
-
-pub lowered_own-least-requires-clause-far : goal.lowered_own-least-requires-clause-far
-lowered_own-least-requires-clause-far g c = λ less.
-    IsFar-lower (g.M.Metric.distance c.args.reach 0) c.args.limit c.inside.least
-    c.inside.invariant.least.within (c.requires.far less)
+pub lowered-least-requires : goal.lowered-least-requires
+lowered-least-requires g c =
+    rw (c.inside.invariant.rows)
+    (record { rect = c.requires; row = omega arith; gap = omega arith })
 
 pub inside-preserved : goal.inside-preserved
 inside-preserved g c =
     let y = c.inside.y in
     record {
-      rows = c.lowered_own-least.ensures.rows ∙ c.inside.invariant.rows;
+      rows = c.lowered-least.ensures.rows ∙ c.inside.invariant.rows;
       least = IsLeastAmong-more _ (IsObstacle (g.R.Rows.cells c.args.rows.now)) c.args.rect
           (λ b. (c.args.rect.y0 ≤ b) × (b < y)) (λ b. (c.args.rect.y0 ≤ b) × (b < y + 1)) y 0
-          c.args.limit c.inside.least c.lowered_own-least.result
+          c.args.limit c.inside.least c.lowered-least.result
           (omega arith) (λ b row. let low = row.0 in let high = row.1 in
           elim (cases_lt b y) [
             | inl earlier ↦ inl (low, earlier)
             | inr later ↦ inr (omega arith)
           ])
-          (rw (c.inside.invariant.rows) at c.lowered_own-least.ensures.least)
-          c.inside.invariant.least;
+          (rw (c.inside.invariant.rows) at c.lowered-least.ensures.least) c.inside.invariant.least;
     }
 
 pub returns-then-from-least-clause-least : goal.returns-then-from-least-clause-least
@@ -45,7 +41,7 @@ returns-then-from-least-clause-least g c =
     IsLeastAmong-far _ g.met.M.Metric.grows g.met.M.Metric.stays_nearer
     (g.R.Rows.cells c.args.rows.now) c.args.rect (λ b. (c.args.rect.y0 ≤ b) × (b < c.inside.y))
     (λ b. row_gap c.args.rect b < 1) 0 c.args.limit c.inside.least
-    c.requires.rect.bitmap (omega arith) (omega arith)
+    c.requires.bitmap (omega arith) (omega arith)
     (λ b row. inr (omega arith)) c.inside.invariant.least
 
 pub returns-clause-least : goal.returns-clause-least

@@ -1,24 +1,9 @@
--- The row above, and then the row below; or both are passed over.
+-- The row above, and then the row below.
 use Rattle.std.proofs.Common.{◌≡◌, ◌+◌, ◌-◌, inl, inr, arith}
 use Rattle.std.proofs.lemmas.Bool.{cases_lt}
 use Rattle.clearance.specs.Search.{row_gap}
-use Rattle.clearance.proofs.LineFirsts.{IsFirstAmong-clear, IsFirstAmong-left, IsFirstAmong-more}
-use Rattle.clearance.proofs.LineFirsts.{IsRectIn-lines, row_gap-fewer}
+use Rattle.clearance.proofs.LineFirsts.{IsFirstAmong-left, IsFirstAmong-more, row_gap-fewer}
 use Rattle.clearance.proofs.lines.Lines.first_beside.Goals as goal
-
-pub is_clear_near-requires-clause-rect : goal.is_clear_near-requires-clause-rect
-is_clear_near-requires-clause-rect g c =
-    IsRectIn-lines (g.R.Rows.cells c.args.rows.now) c.args.self c.args.end c.args.rect
-    c.requires.strip c.requires.lines
-
-pub returns-then-is_clear_near-clause-found : goal.returns-then-is_clear_near-clause-found
-returns-then-is_clear_near-clause-found g c =
-    let yes = c.if-is_clear_near.true in
-    let far = c.requires.far (c.is_clear_near.ensures.few yes) in
-    IsFirstAmong-clear g.M.Metric.distance g.met.M.Metric.grows g.met.M.Metric.stays_nearer
-    (g.R.Rows.cells c.args.rows.now) c.args.self c.args.rect
-    (λ b. row_gap c.args.rect b ≡ c.args.gap) c.args.reach c.args.end
-    c.requires.strip.bitmap c.requires.lines far.not_below (c.is_clear_near.ensures.clear yes)
 
 pub first_below-requires-clause-below : goal.first_below-requires-clause-below
 first_below-requires-clause-below g c =
@@ -39,8 +24,7 @@ pub returns-then-above-self-clause-found : goal.returns-then-above-self-clause-f
 returns-then-above-self-clause-found g c =
     IsFirstAmong-left g.M.Metric.distance (g.R.Rows.cells c.args.rows.now) c.args.self
     (λ b. b + c.args.gap ≡ c.args.rect.y0) (λ b. row_gap c.args.rect b ≡ c.args.gap)
-    c.args.end c.first_above-above.result c.if-above-self.true
-    (rw (c.is_clear_near.ensures.rows) at c.first_above-above.ensures.found)
+    c.args.end c.first_above-above.result c.if-above-self.true c.first_above-above.ensures.found
 
 pub returns-clause-found : goal.returns-clause-found
 returns-clause-found g c =
@@ -50,10 +34,8 @@ returns-clause-found g c =
     IsFirstAmong-more g.M.Metric.distance (g.R.Rows.cells c.args.rows.now) c.args.self
     (λ b. b + c.args.gap ≡ rect.y0) (λ b. b ≡ rect.y1 - 1 + c.args.gap)
     (λ b. row_gap rect b ≡ c.args.gap)
-    c.args.end c.first_above-above.result c.first_below.result
-    (rw (c.is_clear_near.ensures.rows) at c.first_above-above.ensures.found)
-    (rw (c.first_above-above.ensures.rows, c.is_clear_near.ensures.rows) at
-    c.first_below.ensures.found)
+    c.args.end c.first_above-above.result c.first_below.result c.first_above-above.ensures.found
+    (rw (c.first_above-above.ensures.rows) at c.first_below.ensures.found)
     (λ b gap. elim (cases_lt b rect.y0) [
       | inl above ↦ inl (omega arith)
       | inr below ↦ inr (omega arith)

@@ -46,8 +46,8 @@ returns-clause-found g c =
       | inr whole ↦ (k, from, omega arith, row)
     ]) c.lines.invariant.found
 
-pub first_in_own_row-next-requires-clause-own : goal.first_in_own_row-next-requires-clause-own
-first_in_own_row-next-requires-clause-own g c =
+pub first_in_row-next-requires-clause-gap : goal.first_in_row-next-requires-clause-gap
+first_in_row-next-requires-clause-gap g c =
     let inside = line_row_in c.args.self c.lines.line c.lines.left c.step_towards-y.result
     c.lines.invariant.left (
       c.lines.index,
@@ -59,22 +59,17 @@ first_in_own_row-next-requires-clause-own g c =
     let bottom = inside.1 in
     omega arith
 
-pub first_in_own_row-next-requires-clause-far : goal.first_in_own_row-next-requires-clause-far
-first_in_own_row-next-requires-clause-far g c = λ less.
-    let same = c.reach_behind-near.ensures.same less in
-    rw same (c.requires.far (rw same at less))
-
 pub lines-preserved : goal.lines-preserved
 lines-preserved g c =
     let y = c.step_towards-y.result in
-    let found = rw (c.lines.invariant.rows) at c.first_in_own_row-next.ensures.found in
+    let found = rw (c.lines.invariant.rows) at c.first_in_row-next.ensures.found in
     record {
-      rows = c.first_in_own_row-next.ensures.rows ∙ c.lines.invariant.rows;
+      rows = c.first_in_row-next.ensures.rows ∙ c.lines.invariant.rows;
       left = c.rect_left-left.ensures.lines;
       found = IsFirstAmong-more g.M.Metric.distance (g.R.Rows.cells c.args.rows.now) c.args.self
           (IsLineRow c.args.self c.lines.index) (λ b. b ≡ y)
           (IsLineRow c.args.self (c.lines.index + 1)) c.args.end c.lines.line
-          c.first_in_own_row-next.result
+          c.first_in_row-next.result
           c.lines.invariant.found found
           (λ b (k, from, before, row). elim (cases_lt k c.lines.index) [
             | inl earlier ↦ inl (k, from, earlier, row)

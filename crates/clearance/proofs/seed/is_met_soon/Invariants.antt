@@ -1,6 +1,0 @@
--- The rows stay as they are.
-use Rattle.std.proofs.Common.{◌≡◌}
-use Rattle.clearance.proofs.seed.is_met_soon.Given as goal
-
-abbrev pub invariant-rows : goal.invariant-rows
-invariant-rows g l = l.rows ≡ l.fn.rows
