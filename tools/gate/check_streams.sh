@@ -81,9 +81,9 @@ check_dist() {
     text=$(cd / && image | clearmap dist | head -n 1); expect 'another folder' $? 0 "$text" '0 1 4'
 
     # What follows a raw image is kept, so it has to fit into memory; then it is ignored.
-    text=$({ printf 'P4\n1 1\n\200'; cat /dev/zero; } | (ulimit -v 200000 && clearmap dist)); expect 'endless bytes behind a raw image' $? 1 "$text" 'ERR 5 Memory'
-    text=$({ printf 'P4\n1 1\n\200'; head -c 400000000 /dev/zero; } | (ulimit -v 200000 && clearmap dist)); expect 'too many bytes behind a raw image' $? 1 "$text" 'ERR 5 Memory'
-    text=$({ printf 'P4\n1 1\n\200'; head -c 100000 /dev/zero; } | (ulimit -v 200000 && clearmap dist)); expect 'some bytes behind a raw image' $? 0 "$text" '0'
+    text=$({ printf 'P4\n1 1\n\200'; cat /dev/zero; } | (ulimit -v 200000 && clearmap dist)); expect 'endless bytes after a raw image' $? 1 "$text" 'ERR 5 Memory'
+    text=$({ printf 'P4\n1 1\n\200'; head -c 400000000 /dev/zero; } | (ulimit -v 200000 && clearmap dist)); expect 'too many bytes after a raw image' $? 1 "$text" 'ERR 5 Memory'
+    text=$({ printf 'P4\n1 1\n\200'; head -c 100000 /dev/zero; } | (ulimit -v 200000 && clearmap dist)); expect 'some bytes after a raw image' $? 0 "$text" '0'
 }
 
 # If there is no memory for an image, one whole line says so.

@@ -140,3 +140,52 @@ fn a_failed_read_stops_the_reading(rt: HostRuntime) {
         }
     }
 }
+
+/// A raw image of ten columns, with this many bytes after it.
+fn raw_image_before(alloc: Global, after: usize) -> Result<Vec<u8>, Fail> {
+    let mut text = Vec::new(alloc);
+    text.extend_from_slice(b"P4 10 1 \x80\x7f")?;
+    for _ in 0..after {
+        text.push(b'#')?;
+    }
+    Ok(text)
+}
+
+/// How many bytes stand after a raw image: up to a block, and more.
+const AFTER: [usize; 4] = [0, 1, 65_536, 200_000];
+
+#[test]
+fn what_follows_a_raw_image_is_read(rt: HostRuntime) -> Result<(), Fail> {
+    for after in AFTER {
+        let text = raw_image_before(rt.alloc(), after)?;
+        let mut source = MemorySource::new(&text);
+        match read_source(rt.alloc(), &mut source) {
+            Ok(bitmap) => holds(
+                &rt,
+                bitmap.row_words(0) == [0x201].as_slice(),
+                ("row", after),
+            ),
+            Err(stop) => same(&rt, Some(stop), None, ("a fault", after)),
+        }
+        same(&rt, source.left().len(), 0, ("left", after));
+    }
+    Ok(())
+}
+
+/// How many bytes are read of such an image before a read fails: in its header, in its row, and
+/// after it.
+const READ: [usize; 6] = [0, 5, 9, 10, 100_000, 200_010];
+
+#[test]
+fn a_read_fails_after_a_raw_image(rt: HostRuntime) -> Result<(), Fail> {
+    let text = raw_image_before(rt.alloc(), 200_000)?;
+    for read in READ {
+        let mut source = MemorySource::new(&text).failing_at(read as u64 + 1);
+        let stop = read_source(rt.alloc(), &mut source).err();
+        same(&rt, stop, Some(ImageStop::Failed), ("read", read));
+        same(&rt, source.failed_reads(), 1, ("failed", read));
+        let left = text.len().saturating_sub(read);
+        same(&rt, source.left().len(), left, ("left", read));
+    }
+    Ok(())
+}

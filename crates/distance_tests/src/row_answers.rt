@@ -240,6 +240,22 @@ fn as_the_plain_minimum(rt: HostRuntime) -> Result<(), Fail> {
 }
 
 #[test]
+fn each_sixteenth_column_is_free(rt: HostRuntime) -> Result<(), Fail> {
+    let mut bitmap = Draws::new(16).map(rt.alloc(), 720, 3, 2)?;
+    for x in (0..bitmap.width()).step_by(16) {
+        for y in 0..bitmap.height() {
+            let cell = Cell { x, y };
+            if bitmap.holds(cell) {
+                bitmap.set(cell, false);
+            }
+        }
+    }
+    compare::<Euclid2>(&rt, rt.alloc(), &bitmap)?;
+    compare::<Chess>(&rt, rt.alloc(), &bitmap)?;
+    Ok(())
+}
+
+#[test]
 fn the_largest_distance(rt: HostRuntime) -> Result<(), Fail> {
     let bitmap = drawn(&rt, rt.alloc(), 4096, 4096, &[(0, 0)])?;
     assert!(rt; bitmap.height() == 4096);
