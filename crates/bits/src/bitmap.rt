@@ -175,8 +175,9 @@ impl Bitmap {
     /// Which bands of 64 rows may have an obstacle: where bit k is 0, rows 64 k to 64 k + 63 are
     /// blank.
     ///
-    /// A band in which an obstacle was written keeps its bit until the bitmap is cleared, or
-    /// becomes a copy of another.
+    /// A band in which an obstacle was written keeps its bit, also where its cells are free again,
+    /// until the bitmap is cleared or becomes a copy of another, or `renew_tile` takes its last
+    /// tile's.
     #[inline(always)]
     pub fn bands(&self) -> u64
         ensures { IsBanded self.now result }
@@ -187,7 +188,8 @@ impl Bitmap {
     /// Which tiles of the band may have an obstacle: where bit k is 0, columns 64 k to 64 k + 63 of
     /// rows 64 `band` to 64 `band` + 63 are blank.
     ///
-    /// A tile in which an obstacle was written keeps its bit as its band does.
+    /// A tile in which an obstacle was written keeps its bit as its band does, until `renew_tile`
+    /// writes it without any.
     #[inline(always)]
     pub fn marked_tiles(&self, band: u16) -> u64
         requires { band < 64 }
