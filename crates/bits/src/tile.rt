@@ -63,9 +63,9 @@ impl Bitmap {
         self.marks.mark(top, position % across, all_bits(words));
     }
 
-    /// Writes the cells of the tile as `put_tile` does, and takes the tile's bit if all words are 0,
-    /// and its band's if none of its tiles has a bit. A bitmap of which each tile is written so
-    /// needs no `clear` before; a bit past the edge alone, which is no cell, keeps a blank tile's.
+    /// Writes the cells of the tile as `put_tile` does, and takes the tile's bit if all words are
+    /// 0, and its band's if none of its tiles has a bit. A bitmap of which each tile is written so
+    /// needs no `clear` before; a bit past the edge, which is no cell, keeps a blank tile's.
     pub fn renew_tile(&mut self, position: u16, words: &[u64; 64])
         requires { position < tile_count self.old }
         ensures written { self.new ≡ with_tile self.old position words.now }

@@ -13,9 +13,10 @@ use crate::by_tiles::{
 use crate::far_bands::rows_apart;
 use crate::far_columns::{are_tiles_far, joined_span};
 use crate::found::Found;
-use crate::near_tile::{NearTile, nearest_tile};
+use crate::near_tile::nearest_tile;
 use crate::part::row_apart;
 use crate::rows::Rows;
+use crate::seed::LOOSE_GAP;
 use crate::spot::first_in_word;
 use crate::tiles::{NO_TILE, next_tile};
 use metric::{BAND_ROWS, Metric, Rect};
@@ -57,20 +58,18 @@ fn any_in_tile<M: Metric, R: Rows>(
     None
 }
 
-/// An obstacle in a tile, which may be none of the map, whose distance from the rectangle is below
-/// the limit; `None` if none is found.
-fn any_in_near_tile<M: Metric, R: Rows>(
-    rows: &mut R,
-    near: NearTile,
-    rect: Rect,
-    limit: u64,
-) -> Option<Found>
+/// An obstacle in the tile that may be the nearest, whose distance from the rectangle is below a
+/// loose limit; `None` if none is found. A tight limit leaves few tiles, each of them near.
+fn any_in_near_tile<M: Metric, R: Rows>(rows: &mut R, rect: Rect, limit: u64) -> Option<Found>
     requires bitmap { IsBitmap (R.cells rows.old) }
-    requires band { near.band < 64 }
     ensures any { IfSome result
         (IsNearSpot M.distance (IsObstacle (R.cells rows.old)) rect limit) }
     ensures rows { rows.new ≡ rows.old }
 {
+    if u64::from(M::of(0, LOOSE_GAP)) >= limit {
+        return None;
+    }
+    let near = nearest_tile::<M, R>(rows, rect, limit);
     if usize::from(near.tile) >= rows.across() {
         return None;
     }
@@ -100,14 +99,14 @@ fn any_in_band<M: Metric, R: Rows>(rows: &mut R, band: u16, rect: Rect, limit: u
 }
 
 /// An obstacle whose distance from the rectangle is below the limit; `None` if there is none. Looks
-/// first in the tile that may be the nearest, and then in the rectangle's first band.
+/// first in the tile that may be the nearest, if the limit is loose, and then in the rectangle's
+/// first band.
 pub fn any_by_tiles<M: Metric, R: Rows>(rows: &mut R, rect: Rect, limit: u64) -> Option<Found>
     requires bitmap { IsBitmap (R.cells rows.old) }
     ensures any { IsAnyBelow M.distance (IsObstacle (R.cells rows.old)) rect limit result }
     ensures rows { rows.new ≡ rows.old }
 {
-    let near = nearest_tile::<M, R>(rows, rect, limit);
-    if let Some(found) = any_in_near_tile::<M, R>(rows, near, rect, limit) {
+    if let Some(found) = any_in_near_tile::<M, R>(rows, rect, limit) {
         return Some(found);
     }
     let own = rect.y0 / BAND_ROWS;

@@ -16,7 +16,7 @@ use crate::tiles::{NO_TILE, is_marked_tile, next_tile};
 use metric::{BAND_ROWS, LAST_FRAMED, MOST_SIDE, Metric, Rect, WORD_CELLS};
 
 /// A limit that leaves more rows than this is loose: it leaves many tiles.
-const LOOSE_GAP: u16 = 4 * FAR_GAP;
+pub const LOOSE_GAP: u16 = 4 * FAR_GAP;
 
 /// A limit for a search by tiles, if that pays: if obstacles seem to be far away, marks don't
 /// mislead, and few tiles are to be searched.
