@@ -97,6 +97,26 @@ pub fn read_path(alloc: Global, rest: Option<&[u8]>) -> Result<Vec<Cell>, Refusa
         → path_of (points (words_left rest.entry)) ≡ Err refusal) }
     ensures memory { result ≡ Err Refusal.Memory → IsOk (path_of (points (words_left rest.entry))) }
 {
+    if is_short(rest) {
+        let mut cells = [Cell { x: 0, y: 0 }; FEW_POINTS];
+        let Some(count) = read_points(rest, &mut cells) else {
+            return Err(Refusal::BadArguments);
+        };
+        if count <= FEW_POINTS {
+            return kept_path(alloc, &cells[..count]);
+        }
+    }
+    read_long_path(alloc, rest)
+}
+
+/// As `read_path`, of a line that may have many points.
+fn read_long_path(alloc: Global, rest: Option<&[u8]>) -> Result<Vec<Cell>, Refusal>
+    ensures cells { IfOk result (λ cells. path_of (points (words_left rest.entry))
+        ≡ Ok cells.items) }
+    ensures refusal { IfErr result (λ refusal. refusal ≢ Refusal.Memory
+        → path_of (points (words_left rest.entry)) ≡ Err refusal) }
+    ensures memory { result ≡ Err Refusal.Memory → IsOk (path_of (points (words_left rest.entry))) }
+{
     let mut cells = [Cell { x: 0, y: 0 }; MOST_POINTS];
     let Some(count) = read_points(rest, &mut cells) else {
         return Err(Refusal::BadArguments);
@@ -106,4 +126,30 @@ pub fn read_path(alloc: Global, rest: Option<&[u8]>) -> Result<Vec<Cell>, Refusa
     }
     let cells = Vec::from_slice(alloc, &cells[..count])?;
     Ok(cells)
+}
+
+/// The most points of a line that is short.
+const FEW_POINTS: usize = 64;
+
+/// Whether the rest of a line is too short for more points than a few: a small buffer, which takes
+/// less time to clear, has room for them.
+fn is_short(rest: Option<&[u8]>) -> bool {
+    match rest {
+        Some(words) => words.len() < 4 * FEW_POINTS,
+        None => true,
+    }
+}
+
+/// These points, if a path may have so many.
+fn kept_path(alloc: Global, cells: &[Cell]) -> Result<Vec<Cell>, Refusal>
+    ensures cells { IfOk result (λ kept. path_of (Some cells.now) ≡ Ok kept.items) }
+    ensures refusal { IfErr result (λ refusal. refusal ≢ Refusal.Memory
+        → path_of (Some cells.now) ≡ Err refusal) }
+    ensures memory { result ≡ Err Refusal.Memory → IsOk (path_of (Some cells.now)) }
+{
+    if cells.is_empty() || cells.len() > MOST_POINTS {
+        return Err(Refusal::BadPath);
+    }
+    let kept = Vec::from_slice(alloc, cells)?;
+    Ok(kept)
 }
