@@ -214,6 +214,15 @@ IsSpotBelow-right distance stays rect tile y word gap limit bit next gap_is few 
     ]))
     is
 
+-- a bit of a word, all of whose cells are left of a column, is a cell left of it
+pub bit-left_of : (tile word x bit : ℕ) → bit < 64 → bit_at word bit ≡ 1 → AreLeftOf tile word x
+    → 64 * tile + bit < x
+bit-left_of tile word x bit in_word one left =
+    let place : (64 * tile + bit) / 64 ≡ tile = omega arith in
+    let part : (64 * tile + bit) % 64 ≡ bit = omega arith in
+    let marked : bit_at word ((64 * tile + bit) % 64) ≡ 1 = rw part one in
+    left (64 * tile + bit) place marked
+
 -- where the lowest of a word's bits, all of which are left, is as near as the highest, it is first
 pub IsSpotBelow-tied : (distance : ℕ → ℕ → ℕ) → StaysNearer distance
     → (rect : Rect) (tile y word gap limit low high : ℕ) (next : Option Found)
@@ -228,11 +237,8 @@ IsSpotBelow-tied distance stays rect tile y word gap limit low high next gap_is 
     let place : (64 * tile + low) / 64 ≡ tile = omega arith in
     let part : (64 * tile + low) % 64 ≡ low = omega arith in
     let marked : bit_at word ((64 * tile + low) % 64) ≡ 1 = rw part low_one in
-    let high_place : (64 * tile + high) / 64 ≡ tile = omega arith in
-    let high_part : (64 * tile + high) % 64 ≡ high = omega arith in
-    let high_marked : bit_at word ((64 * tile + high) % 64) ≡ 1 = rw high_part high_one in
-    let inside : 64 * tile + low < rect.x0 = left (64 * tile + low) place marked in
-    let high_inside : 64 * tile + high < rect.x0 = left (64 * tile + high) high_place high_marked in
+    let inside = bit-left_of tile word rect.x0 low low_in low_one left in
+    let high_inside = bit-left_of tile word rect.x0 high high_in high_one left in
     let columns = rect.has_cells.columns in
     let right = rect.has_cells.right in
     let across : rect.x0 - (64 * tile + low) ≡ column_gap rect (64 * tile + low) = omega arith in
@@ -319,10 +325,7 @@ pub IsSpotBelow-left_far : (distance : ℕ → ℕ → ℕ) → StaysNearer dist
 IsSpotBelow-left_far distance stays rect tile y word gap limit end bit best gap_is few left last far
     before =
     let in_word = last.1 in
-    let place : (64 * tile + bit) / 64 ≡ tile = omega arith in
-    let part : (64 * tile + bit) % 64 ≡ bit = omega arith in
-    let marked : bit_at word ((64 * tile + bit) % 64) ≡ 1 = rw part (last.2) in
-    let inside : 64 * tile + bit < rect.x0 = left (64 * tile + bit) place marked in
+    let inside = bit-left_of tile word rect.x0 bit in_word last.2 left in
     IsSpotBelow-merged distance (λ a b. IsInWord tile y word a b × (end ≤ a % 64))
     (λ a b. IsInWord tile y word a b × (a % 64 < end))
     (IsInWord tile y word) rect limit best None best

@@ -47,8 +47,19 @@ pub fn is_clear_within<M: Metric, R: Rows>(rows: &mut R, rect: Rect, reach: u16)
 pub fn ends_at_once<M: Metric, R: Rows>(rows: &R, rect: Rect, limit: u64) -> bool
     requires { IsRectIn (R.cells rows.now) rect }
 {
-    let gap = first_gap(rows.bands(), rect.y0, rect.y1 - 1, 1);
+    let gap = gap_to_marks(rows, rect);
     1 < gap && u64::from(M::of(0, gap)) >= limit
+}
+
+/// How many rows outside the rectangle the first is that may have an obstacle: 1 if its own rows
+/// may have some.
+#[inline(always)]
+pub fn gap_to_marks<R: Rows>(rows: &R, rect: Rect) -> u16
+    requires rect { IsRectIn (R.cells rows.now) rect }
+    ensures some { 1 ≤ result }
+    ensures few { result ≤ MOST_SIDE }
+{
+    first_gap(rows.bands(), rect.y0, rect.y1 - 1, 1)
 }
 
 /// The least number of columns and rows, below 32, such that cells as far away are no nearer than

@@ -5,9 +5,9 @@ ghost use Rattle.bits.specs.Cells.{IsBitmap};
 ghost use Rattle.clearance.specs.Search.{IsRectIn};
 ghost use Rattle.clearance.specs.Spots.{IsSeed};
 
-use crate::band::first_gap;
 use crate::bit::{bits_from, bits_through};
 use crate::by_tiles::first_in_tile;
+use crate::clear::gap_to_marks;
 use crate::cost::{can_pay, count_marked, does_pay, places_near};
 use crate::near_tile::nearest_tile;
 use crate::rows::Rows;
@@ -117,17 +117,6 @@ fn seems_far<M: Metric, R: Rows>(rows: &mut R, rect: Rect, limit: u64) -> bool
         return false;
     }
     are_few_near(rows, rect)
-}
-
-/// How many rows outside the rectangle the first is that may have an obstacle: 1 if its own rows
-/// may have some.
-#[inline(always)]
-fn gap_to_marks<R: Rows>(rows: &R, rect: Rect) -> u16
-    requires rect { IsRectIn (R.cells rows.now) rect }
-    ensures some { 1 ≤ result }
-    ensures few { result ≤ MOST_SIDE }
-{
-    first_gap(rows.bands(), rect.y0, rect.y1 - 1, 1)
 }
 
 /// Whether a search by rows that is so many rows away has at most this many left.

@@ -15,6 +15,9 @@ use std::alloc::Global;
 /// The most points of a path.
 const MOST_POINTS: usize = 1000;
 
+/// The most points of a line that is short.
+const FEW_POINTS: usize = 64;
+
 /// A coordinate; one over 16 bits reads as 65535.
 pub fn coordinate(number: u32) -> u16
     ensures { result ≡ coordinate number }
@@ -121,15 +124,11 @@ fn read_long_path(alloc: Global, rest: Option<&[u8]>) -> Result<Vec<Cell>, Refus
     let Some(count) = read_points(rest, &mut cells) else {
         return Err(Refusal::BadArguments);
     };
-    if count == 0 || count > MOST_POINTS {
+    if count > MOST_POINTS {
         return Err(Refusal::BadPath);
     }
-    let cells = Vec::from_slice(alloc, &cells[..count])?;
-    Ok(cells)
+    kept_path(alloc, &cells[..count])
 }
-
-/// The most points of a line that is short.
-const FEW_POINTS: usize = 64;
 
 /// Whether the rest of a line is too short for more points than a few: a small buffer, which takes
 /// less time to clear, has room for them.
