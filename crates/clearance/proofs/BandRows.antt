@@ -90,14 +90,14 @@ IsLeastWithin-passed distance cells rect gap next limit least bitmap some is bef
     (row_gap-passed cells rect gap next bitmap some is) before
 
 -- nor one that could be nearer than the best
-pub IsNearAmong-passed : (distance : ℕ → ℕ → ℕ) (cells : Cells) (x y gap next : ℕ)
+pub IsNearAmong-passed : (distance : ℕ → ℕ → ℕ) (cells : Cells) (x y gap next limit : ℕ)
     (best : Option Found) → IsBitmap cells
     → IsNextGap (λ b. (a : ℕ) × IsObstacle cells a b) y y gap next
-    → IsNearAmong distance (IsObstacle cells) (IsWithin y gap) x y best
-    → IsNearAmong distance (IsObstacle cells) (IsWithin y next) x y best
-IsNearAmong-passed distance cells x y gap next best bitmap is before =
+    → IsNearAmong distance (IsObstacle cells) (IsWithin y gap) x y limit best
+    → IsNearAmong distance (IsObstacle cells) (IsWithin y next) x y limit best
+IsNearAmong-passed distance cells x y gap next limit best bitmap is before =
     let from = is.from in
-    IsNearAmong-same distance (IsObstacle cells) (IsWithin y gap) (IsWithin y next) x y best
+    IsNearAmong-same distance (IsObstacle cells) (IsWithin y gap) (IsWithin y next) x y limit best
     (λ a b obstacle seen. omega arith)
     (λ a b obstacle near.
     let last = (obstacle_within cells bitmap a b obstacle).3 in

@@ -1,6 +1,7 @@
 -- The nearest of a map with its frame, from that of the frame and that of the map, and the least
 -- over a rectangle likewise.
-use Rattle.std.proofs.Common.{◌≡◌, ℕ, zero, suc, ◌+◌, ◌-◌, ◌<◌, ◌≤◌, ℤ, pos, negsuc, Some, None}
+use Rattle.std.proofs.Common.{◌≡◌, ℕ, zero, suc, ◌+◌, ◌-◌, ◌^◌, ◌<◌, ◌≤◌, ℤ, pos, negsuc, Some}
+use Rattle.std.proofs.Common.{None}
 use Rattle.std.proofs.Common.{Option, IfSome, inl, inr, refl, sym, ap, subst, ◌∙◌, arith}
 use Rattle.std.specs.Int.{abs_diff}
 use Rattle.std.proofs.lemmas.Bool.{cases_lt}
@@ -24,7 +25,9 @@ use Rattle.clearance.specs.declared.part.Part.TheVariants.{Frame}
 use Rattle.clearance.specs.Rows.{IsFar}
 use Rattle.clearance.specs.Search.{IsInRect, IsLeastBelow, IsLeastInBits, IsReachedFrom}
 use Rattle.clearance.proofs.Searches.{IsFar-lower}
-use Rattle.clearance.specs.Frames.{IsBetterOfBoth, IsFoundBelow, IsLoweredByFrame, key_found}
+use Rattle.clearance.specs.Firsts.{IsCellNear}
+use Rattle.clearance.specs.Frames.{IsBetterOfBoth, IsLoweredByFrame, key_found}
+use Rattle.clearance.specs.Nearest.{IsFoundBelow}
 use Rattle.clearance.specs.Frames.{counted_with_frame}
 
 -- a key by its parts
@@ -119,7 +122,7 @@ best_framed d cells x y frame None best of_frame none is =
       least = both_framed d cells x y frame.cell.x frame.cell.y (record {
         frame = of_frame.least;
         own = λ c e black.
-            let far = none c e black in
+            let far = (none c e black).not_below in
             let dist = of_frame.distance_is in
             let there = moved_distance d x y c e in
             record { order = inl (omega arith) };
@@ -408,3 +411,26 @@ IsLeastBelow-open d cells rect limit least is = record {
         distance_is = reached.distance_is;
       };
 }
+
+-- where none of the own obstacles is below the limit, no spot of an open map is
+open_none : (d : ℕ → ℕ → ℕ) (cells : Cells) (x y limit : ℕ)
+    → IsFoundBelow d (IsObstacle cells) x y limit None
+    → (a b : ℤ) → IsBlocked cells Open a b → IsFar (spot_distance d x y a b) limit
+open_none d cells x y limit none (pos a) (pos b) black = none a b black
+open_none d cells x y limit none (pos a) (negsuc b) black = absurd black
+open_none d cells x y limit none (negsuc a) b black = absurd black
+
+-- where none is below a limit that one is below, or that is above every distance, there is none
+pub IsNear-none : (d : ℕ → ℕ → ℕ) (cells : Cells) (x y limit : ℕ)
+    → (limit < 2 ^ 32 → IsCellNear d (IsBlocked cells Open) limit x y)
+    → IsFoundBelow d (IsObstacle cells) x y limit None
+    → (a b : ℤ) → IsBlocked cells Open a b → ⊥
+IsNear-none d cells x y limit one none a b black = elim (cases_lt limit (2 ^ 32)) [
+  | inl small ↦
+      let near = one small in
+      let far = (open_none d cells x y limit none near.a near.b near.obstacle).not_below in
+      let less = near.nearer in
+      absurd (omega arith)
+  | inr large ↦
+      let small = (open_none d cells x y limit none a b black).is_limit in absurd (omega arith)
+]

@@ -15,7 +15,7 @@ use Rattle.metric.specs.declared.rect.Rect.{Rect}
 use Rattle.clearance.specs.Bands.{IsMarkedRow, IsNextGap}
 use Rattle.clearance.specs.Search.{column_gap, row_gap}
 use Rattle.clearance.specs.declared.found.Found.{Found}
-use Rattle.clearance.specs.Nearest.{IsFound, IsNearCell, IsNearAmong, limit_of, IsWithin}
+use Rattle.clearance.specs.Nearest.{IsFound, IsFoundBelow, IsNearAmong, limit_with, IsWithin}
 use Rattle.clearance.specs.Nearest.{IsWithinOrAbove, IsRowFirst, IsRowUpTo, IsSeenInRow, IsAhead}
 use Rattle.clearance.specs.Nearest.{IsBetter, IsCellRect}
 use Rattle.clearance.proofs.RowSearches.{mark_within}
@@ -24,32 +24,32 @@ use Rattle.clearance.proofs.Searches.{marked_obstacle, obstacle_marked, obstacle
 use Rattle.clearance.proofs.Searches.{unmarked_row}
 
 -- the obstacles that have been searched, restated
-pub IsNearAmong-same : (distance : ℕ → ℕ → ℕ) (Obstacle IsSeen IsNext : ℕ → ℕ → Type 0) (x y : ℕ)
-    (best : Option Found)
+pub IsNearAmong-same : (distance : ℕ → ℕ → ℕ) (Obstacle IsSeen IsNext : ℕ → ℕ → Type 0)
+    (x y limit : ℕ) (best : Option Found)
     → ((a b : ℕ) → Obstacle a b → IsSeen a b → IsNext a b)
     → ((a b : ℕ) → Obstacle a b → IsNext a b → IsSeen a b)
-    → IsNearAmong distance Obstacle IsSeen x y best → IsNearAmong distance Obstacle IsNext x y best
-IsNearAmong-same distance Obstacle IsSeen IsNext x y None there back none =
+    → IsNearAmong distance Obstacle IsSeen x y limit best
+    → IsNearAmong distance Obstacle IsNext x y limit best
+IsNearAmong-same distance Obstacle IsSeen IsNext x y limit None there back none =
     λ a b both. none a b (both.0, back a b both.0 both.1)
-IsNearAmong-same distance Obstacle IsSeen IsNext x y (Some near) there back is = record {
+IsNearAmong-same distance Obstacle IsSeen IsNext x y limit (Some near) there back is = record {
   obstacle = (is.obstacle.0, there near.cell.x near.cell.y is.obstacle.0 is.obstacle.1);
   distance_is = is.distance_is;
   least = λ a b both. is.least a b (both.0, back a b both.0 both.1);
 }
 
 -- obstacles that are far leave the best as it is
-IsNearAmong-far : (distance : ℕ → ℕ → ℕ) (Obstacle IsSeen IsNext : ℕ → ℕ → Type 0) (x y : ℕ)
-    (best : Option Found)
+IsNearAmong-far : (distance : ℕ → ℕ → ℕ) (Obstacle IsSeen IsNext : ℕ → ℕ → Type 0)
+    (x y limit : ℕ) (best : Option Found)
     → ((a b : ℕ) → Obstacle a b → IsSeen a b → IsNext a b)
     → ((a b : ℕ) → Obstacle a b → IsNext a b → IsSeen a b
-    ⊎ IsFar (distance_between distance x y a b) (limit_of best))
-    → IsNearAmong distance Obstacle IsSeen x y best → IsNearAmong distance Obstacle IsNext x y best
-IsNearAmong-far distance Obstacle IsSeen IsNext x y None there back none =
-    λ a b both. elim (back a b both.0 both.1) [
-      | inl seen ↦ none a b (both.0, seen)
-      | inr far ↦ let small = far.is_limit in absurd (omega arith)
-    ]
-IsNearAmong-far distance Obstacle IsSeen IsNext x y (Some near) there back is = record {
+    ⊎ IsFar (distance_between distance x y a b) (limit_with limit best))
+    → IsNearAmong distance Obstacle IsSeen x y limit best
+    → IsNearAmong distance Obstacle IsNext x y limit best
+IsNearAmong-far distance Obstacle IsSeen IsNext x y limit None there back none =
+    λ a b both. elim (back a b both.0 both.1)
+    [ inl seen ↦ none a b (both.0, seen) | inr far ↦ far ]
+IsNearAmong-far distance Obstacle IsSeen IsNext x y limit (Some near) there back is = record {
   obstacle = (is.obstacle.0, there near.cell.x near.cell.y is.obstacle.0 is.obstacle.1);
   distance_is = is.distance_is;
   least = λ a b both. elim (back a b both.0 both.1) [
@@ -60,13 +60,13 @@ IsNearAmong-far distance Obstacle IsSeen IsNext x y (Some near) there back is = 
 }
 
 -- once all obstacles have been searched, the best is the nearest
-IsNearAmong-all : (distance : ℕ → ℕ → ℕ) (Obstacle IsSeen : ℕ → ℕ → Type 0) (x y : ℕ)
+IsNearAmong-all : (distance : ℕ → ℕ → ℕ) (Obstacle IsSeen : ℕ → ℕ → Type 0) (x y limit : ℕ)
     (best : Option Found)
-    → ((a b : ℕ) → Obstacle a b → IsSeen a b) → IsNearAmong distance Obstacle IsSeen x y best
-    → IsNearCell distance Obstacle x y best
-IsNearAmong-all distance Obstacle IsSeen x y None all none =
+    → ((a b : ℕ) → Obstacle a b → IsSeen a b) → IsNearAmong distance Obstacle IsSeen x y limit best
+    → IsFoundBelow distance Obstacle x y limit best
+IsNearAmong-all distance Obstacle IsSeen x y limit None all none =
     λ a b obstacle. none a b (obstacle, all a b obstacle)
-IsNearAmong-all distance Obstacle IsSeen x y (Some near) all is = record {
+IsNearAmong-all distance Obstacle IsSeen x y limit (Some near) all is = record {
   obstacle = is.obstacle.0;
   distance_is = is.distance_is;
   least = λ a b obstacle. is.least a b (obstacle, all a b obstacle);
@@ -116,25 +116,29 @@ behind_at_most distance x y one other one_is other_is behind = elim (cases_lt ot
 ]
 
 -- one obstacle more, in a row that isn't before those that have been searched
-IsNearAmong-more : (distance : ℕ → ℕ → ℕ) (Obstacle IsSeen IsNext : ℕ → ℕ → Type 0) (x y : ℕ)
-    (best : Option Found) (next better : Found)
+IsNearAmong-more : (distance : ℕ → ℕ → ℕ) (Obstacle IsSeen IsNext : ℕ → ℕ → Type 0)
+    (x y limit : ℕ) (best : Option Found) (next better : Found)
     → Obstacle next.cell.x next.cell.y → IsNext next.cell.x next.cell.y
     → next.dist ≡ distance_between distance x y next.cell.x next.cell.y
+    → next.dist < limit_with limit best
     → ((a b : ℕ) → IsSeen a b → IsNext a b)
     → ((a b : ℕ) → Obstacle a b → IsNext a b → IsSeen a b
     ⊎ IsAtMost (key_of distance x y next.cell.x next.cell.y) (key_of distance x y a b))
     → ((a b : ℕ) → IsSeen a b → IsNoLater y next.cell.y b)
-    → IsBetter best next better → IsNearAmong distance Obstacle IsSeen x y best
+    → IsBetter best next better → IsNearAmong distance Obstacle IsSeen x y limit best
     → IsFound distance (λ a b. Obstacle a b × IsNext a b) x y better
-IsNearAmong-more distance Obstacle IsSeen IsNext x y None next better obstacle is_next dist there
-    back rows is none = rw is (record {
+IsNearAmong-more distance Obstacle IsSeen IsNext x y limit None next better obstacle is_next dist
+    near there back rows is none = rw is (record {
       obstacle = (obstacle, is_next);
       distance_is = dist;
-      least = λ a b both. elim (back a b both.0 both.1)
-          [ inl seen ↦ absurd (none a b (both.0, seen)) | inr most ↦ most ];
+      least = λ a b both. elim (back a b both.0 both.1) [
+        | inl seen ↦
+            let far = (none a b (both.0, seen)).not_below in record { order = inl (omega arith) }
+        | inr most ↦ most
+      ];
     })
-IsNearAmong-more distance Obstacle IsSeen IsNext x y
-    (Some best) next better obstacle is_next dist there back rows (inl kept) before =
+IsNearAmong-more distance Obstacle IsSeen IsNext x y limit
+    (Some best) next better obstacle is_next dist near there back rows (inl kept) before =
     let ahead = ahead_at_most distance x y best next before.distance_is dist
     (rows best.cell.x best.cell.y before.obstacle.1) kept.1 in
     rw (kept.0) (record {
@@ -146,8 +150,8 @@ IsNearAmong-more distance Obstacle IsSeen IsNext x y
             (key_of distance x y a b) ahead most
       ];
     })
-IsNearAmong-more distance Obstacle IsSeen IsNext x y
-    (Some best) next better obstacle is_next dist there back rows (inr taken) before =
+IsNearAmong-more distance Obstacle IsSeen IsNext x y limit
+    (Some best) next better obstacle is_next dist near there back rows (inr taken) before =
     let ahead = behind_at_most distance x y best next before.distance_is dist taken.1 in
     rw (taken.0) (record {
       obstacle = (obstacle, is_next);
@@ -158,6 +162,11 @@ IsNearAmong-more distance Obstacle IsSeen IsNext x y
         | inr most ↦ most
       ];
     })
+
+-- what is nearer than the limit, by its distance
+nearer_of : (distance : ℕ → ℕ → ℕ) (columns gap dist limit : ℕ) → dist ≡ distance columns gap
+    → distance columns gap < limit → dist < limit
+nearer_of distance columns gap dist limit is less = rw is less
 
 -- of two obstacles of a row the one that is no farther, and not to the right, has the lesser key
 row_at_most : (distance : ℕ → ℕ → ℕ) (x y a c row : ℕ)
@@ -179,26 +188,29 @@ row_at_most distance x y a c row nearer left =
 
 -- the first obstacle of the row from the cell's column on is the nearest of them
 pub IsNearAmong-right : (distance : ℕ → ℕ → ℕ) → StaysNearer distance
-    → (cells : Cells) (x y row gap limit dist column : ℕ) (words : List ℕ) (best : Option Found)
-    (better : Found)
+    → (cells : Cells) (x y row gap most limit dist column : ℕ) (words : List ℕ)
+    (best : Option Found) (better : Found)
     → IsBitmap cells → x < cells.width → y < cells.height → row < cells.height
     → IsRowOf cells row words → length words ≤ 64 → gap ≡ abs_diff y row
+    → limit ≡ limit_with most best
     → IsFirstMark distance words x x gap limit column → dist ≡ distance (column - x) gap
     → IsBetter best (record { dist = dist; cell = record { x = column; y = row } }) better
-    → IsNearAmong distance (IsObstacle cells) (λ a b. IsRowFirst y row b) x y best
+    → IsNearAmong distance (IsObstacle cells) (λ a b. IsRowFirst y row b) x y most best
     → IsFound distance (λ a b. IsObstacle cells a b × IsSeenInRow y row (λ a'. x ≤ a') a b) x y
     better
-IsNearAmong-right distance stays cells x y row gap limit dist column words best better bitmap
-    inside_x inside_y inside_row is_row few gap_is mark dist_is is before =
+IsNearAmong-right distance stays cells x y row gap most limit dist column words best better bitmap
+    inside_x inside_y inside_row is_row few gap_is limit_is mark dist_is is before =
     let order = mark.order in
+    let nearer = mark.nearer in
     let across : column - x ≡ abs_diff x column = omega arith in
     let between : dist ≡ distance_between distance x y column row = dist_is
     ∙ (ap (λ (n : ℕ). distance n gap) across ∙ ap (distance (abs_diff x column)) gap_is) in
     let high = bitmap.height_is.few in
     IsNearAmong-more distance (IsObstacle cells) (λ a b. IsRowFirst y row b)
-    (IsSeenInRow y row (λ a'. x ≤ a')) x y best
+    (IsSeenInRow y row (λ a'. x ≤ a')) x y most best
     (record { dist = dist; cell = record { x = column; y = row } }) better
     (marked_obstacle cells row words column is_row mark.marked) (inr (refl, order)) between
+    (rw limit_is at (nearer_of distance (column - x) gap dist limit dist_is nearer))
     (λ a b seen. inl seen)
     (λ a b obstacle next. elim next [
       | inl seen ↦ inl seen
@@ -225,16 +237,17 @@ IsNearAmong-right distance stays cells x y row gap limit dist column words best 
     is before
 
 -- where no obstacle from the cell's column on is near, the best stays
-pub IsNearAmong-right_none : (distance : ℕ → ℕ → ℕ) (cells : Cells) (x y row gap limit : ℕ)
+pub IsNearAmong-right_none : (distance : ℕ → ℕ → ℕ) (cells : Cells) (x y row gap most limit : ℕ)
     (words : List ℕ) (best : Option Found)
-    → IsBitmap cells → IsRowOf cells row words → gap ≡ abs_diff y row → limit ≡ limit_of best
+    → IsBitmap cells → IsRowOf cells row words → gap ≡ abs_diff y row
+    → limit ≡ limit_with most best
     → IsNextNearer distance words x x gap limit None
-    → IsNearAmong distance (IsObstacle cells) (λ a b. IsRowFirst y row b) x y best
-    → IsNearAmong distance (IsObstacle cells) (IsSeenInRow y row (λ a. x ≤ a)) x y best
-IsNearAmong-right_none distance cells x y row gap limit words best bitmap is_row gap_is limit_is
-    none before =
+    → IsNearAmong distance (IsObstacle cells) (λ a b. IsRowFirst y row b) x y most best
+    → IsNearAmong distance (IsObstacle cells) (IsSeenInRow y row (λ a. x ≤ a)) x y most best
+IsNearAmong-right_none distance cells x y row gap most limit words best bitmap is_row gap_is
+    limit_is none before =
     IsNearAmong-far distance (IsObstacle cells) (λ a b. IsRowFirst y row b)
-    (IsSeenInRow y row (λ a. x ≤ a)) x y best (λ a b obstacle seen. inl seen)
+    (IsSeenInRow y row (λ a. x ≤ a)) x y most best (λ a b obstacle seen. inl seen)
     (λ a b obstacle next. elim next [
       | inl seen ↦ inl seen
       | inr here ↦
@@ -254,23 +267,27 @@ IsNearAmong-right_none distance cells x y row gap limit words best bitmap is_row
 
 -- the last obstacle of the row before those that have been searched
 pub IsNearAmong-left : (distance : ℕ → ℕ → ℕ) (cells : Cells)
-    (x y row gap limit dist column end : ℕ) (words : List ℕ) (best : Option Found) (better : Found)
+    (x y row gap most limit dist column end : ℕ) (words : List ℕ) (best : Option Found)
+    (better : Found)
     → IsBitmap cells → end ≤ x → IsRowOf cells row words → gap ≡ abs_diff y row
+    → limit ≡ limit_with most best
     → IsLastMark distance words end x gap limit column → dist ≡ distance (x - column) gap
     → IsBetter best (record { dist = dist; cell = record { x = column; y = row } }) better
-    → IsNearAmong distance (IsObstacle cells) (IsSeenInRow y row (λ a. end ≤ a)) x y best
+    → IsNearAmong distance (IsObstacle cells) (IsSeenInRow y row (λ a. end ≤ a)) x y most best
     → IsFound distance (λ a b. IsObstacle cells a b × IsSeenInRow y row (λ a'. column ≤ a') a b) x y
     better
-IsNearAmong-left distance cells x y row gap limit dist column end words best better bitmap left
-    is_row gap_is mark dist_is is before =
+IsNearAmong-left distance cells x y row gap most limit dist column end words best better bitmap left
+    is_row gap_is limit_is mark dist_is is before =
     let order = mark.order in
+    let nearer = mark.nearer in
     let across : x - column ≡ abs_diff x column = omega arith in
     let between : dist ≡ distance_between distance x y column row = dist_is
     ∙ (ap (λ (n : ℕ). distance n gap) across ∙ ap (distance (abs_diff x column)) gap_is) in
     IsNearAmong-more distance (IsObstacle cells) (IsSeenInRow y row (λ a. end ≤ a))
-    (IsSeenInRow y row (λ a'. column ≤ a')) x y best
+    (IsSeenInRow y row (λ a'. column ≤ a')) x y most best
     (record { dist = dist; cell = record { x = column; y = row } }) better
     (marked_obstacle cells row words column is_row mark.marked) (inr (refl, omega arith)) between
+    (rw limit_is at (nearer_of distance (x - column) gap dist limit dist_is nearer))
     (λ a b seen. elim seen [
       | inl earlier ↦ inl earlier
       | inr here ↦ inr (here.0, let behind = here.1 in omega arith)
@@ -305,17 +322,17 @@ IsNearAmong-left distance cells x y row gap limit dist column end words best bet
 
 -- where no obstacle before those that have been searched is near, the best stays, and the row is
 -- done
-pub IsNearAmong-left_none : (distance : ℕ → ℕ → ℕ) (cells : Cells) (x y row gap limit end : ℕ)
-    (words : List ℕ) (best : Option Found)
+pub IsNearAmong-left_none : (distance : ℕ → ℕ → ℕ) (cells : Cells)
+    (x y row gap most limit end : ℕ) (words : List ℕ) (best : Option Found)
     → IsBitmap cells → end ≤ x → IsRowOf cells row words → gap ≡ abs_diff y row
-    → limit ≡ limit_of best
+    → limit ≡ limit_with most best
     → IsLastNearer distance words end x gap limit None
-    → IsNearAmong distance (IsObstacle cells) (IsSeenInRow y row (λ a. end ≤ a)) x y best
-    → IsNearAmong distance (IsObstacle cells) (IsRowUpTo y row) x y best
-IsNearAmong-left_none distance cells x y row gap limit end words best bitmap left is_row gap_is
+    → IsNearAmong distance (IsObstacle cells) (IsSeenInRow y row (λ a. end ≤ a)) x y most best
+    → IsNearAmong distance (IsObstacle cells) (IsRowUpTo y row) x y most best
+IsNearAmong-left_none distance cells x y row gap most limit end words best bitmap left is_row gap_is
     limit_is none before =
     IsNearAmong-far distance (IsObstacle cells) (IsSeenInRow y row (λ a. end ≤ a))
-    (IsRowUpTo y row) x y best
+    (IsRowUpTo y row) x y most best
     (λ a b obstacle seen. elim seen [ inl earlier ↦ inl earlier | inr here ↦ inr here.0 ])
     (λ a b obstacle next. elim next [
       | inl seen ↦ inl (inl seen)
@@ -336,14 +353,14 @@ IsNearAmong-left_none distance cells x y row gap limit end words best bitmap lef
     before
 
 -- a row without an obstacle is done
-pub IsNearAmong-blank : (distance : ℕ → ℕ → ℕ) (cells : Cells) (x y row : ℕ) (words : List ℕ)
-    (best : Option Found) → IsBitmap cells → IsRowOf cells row words
+pub IsNearAmong-blank : (distance : ℕ → ℕ → ℕ) (cells : Cells) (x y row limit : ℕ)
+    (words : List ℕ) (best : Option Found) → IsBitmap cells → IsRowOf cells row words
     → ((k : ℕ) → k < length words → get_or words k 0 ≡ 0)
-    → IsNearAmong distance (IsObstacle cells) (λ a b. IsRowFirst y row b) x y best
-    → IsNearAmong distance (IsObstacle cells) (IsRowUpTo y row) x y best
-IsNearAmong-blank distance cells x y row words best bitmap is_row blank =
+    → IsNearAmong distance (IsObstacle cells) (λ a b. IsRowFirst y row b) x y limit best
+    → IsNearAmong distance (IsObstacle cells) (IsRowUpTo y row) x y limit best
+IsNearAmong-blank distance cells x y row limit words best bitmap is_row blank =
     IsNearAmong-same distance (IsObstacle cells) (λ a b. IsRowFirst y row b)
-    (IsRowUpTo y row) x y best (λ a b obstacle seen. inl seen)
+    (IsRowUpTo y row) x y limit best (λ a b obstacle seen. inl seen)
     (λ a b obstacle next. elim next [
       | inl seen ↦ seen
       | inr here ↦
@@ -354,13 +371,13 @@ IsNearAmong-blank distance cells x y row words best bitmap is_row blank =
     ])
 
 -- where no other row is this many rows away, those up to this many rows away have been searched
-pub IsNearAmong-no_below : (distance : ℕ → ℕ → ℕ) (cells : Cells) (x y gap : ℕ)
+pub IsNearAmong-no_below : (distance : ℕ → ℕ → ℕ) (cells : Cells) (x y gap limit : ℕ)
     (best : Option Found) → IsBitmap cells → (gap ≡ 0) ⊎ (cells.height ≤ y + gap)
-    → IsNearAmong distance (IsObstacle cells) (IsWithinOrAbove y gap) x y best
-    → IsNearAmong distance (IsObstacle cells) (IsWithin y (gap + 1)) x y best
-IsNearAmong-no_below distance cells x y gap best bitmap none =
+    → IsNearAmong distance (IsObstacle cells) (IsWithinOrAbove y gap) x y limit best
+    → IsNearAmong distance (IsObstacle cells) (IsWithin y (gap + 1)) x y limit best
+IsNearAmong-no_below distance cells x y gap limit best bitmap none =
     IsNearAmong-same distance (IsObstacle cells) (IsWithinOrAbove y gap)
-    (IsWithin y (gap + 1)) x y best
+    (IsWithin y (gap + 1)) x y limit best
     (λ a b obstacle seen. elim seen [ inl nearer ↦ omega arith | inr here ↦ omega arith ])
     (λ a b obstacle next.
     let last = (obstacle_within cells bitmap a b obstacle).1 in
@@ -371,15 +388,15 @@ IsNearAmong-no_below distance cells x y gap best bitmap none =
 
 -- once rows are farther away than the best, the best is the nearest
 pub IsNear-beyond : (distance : ℕ → ℕ → ℕ) → Grows distance → StaysNearer distance
-    → (cells : Cells) (x y gap : ℕ) (best : Option Found) → IsBitmap cells → x < cells.width
+    → (cells : Cells) (x y gap limit : ℕ) (best : Option Found) → IsBitmap cells → x < cells.width
     → y < cells.height
-    → limit_of best ≤ distance 0 gap → limit_of best < 2 ^ 32
-    → IsNearAmong distance (IsObstacle cells) (IsWithin y gap) x y best
-    → IsNearCell distance (IsObstacle cells) x y best
-IsNear-beyond distance grows stays cells x y gap best bitmap column row low small before =
-    IsNearAmong-all distance (IsObstacle cells) (λ a b. a ≤ 4095) x y best
+    → limit_with limit best ≤ distance 0 gap → limit_with limit best < 2 ^ 32
+    → IsNearAmong distance (IsObstacle cells) (IsWithin y gap) x y limit best
+    → IsFoundBelow distance (IsObstacle cells) x y limit best
+IsNear-beyond distance grows stays cells x y gap limit best bitmap column row low small before =
+    IsNearAmong-all distance (IsObstacle cells) (λ a b. a ≤ 4095) x y limit best
     (λ a b obstacle. (obstacle_within cells bitmap a b obstacle).2)
-    (IsNearAmong-far distance (IsObstacle cells) (IsWithin y gap) (λ a b. a ≤ 4095) x y best
+    (IsNearAmong-far distance (IsObstacle cells) (IsWithin y gap) (λ a b. a ≤ 4095) x y limit best
     (λ a b obstacle seen. (obstacle_within cells bitmap a b obstacle).2)
     (λ a b obstacle next. elim (cases_lt (abs_diff y b) gap) [
       | inl nearer ↦ inl nearer
@@ -394,43 +411,62 @@ IsNear-beyond distance grows stays cells x y gap best bitmap column row low smal
     before)
 
 -- once as many rows have been searched as the bitmap has, the best is the nearest
-pub IsNear-all : (distance : ℕ → ℕ → ℕ) (cells : Cells) (x y gap : ℕ) (best : Option Found)
+pub IsNear-all : (distance : ℕ → ℕ → ℕ) (cells : Cells) (x y gap limit : ℕ) (best : Option Found)
     → IsBitmap cells → y < cells.height → cells.height ≤ gap
-    → IsNearAmong distance (IsObstacle cells) (IsWithin y gap) x y best
-    → IsNearCell distance (IsObstacle cells) x y best
-IsNear-all distance cells x y gap best bitmap row ended =
-    IsNearAmong-all distance (IsObstacle cells) (IsWithin y gap) x y best
+    → IsNearAmong distance (IsObstacle cells) (IsWithin y gap) x y limit best
+    → IsFoundBelow distance (IsObstacle cells) x y limit best
+IsNear-all distance cells x y gap limit best bitmap row ended =
+    IsNearAmong-all distance (IsObstacle cells) (IsWithin y gap) x y limit best
     (λ a b obstacle. let last = (obstacle_within cells bitmap a b obstacle).1 in omega arith)
 
 -- the best of more obstacles is no farther
-pub limit_of-falls : (distance : ℕ → ℕ → ℕ) (Obstacle IsSeen IsNext : ℕ → ℕ → Type 0) (x y : ℕ)
-    (best next : Option Found) → ((a b : ℕ) → IsSeen a b → IsNext a b) → limit_of next ≤ 2 ^ 32
-    → IsNearAmong distance Obstacle IsSeen x y best → IsNearAmong distance Obstacle IsNext x y next
-    → limit_of next ≤ limit_of best
-limit_of-falls distance Obstacle IsSeen IsNext x y None next there few before after = few
-limit_of-falls distance Obstacle IsSeen IsNext x y (Some best) None there few before none =
-    absurd (none best.cell.x best.cell.y
-    (before.obstacle.0, there best.cell.x best.cell.y before.obstacle.1))
-limit_of-falls distance Obstacle IsSeen IsNext x y (Some best) (Some next) there few before after =
+pub limit_with-falls : (distance : ℕ → ℕ → ℕ) (Obstacle IsSeen IsNext : ℕ → ℕ → Type 0)
+    (x y limit : ℕ) (best next : Option Found) → ((a b : ℕ) → IsSeen a b → IsNext a b)
+    → limit_with limit best ≤ limit → limit_with limit next ≤ limit
+    → IsNearAmong distance Obstacle IsSeen x y limit best
+    → IsNearAmong distance Obstacle IsNext x y limit next
+    → limit_with limit next ≤ limit_with limit best
+limit_with-falls distance Obstacle IsSeen IsNext x y limit None next there within few before after =
+    few
+limit_with-falls distance Obstacle IsSeen IsNext x y limit (Some best) None there within few before
+    none =
+    let far = (none best.cell.x best.cell.y
+    (before.obstacle.0, there best.cell.x best.cell.y before.obstacle.1)).not_below in
+    let one = before.distance_is in
+    absurd (omega arith)
+limit_with-falls distance Obstacle IsSeen IsNext x y limit (Some best) (Some next) there within few
+    before after =
     let one = before.distance_is in
     let other = after.distance_is in
     elim (after.least best.cell.x best.cell.y
     (before.obstacle.0, there best.cell.x best.cell.y before.obstacle.1)).order
     [ inl less ↦ omega arith | inr same ↦ let equal = same.0 in omega arith ]
 
+-- the better one of the best and a nearer obstacle is within the limit
+pub limit_with-better : (limit : ℕ) (best : Option Found) (next better : Found)
+    → next.dist < limit_with limit best → limit_with limit best ≤ limit
+    → IsBetter best next better → limit_with limit (Some better) ≤ limit
+limit_with-better limit None next better near within is =
+    rw is (let less = near in omega arith)
+limit_with-better limit (Some best) next better near within (inl kept) =
+    rw (kept.0) (omega arith)
+limit_with-better limit (Some best) next better near within (inr taken) =
+    rw (taken.0) (omega arith)
+
 -- rows that are skipped have no obstacle that could be nearer than the best
-pub IsNearAmong-live : (distance : ℕ → ℕ → ℕ) (cells : Cells) (x y gap next bands : ℕ) (here : Rect)
-    (best : Option Found) → IsBitmap cells → IsCellRect x y here → 0 < gap → gap ≤ next
+pub IsNearAmong-live : (distance : ℕ → ℕ → ℕ) (cells : Cells) (x y gap next bands limit : ℕ)
+    (here : Rect) (best : Option Found) → IsBitmap cells → IsCellRect x y here → 0 < gap → gap ≤ next
     → IsNextGap (IsMarkedRow bands) y y gap next
-    → AreBandsLive distance cells here gap (limit_of best) bands
-    → IsNearAmong distance (IsObstacle cells) (IsWithin y gap) x y best
-    → IsNearAmong distance (IsObstacle cells) (IsWithin y next) x y best
-IsNearAmong-live distance cells x y gap next bands here best bitmap rect some order is live before =
+    → AreBandsLive distance cells here gap (limit_with limit best) bands
+    → IsNearAmong distance (IsObstacle cells) (IsWithin y gap) x y limit best
+    → IsNearAmong distance (IsObstacle cells) (IsWithin y next) x y limit best
+IsNearAmong-live distance cells x y gap next bands limit here best bitmap rect some order is live
+    before =
     let left = rect.left in
     let top = rect.top in
     let right = rect.right in
     let bottom = rect.bottom in
-    IsNearAmong-far distance (IsObstacle cells) (IsWithin y gap) (IsWithin y next) x y best
+    IsNearAmong-far distance (IsObstacle cells) (IsWithin y gap) (IsWithin y next) x y limit best
     (λ a b obstacle seen. omega arith)
     (λ a b obstacle near. elim (cases_lt (abs_diff y b) gap) [
       | inl earlier ↦ inl earlier

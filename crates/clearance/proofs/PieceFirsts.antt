@@ -116,6 +116,28 @@ IsFirstOrNone-far distance Obstacle from to lines count step is none first piece
     (cell_of_step from to i).y a b (piece-line lines.strip from to i piece) obstacle in
     subst (λ (c : Cell). lines.limit ≤ spot_distance distance c.x c.y a b) (sym cell.1) far
 
+-- the cell of the first line that is near is near
+pub IsCellNear-piece : (distance : ℕ → ℕ → ℕ) (Obstacle : ℤ → ℤ → Type 0) (from to : Cell)
+    (strip : Strip) (limit count step : ℕ) (cell : Cell)
+    → IsFirstNear distance Obstacle strip limit 1 count step → IsPieceStrip from to strip
+    → cell.x ≡ towards strip.from.x strip.to.x step → cell.y ≡ towards strip.from.y strip.to.y step
+    → IsCellNear distance Obstacle limit cell.x cell.y
+IsCellNear-piece distance Obstacle from to strip limit count step cell first is x_is y_is =
+    let at = line_at strip from to step is in
+    let x : towards from.x to.x step ≡ cell.x = sym (x_is ∙ at.0) in
+    let y : towards from.y to.y step ≡ cell.y = sym (y_is ∙ at.1) in
+    let on = line-piece strip from to step first.near.x first.near.y is first.near.on_line in
+    let near_x : first.near.x ≡ cell.x = sym on.0 ∙ x in
+    let near_y : first.near.y ≡ cell.y = sym on.1 ∙ y in
+    subst (λ (n : ℕ). IsCellNear distance Obstacle limit n cell.y) near_x
+    (subst (λ (n : ℕ). IsCellNear distance Obstacle limit first.near.x n) near_y
+    (record {
+      a = first.near.a;
+      b = first.near.b;
+      obstacle = first.near.obstacle;
+      nearer = first.near.nearer;
+    }))
+
 -- the first line is the first cell
 pub IsFirstOrNone-piece : (distance : ℕ → ℕ → ℕ) (Obstacle : ℤ → ℤ → Type 0) (from to : Cell)
     (strip : Strip) (limit count step : ℕ) (cell : Cell) (found : Option (Cell × Near))
@@ -137,18 +159,8 @@ IsFirstOrNone-piece distance Obstacle from to strip limit count step cell found 
     let y : towards from.y to.y step ≡ cell.y = sym (y_is ∙ at.1) in
     let cell_is : cell_of_list (cells_up_to from to) (step - 1)
     ≡ record { x = cell.x; y = cell.y } = here.1 ∙ rw (← next) (rw (x, y) refl) in
-    let on = line-piece strip from to step first.near.x first.near.y is first.near.on_line in
-    let near_x : first.near.x ≡ cell.x = sym on.0 ∙ x in
-    let near_y : first.near.y ≡ cell.y = sym on.1 ∙ y in
-    let near : IsCellNear distance Obstacle limit cell.x cell.y =
-    subst (λ (n : ℕ). IsCellNear distance Obstacle limit n cell.y) near_x
-    (subst (λ (n : ℕ). IsCellNear distance Obstacle limit first.near.x n) near_y
-    (record {
-      a = first.near.a;
-      b = first.near.b;
-      obstacle = first.near.obstacle;
-      nearer = first.near.nearer;
-    })) in
+    let near = IsCellNear-piece distance Obstacle from to strip limit count step cell first is x_is
+    y_is in
     IsFirstOrNone-at distance Obstacle (cells_up_to from to) limit
     (step - 1) cell found within cell_is near
     (λ i a b earlier obstacle.

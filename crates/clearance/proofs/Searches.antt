@@ -18,6 +18,7 @@ use Rattle.clearance.specs.Parts.{IsBlackInRow, IsPart}
 use Rattle.clearance.specs.declared.part.Part.TheVariants.{Row}
 use Rattle.clearance.specs.Search.{IsInRect, IsLeastBelow, IsLeastInBits, column_gap, row_gap}
 use Rattle.clearance.specs.Search.{rect_distance, IsLeastAmong, IsLeastWithin, IsLoweredBy}
+use Rattle.clearance.specs.Search.{IsReachedCell}
 use Rattle.clearance.specs.Search.{IsLoweredRight, IsLoweredLeft}
 use Rattle.clearance.proofs.RowSearches.{mark_within, unmarked_past}
 
@@ -268,6 +269,33 @@ IsLeastAmong-far distance grows stays cells rect IsRow IsNext gap limit least bi
       reached = before.reached;
     }
 
+-- an obstacle is as near to some cell of the rectangle as to the rectangle
+pub IsReachedCell-rect : (distance : ℕ → ℕ → ℕ) (cells : Cells) (rect : Rect) (a b least : ℕ)
+    → IsObstacle cells a b → rect_distance distance rect a b ≡ least
+    → IsReachedCell distance (IsObstacle cells) (IsInRect rect) least
+IsReachedCell-rect distance cells rect a b least obstacle is =
+    let columns = rect.has_cells.columns in
+    let rows = rect.has_cells.rows in
+    let x = max rect.x0 (min (rect.x1 - 1) a) in
+    let y = max rect.y0 (min (rect.y1 - 1) b) in
+    let across : abs_diff x a ≡ column_gap rect a = omega arith in
+    let down : abs_diff y b ≡ row_gap rect b = omega arith in
+    record {
+      x = x;
+      y = y;
+      cell = record {
+        left = omega arith;
+        right = omega arith;
+        top = omega arith;
+        bottom = omega
+            arith;
+      };
+      a = a;
+      b = b;
+      obstacle = obstacle;
+      distance_is = rw (across, down) is;
+    }
+
 -- once all rows have been searched, the least is that of the rectangle's cells
 pub IsLeastBelow-all : (distance : ℕ → ℕ → ℕ) → Grows distance → StaysNearer distance
     → (cells : Cells) (rect : Rect) (IsRow : ℕ → Type 0) (limit least : ℕ)
@@ -297,24 +325,8 @@ IsLeastBelow-all distance grows stays cells rect IsRow limit least bitmap all is
           (is.far a b obstacle (all a b obstacle));
       reached = λ less.
           let reached = is.reached less in
-          let x = max rect.x0 (min (rect.x1 - 1) reached.a) in
-          let y = max rect.y0 (min (rect.y1 - 1) reached.b) in
-          let across : abs_diff x reached.a ≡ column_gap rect reached.a = omega arith in
-          let down : abs_diff y reached.b ≡ row_gap rect reached.b = omega arith in
-          record {
-            x = x;
-            y = y;
-            cell = record {
-              left = omega arith;
-              right = omega arith;
-              top = omega arith;
-              bottom = omega arith;
-            };
-            a = reached.a;
-            b = reached.b;
-            obstacle = reached.obstacle;
-            distance_is = rw (across, down) reached.distance_is;
-          };
+          IsReachedCell-rect distance cells rect reached.a reached.b least reached.obstacle
+          reached.distance_is;
     }
 
 -- no spot of a row is nearer to the rectangle than the least

@@ -8,12 +8,12 @@ use Rattle.metric.specs.Crossing.{StaysNearer}
 use Rattle.metric.specs.declared.rect.Rect.{Rect}
 use Rattle.metric.proofs.CellwiseLemmas.{IsAtMost-transitive}
 use Rattle.metric.proofs.Growing.{of_grows_with_dx}
+use Rattle.clearance.specs.Nearest.{limit_with}
 use Rattle.clearance.specs.Frames.{key_found}
 use Rattle.clearance.specs.Rows.{IsFar}
 use Rattle.clearance.specs.Search.{column_gap, rect_distance, row_gap}
 use Rattle.clearance.specs.Spots.{AreLeftOf, AreParts, AreRightFrom, IsInWord, IsLastBit}
 use Rattle.clearance.specs.Spots.{IsMerged, IsSpotBelow, IsSpotIf, IsWithNext, key_from}
-use Rattle.clearance.specs.Spots.{limit_with}
 use Rattle.clearance.specs.declared.found.Found.{Found}
 use Rattle.clearance.proofs.Searches.{IsFar-greater}
 

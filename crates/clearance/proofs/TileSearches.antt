@@ -1,27 +1,28 @@
 -- The obstacle that comes first, as more tiles and bands are searched.
 use Rattle.std.proofs.Common.{◌≡◌, ℕ, ◌+◌, ◌/◌, ◌^◌, ◌<◌, ◌≤◌, ◌⊎◌, inl, inr, arith}
-use Rattle.std.proofs.Common.{Option, Some, None, min, get_or, refl, sym, subst}
+use Rattle.std.proofs.Common.{Option, None, get_or, refl, sym, subst}
 use Rattle.std.specs.Int.{bit_at}
 use Rattle.std.proofs.lemmas.Bool.{cases_eq, cases_lt}
 use Rattle.metric.specs.Crossing.{StaysNearer}
 use Rattle.metric.specs.Distance.{Grows}
 use Rattle.metric.specs.declared.rect.Rect.{Rect}
 use Rattle.metric.proofs.Growing.{of_grows}
-use Rattle.bits.specs.Bands.{IsBanded, IsTiled}
+use Rattle.bits.specs.Bands.{IsBanded}
 use Rattle.bits.specs.Cells.{Cells, IsBitmap, IsObstacle}
 use Rattle.bits.specs.Words.{words_across}
+use Rattle.clearance.specs.Nearest.{limit_with}
 use Rattle.clearance.specs.Bands.{AreTilesFar, IsMarkedRow}
 use Rattle.clearance.specs.Rows.{IsFar, IsMarked, words_of_row}
 use Rattle.clearance.specs.Search.{column_gap, rect_distance, row_gap}
-use Rattle.clearance.specs.Spots.{IsInBand, IsInTile, IsInTileRows, IsInWord, IsMerged, IsSeed}
-use Rattle.clearance.specs.Spots.{IsSpotBelow, limit_with}
+use Rattle.clearance.specs.Spots.{IsInTile, IsInTileRows, IsInTiles, IsInWord, IsMerged}
+use Rattle.clearance.specs.Spots.{IsSpotBelow}
 use Rattle.clearance.specs.declared.found.Found.{Found}
 use Rattle.clearance.proofs.RowWords.{IsRowOf-words}
 use Rattle.clearance.proofs.Searches.{IsFar-greater, marked_obstacle, obstacle_marked}
 use Rattle.clearance.proofs.Searches.{obstacle_within}
 use Rattle.clearance.proofs.SpotSearches.{IsSpotBelow-merged, IsSpotBelow-same}
 use Rattle.clearance.proofs.SpotSearches.{IsSpotBelow-wider}
-use Rattle.clearance.proofs.TileRows.{AreBandsLive, IsBandFar-tiles}
+use Rattle.clearance.proofs.TileRows.{AreBandsLive}
 
 -- a row of a tile beyond the reach is far
 tile_row_far : (distance : ℕ → ℕ → ℕ) → Grows distance → StaysNearer distance
@@ -185,58 +186,65 @@ IsSpotBelow-tile_far distance grows stays cells rect band tile apart away limit 
     (columns a here.2) (omega arith) (rows b here.1) (omega arith) in
     record { not_below = omega arith; is_limit = small }
 
--- a band whose tiles are all far has no obstacle near
-pub IsSpotBelow-band_far : (distance : ℕ → ℕ → ℕ) (cells : Cells) (rect : Rect)
-    (band tiles away limit : ℕ) → IsBitmap cells → IsTiled cells band tiles
+-- tiles that are all far have no obstacle near
+pub IsSpotBelow-tiles_far : (distance : ℕ → ℕ → ℕ) (cells : Cells) (rect : Rect)
+    (band tiles away limit : ℕ) → IsBitmap cells
     → ((b : ℕ) → b / 64 ≡ band → away ≤ row_gap rect b)
     → AreTilesFar distance rect away limit tiles
-    → IsSpotBelow distance (IsInBand cells band) rect limit None
-IsSpotBelow-band_far distance cells rect band tiles away limit bitmap tiled rows far = λ a b here.
-    IsBandFar-tiles distance cells rect away limit tiles band bitmap tiled far a b here.0 here.1
-    (rows b here.1)
+    → IsSpotBelow distance (IsInTiles cells band tiles) rect limit None
+IsSpotBelow-tiles_far distance cells rect band tiles away limit bitmap rows far = λ a b here.
+    let last = obstacle_within cells bitmap a b here.0.0 in
+    let column = last.2 in
+    let row = last.3 in
+    far a b (omega arith) (omega arith) here.1 (rows b here.0.1)
 
 -- before any tile has been searched, there is none
-pub IsSpotBelow-band_none : (distance : ℕ → ℕ → ℕ) (cells : Cells) (rect : Rect)
-    (band tiles tile limit : ℕ) → IsTiled cells band tiles
+pub IsSpotBelow-tiles_none : (distance : ℕ → ℕ → ℕ) (cells : Cells) (rect : Rect)
+    (band tiles tile limit : ℕ)
     → ((k : ℕ) → 0 ≤ k → k < tile → bit_at tiles k ≡ 1 → ⊥)
-    → IsSpotBelow distance (λ a b. IsInBand cells band a b × (a / 64 < tile)) rect limit None
-IsSpotBelow-band_none distance cells rect band tiles tile limit tiled none = λ a b here.
-    absurd (none (a / 64) (omega arith) here.1 (tiled a b here.0.0 here.0.1))
+    → IsSpotBelow distance (λ a b. IsInTiles cells band tiles a b × (a / 64 < tile)) rect limit None
+IsSpotBelow-tiles_none distance cells rect band tiles tile limit none = λ a b here.
+    absurd (none (a / 64) (omega arith) here.1 here.0.1)
 
--- a search of some tiles of a band goes on by one tile
+-- a search of some tiles of a band goes on by one tile that is one of them
 pub IsSpotBelow-tile_more : (distance : ℕ → ℕ → ℕ) (cells : Cells) (rect : Rect)
-    (band tiles tile after limit : ℕ) (best next merged : Option Found) → IsTiled cells band tiles
-    → tile < after → ((k : ℕ) → tile + 1 ≤ k → k < after → bit_at tiles k ≡ 1 → ⊥)
-    → IsSpotBelow distance (λ a b. IsInBand cells band a b × (a / 64 < tile)) rect limit best
+    (band tiles tile after limit : ℕ) (best next merged : Option Found)
+    → tile < after → bit_at tiles tile ≡ 1
+    → ((k : ℕ) → tile + 1 ≤ k → k < after → bit_at tiles k ≡ 1 → ⊥)
+    → IsSpotBelow distance (λ a b. IsInTiles cells band tiles a b × (a / 64 < tile)) rect limit best
     → IsSpotBelow distance (IsInTile cells band tile) rect (limit_with limit best) next
     → IsMerged rect.y0 best next merged
-    → IsSpotBelow distance (λ a b. IsInBand cells band a b × (a / 64 < after)) rect limit merged
-IsSpotBelow-tile_more distance cells rect band tiles tile after limit best next merged tiled order
-    none before own both =
-    IsSpotBelow-merged distance (λ a b. IsInBand cells band a b × (a / 64 < tile))
-    (IsInTile cells band tile) (λ a b. IsInBand cells band a b × (a / 64 < after)) rect limit best
-    next merged
-    (λ a b here. (here.0, let less = here.1 in omega arith))
-    (λ a b here. ((here.0, here.1), let same = here.2 in omega arith))
-    (λ a b here. elim (cases_lt (a / 64) tile) [
-      | inl earlier ↦ inl (here.0, earlier)
+    → IsSpotBelow distance (λ a b. IsInTiles cells band tiles a b × (a / 64 < after)) rect limit
+    merged
+IsSpotBelow-tile_more distance cells rect band tiles tile after limit best next merged order
+    own none before here both =
+    IsSpotBelow-merged distance (λ a b. IsInTiles cells band tiles a b × (a / 64 < tile))
+    (IsInTile cells band tile) (λ a b. IsInTiles cells band tiles a b × (a / 64 < after)) rect limit
+    best next merged
+    (λ a b some. (some.0, let less = some.1 in omega arith))
+    (λ a b some. (
+      ((some.0, some.1), subst (λ (k : ℕ). bit_at tiles k ≡ 1) (sym some.2) own),
+      let same = some.2 in omega arith,
+    ))
+    (λ a b some. elim (cases_lt (a / 64) tile) [
+      | inl earlier ↦ inl (some.0, earlier)
       | inr from ↦ elim (cases_lt tile (a / 64)) [
-        | inl later ↦
-            absurd (none (a / 64) (omega arith) here.1 (tiled a b here.0.0 here.0.1))
-        | inr same ↦ inr (here.0.0, here.0.1, omega arith)
+        | inl later ↦ absurd (none (a / 64) (omega arith) some.1 some.0.1)
+        | inr same ↦ inr (some.0.0.0, some.0.0.1, omega arith)
       ]
     ])
-    before own both
+    before here both
 
--- once all tiles of a band have been searched, all of its obstacles have
-pub IsSpotBelow-band_all : (distance : ℕ → ℕ → ℕ) (cells : Cells) (rect : Rect)
-    (band tile limit : ℕ) (best : Option Found) → IsBitmap cells → words_across cells.width ≤ tile
-    → IsSpotBelow distance (λ a b. IsInBand cells band a b × (a / 64 < tile)) rect limit best
-    → IsSpotBelow distance (IsInBand cells band) rect limit best
-IsSpotBelow-band_all distance cells rect band tile limit best bitmap ended =
-    IsSpotBelow-same distance (λ a b. IsInBand cells band a b × (a / 64 < tile))
-    (IsInBand cells band) rect limit best (λ a b here. here.0)
-    (λ a b here. let column = (obstacle_within cells bitmap a b here.0).0 in (here, omega arith))
+-- once all tiles have been searched, all of their obstacles have
+pub IsSpotBelow-tiles_all : (distance : ℕ → ℕ → ℕ) (cells : Cells) (rect : Rect)
+    (band tiles tile limit : ℕ) (best : Option Found) → IsBitmap cells
+    → words_across cells.width ≤ tile
+    → IsSpotBelow distance (λ a b. IsInTiles cells band tiles a b × (a / 64 < tile)) rect limit best
+    → IsSpotBelow distance (IsInTiles cells band tiles) rect limit best
+IsSpotBelow-tiles_all distance cells rect band tiles tile limit best bitmap ended =
+    IsSpotBelow-same distance (λ a b. IsInTiles cells band tiles a b × (a / 64 < tile))
+    (IsInTiles cells band tiles) rect limit best (λ a b here. here.0)
+    (λ a b here. let column = (obstacle_within cells bitmap a b here.0.0).0 in (here, omega arith))
 
 -- bands without those that are far away are live
 pub AreBandsLive-within : (distance : ℕ → ℕ → ℕ) → Grows distance → StaysNearer distance
@@ -263,40 +271,42 @@ AreBandsLive-within distance grows stays cells rect bands left rows limit bitmap
     ]
 
 -- before any band has been searched, none has an obstacle near
-pub IsSpotBelow-map_none : (distance : ℕ → ℕ → ℕ) (cells : Cells) (rect : Rect)
-    (bands band limit : ℕ) → AreBandsLive distance cells rect 0 limit bands
+pub IsSpotBelow-map_none : (distance : ℕ → ℕ → ℕ) (cells : Cells) (Obstacle : ℕ → ℕ → Type 0)
+    (rect : Rect) (bands band limit : ℕ) → AreBandsLive distance cells rect 0 limit bands
+    → ((a b : ℕ) → Obstacle a b → IsObstacle cells a b)
     → ((k : ℕ) → 0 ≤ k → k < band → bit_at bands k ≡ 1 → ⊥)
-    → IsSpotBelow distance (λ a b. IsObstacle cells a b × (b / 64 < band)) rect limit None
-IsSpotBelow-map_none distance cells rect bands band limit live none = λ a b here.
-    elim (live a b here.0 (omega arith)) [
+    → IsSpotBelow distance (λ a b. Obstacle a b × (b / 64 < band)) rect limit None
+IsSpotBelow-map_none distance cells Obstacle rect bands band limit live is none = λ a b here.
+    elim (live a b (is a b here.0) (omega arith)) [
       | inl marked ↦ absurd (none (b / 64) (omega arith) here.1 marked)
       | inr far ↦ far
     ]
 
 -- a search of some bands goes on by one band
-pub IsSpotBelow-band_more : (distance : ℕ → ℕ → ℕ) (cells : Cells) (rect : Rect)
-    (bands band after limit : ℕ) (best next merged : Option Found)
+pub IsSpotBelow-band_more : (distance : ℕ → ℕ → ℕ) (cells : Cells) (Obstacle : ℕ → ℕ → Type 0)
+    (rect : Rect) (bands band after limit : ℕ) (best next merged : Option Found)
     → AreBandsLive distance cells rect 0 limit bands
+    → ((a b : ℕ) → Obstacle a b → IsObstacle cells a b)
     → band < after → ((k : ℕ) → band + 1 ≤ k → k < after → bit_at bands k ≡ 1 → ⊥)
-    → IsSpotBelow distance (λ a b. IsObstacle cells a b × (b / 64 < band)) rect limit best
-    → IsSpotBelow distance (IsInBand cells band) rect (limit_with limit best) next
+    → IsSpotBelow distance (λ a b. Obstacle a b × (b / 64 < band)) rect limit best
+    → IsSpotBelow distance (λ a b. Obstacle a b × (b / 64 ≡ band)) rect (limit_with limit best) next
     → IsMerged rect.y0 best next merged
-    → IsSpotBelow distance (λ a b. IsObstacle cells a b × (b / 64 < after)) rect limit merged
-IsSpotBelow-band_more distance cells rect bands band after limit best next merged live order none
-    before own both =
-    IsSpotBelow-wider distance (λ a b. IsObstacle cells a b × (b / 64 < band + 1))
-    (λ a b. IsObstacle cells a b × (b / 64 < after)) rect limit merged
+    → IsSpotBelow distance (λ a b. Obstacle a b × (b / 64 < after)) rect limit merged
+IsSpotBelow-band_more distance cells Obstacle rect bands band after limit best next merged live is
+    order none before own both =
+    IsSpotBelow-wider distance (λ a b. Obstacle a b × (b / 64 < band + 1))
+    (λ a b. Obstacle a b × (b / 64 < after)) rect limit merged
     (λ a b here. (here.0, let less = here.1 in omega arith))
     (λ a b here. elim (cases_lt band (b / 64)) [
       | inr own ↦ inl (here.0, omega arith)
-      | inl later ↦ elim (live a b here.0 (omega arith)) [
+      | inl later ↦ elim (live a b (is a b here.0) (omega arith)) [
         | inl marked ↦ absurd (none (b / 64) (omega arith) here.1 marked)
         | inr far ↦ inr far
       ]
     ])
-    (IsSpotBelow-merged distance (λ a b. IsObstacle cells a b × (b / 64 < band))
-    (IsInBand cells band) (λ a b. IsObstacle cells a b × (b / 64 < band + 1)) rect limit best
-    next merged
+    (IsSpotBelow-merged distance (λ a b. Obstacle a b × (b / 64 < band))
+    (λ a b. Obstacle a b × (b / 64 ≡ band)) (λ a b. Obstacle a b × (b / 64 < band + 1)) rect limit
+    best next merged
     (λ a b here. (here.0, let less = here.1 in omega arith))
     (λ a b here. (here.0, let same = here.1 in omega arith))
     (λ a b here. elim (cases_lt (b / 64) band) [
@@ -306,50 +316,13 @@ IsSpotBelow-band_more distance cells rect bands band after limit best next merge
     before own both)
 
 -- once all bands have been searched, all obstacles have
-pub IsSpotBelow-map_all : (distance : ℕ → ℕ → ℕ) (cells : Cells) (rect : Rect) (band limit : ℕ)
-    (best : Option Found) → IsBitmap cells → 64 ≤ band
-    → IsSpotBelow distance (λ a b. IsObstacle cells a b × (b / 64 < band)) rect limit best
-    → IsSpotBelow distance (IsObstacle cells) rect limit best
-IsSpotBelow-map_all distance cells rect band limit best bitmap ended =
-    IsSpotBelow-same distance (λ a b. IsObstacle cells a b × (b / 64 < band))
-    (IsObstacle cells) rect limit best (λ a b here. here.0)
-    (λ a b here. let row = (obstacle_within cells bitmap a b here).3 in (here, omega arith))
-
--- the lesser of the limit and what is above the distance of a tile's obstacle is a seed
-pub IsSeed-found : (distance : ℕ → ℕ → ℕ) (cells : Cells) (rect : Rect)
-    (band tile most limit : ℕ) (found : Found)
-    → IsSpotBelow distance (IsInTile cells band tile) rect most (Some found)
-    → IsSeed distance cells rect limit (min limit (found.dist + 1))
-IsSeed-found distance cells rect band tile most limit found first =
-    let is = first.distance_is in
-    record {
-      within = omega arith;
-      some = λ less. (found.cell.x, found.cell.y, first.obstacle.0, omega arith);
-    }
-
--- the first below a seed is the first below the limit
-pub IsSpotBelow-seeded : (distance : ℕ → ℕ → ℕ) (cells : Cells) (rect : Rect) (limit seed : ℕ)
-    (found : Option Found) → IsSeed distance cells rect limit seed
-    → IsSpotBelow distance (IsObstacle cells) rect seed found
-    → IsSpotBelow distance (IsObstacle cells) rect limit found
-IsSpotBelow-seeded distance cells rect limit seed None is far = λ a b obstacle.
-    elim (cases_lt seed limit) [
-      | inl less ↦
-          let some = is.some less in
-          let low = (far some.0 some.1 some.2).not_below in
-          let near = some.3 in
-          absurd (omega arith)
-      | inr same ↦
-          let within = is.within in
-          let equal : seed ≡ limit = omega arith in
-          rw equal at (far a b obstacle)
-    ]
-IsSpotBelow-seeded distance cells rect limit seed (Some found) is first =
-    let within = is.within in
-    let near = first.nearer in
-    record {
-      obstacle = first.obstacle;
-      distance_is = first.distance_is;
-      nearer = omega arith;
-      least = first.least;
-    }
+pub IsSpotBelow-map_all : (distance : ℕ → ℕ → ℕ) (cells : Cells) (Obstacle : ℕ → ℕ → Type 0)
+    (rect : Rect) (band limit : ℕ) (best : Option Found) → IsBitmap cells
+    → ((a b : ℕ) → Obstacle a b → IsObstacle cells a b) → 64 ≤ band
+    → IsSpotBelow distance (λ a b. Obstacle a b × (b / 64 < band)) rect limit best
+    → IsSpotBelow distance Obstacle rect limit best
+IsSpotBelow-map_all distance cells Obstacle rect band limit best bitmap is ended =
+    IsSpotBelow-same distance (λ a b. Obstacle a b × (b / 64 < band))
+    Obstacle rect limit best (λ a b here. here.0)
+    (λ a b here. let row = (obstacle_within cells bitmap a b (is a b here)).3 in
+    (here, omega arith))

@@ -4,7 +4,9 @@ use Rattle.std.specs.Int.{abs_diff}
 use Rattle.metric.specs.declared.cell.Cell.{Cell}
 use Rattle.metric.specs.declared.rect.Rect.{Rect}
 use Rattle.metric.specs.Cellwise.{IsNearestCell}
+use Rattle.metric.specs.Distance.{distance_between}
 use Rattle.bits.specs.Cells.{Cells, IsBitmap, IsInside, IsObstacle}
+use Rattle.clearance.specs.Rows.{IsFar}
 use Rattle.clearance.specs.declared.found.Found.{Found}
 
 -- what is found has the least key of a set of cells, seen from cell (x, y)
@@ -12,28 +14,31 @@ abbrev pub IsFound : (ℕ → ℕ → ℕ) → (ℕ → ℕ → Type 0) → ℕ 
 IsFound distance Obstacle x y found =
     IsNearestCell distance Obstacle x y found.dist found.cell.x found.cell.y
 
--- the nearest of a set of cells; none if the set is empty
-abbrev pub IsNearCell : (ℕ → ℕ → ℕ) → (ℕ → ℕ → Type 0) → ℕ → ℕ → Option Found → Type 0
-IsNearCell distance Obstacle x y None = (a b : ℕ) → Obstacle a b → ⊥
-IsNearCell distance Obstacle x y (Some found) = IsFound distance Obstacle x y found
+-- the nearest of a set of cells; none only if none is nearer than the limit
+abbrev pub IsFoundBelow : (ℕ → ℕ → ℕ) → (ℕ → ℕ → Type 0) → ℕ → ℕ → ℕ → Option Found → Type 0
+IsFoundBelow distance Obstacle x y limit None =
+    (a b : ℕ) → Obstacle a b → IsFar (distance_between distance x y a b) limit
+IsFoundBelow distance Obstacle x y limit (Some found) = IsFound distance Obstacle x y found
 
 -- the nearest of the obstacles searched so far
-abbrev pub IsNearAmong : (ℕ → ℕ → ℕ) → (ℕ → ℕ → Type 0) → (ℕ → ℕ → Type 0) → ℕ → ℕ → Option Found
-    → Type 0
-IsNearAmong distance Obstacle IsSeen x y best =
-    IsNearCell distance (λ a b. Obstacle a b × IsSeen a b) x y best
+abbrev pub IsNearAmong : (ℕ → ℕ → ℕ) → (ℕ → ℕ → Type 0) → (ℕ → ℕ → Type 0) → ℕ → ℕ → ℕ
+    → Option Found → Type 0
+IsNearAmong distance Obstacle IsSeen x y limit best =
+    IsFoundBelow distance (λ a b. Obstacle a b × IsSeen a b) x y limit best
+
+-- the limit, or one above the distance of what is found
+abbrev pub limit_with : ℕ → Option Found → ℕ
+limit_with limit None = limit
+limit_with limit (Some found) = found.dist + 1
 
 -- a search for the nearest obstacle of a bitmap's cell: the nearest of those searched so far
 pub record IsSought (distance : ℕ → ℕ → ℕ) (cells : Cells) (cell : Cell) (IsSeen : ℕ → ℕ → Type 0)
-    (best : Option Found) : Type 0 where
+    (limit : ℕ) (best : Option Found) : Type 0 where
   pub bitmap : IsBitmap cells
   pub inside : IsInside cells cell.x cell.y
-  pub near : IsNearAmong distance (IsObstacle cells) IsSeen cell.x cell.y best
-
--- a limit above the distance of the best so far; above every distance if there is none
-abbrev pub limit_of : Option Found → ℕ
-limit_of None = 2 ^ 32
-limit_of (Some near) = near.dist + 1
+  pub within : limit_with limit best ≤ limit
+  pub few : limit ≤ 2 ^ 32
+  pub near : IsNearAmong distance (IsObstacle cells) IsSeen cell.x cell.y limit best
 
 -- seen from row y, row b is less than `gap` rows away
 abbrev pub IsWithin : ℕ → ℕ → ℕ → ℕ → Type 0

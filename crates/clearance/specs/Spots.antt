@@ -1,14 +1,16 @@
 -- The obstacle that comes first, seen from a rectangle, of a set of obstacles: this project's own
 -- rule.
-use Rattle.std.specs.Prelude.{◌≡◌, ℕ, ◌+◌, ◌/◌, ◌%◌, ◌<◌, ◌≤◌, Option, Some, None}
+use Rattle.std.specs.Prelude.{◌≡◌, ℕ, ◌/◌, ◌%◌, ◌^◌, ◌<◌, ◌≤◌, Option, Some, None, IfSome}
 use Rattle.std.specs.Int.{abs_diff, bit_at}
 use Rattle.metric.specs.Cellwise.{Key, IsAtMost}
 use Rattle.metric.specs.declared.rect.Rect.{Rect}
 use Rattle.bits.specs.Cells.{Cells, IsObstacle}
 use Rattle.clearance.specs.Frames.{IsLesser, key_found}
+use Rattle.clearance.specs.Nearest.{limit_with}
 use Rattle.clearance.specs.Rows.{IsFar}
 use Rattle.clearance.specs.Search.{rect_distance}
 use Rattle.clearance.specs.declared.found.Found.{Found}
+use Rattle.clearance.specs.declared.seed.Seed.{Seed}
 
 -- the key of obstacle (a, b), seen from a rectangle
 abbrev pub key_from : (ℕ → ℕ → ℕ) → Rect → ℕ → ℕ → Key
@@ -49,11 +51,6 @@ IsAnyBelow distance Obstacle rect limit None =
     (a b : ℕ) → Obstacle a b → IsFar (rect_distance distance rect a b) limit
 IsAnyBelow distance Obstacle rect limit (Some found) =
     IsNearSpot distance Obstacle rect limit found
-
--- the limit, or one above the distance of what is found
-abbrev pub limit_with : ℕ → Option Found → ℕ
-limit_with limit None = limit
-limit_with limit (Some found) = found.dist + 1
 
 -- the one of two with the lesser key, seen from row y, or the only one
 abbrev pub IsMerged : ℕ → Option Found → Option Found → Option Found → Type 0
@@ -109,12 +106,31 @@ IsInTileRows cells tile from end a b =
 abbrev pub IsInBand : Cells → ℕ → ℕ → ℕ → Type 0
 IsInBand cells band a b = IsObstacle cells a b × (b / 64 ≡ band)
 
--- the limit, or a lesser one such that some obstacle is nearer
-pub record IsSeed (distance : ℕ → ℕ → ℕ) (cells : Cells) (rect : Rect) (limit seed : ℕ) :
+-- obstacle (a, b) is in one of these tiles of a band
+abbrev pub IsInTiles : Cells → ℕ → ℕ → ℕ → ℕ → Type 0
+IsInTiles cells band tiles a b = IsInBand cells band a b × (bit_at tiles (a / 64) ≡ 1)
+
+-- obstacle (a, b) isn't in this tile of a band
+abbrev pub IsElsewhere : Cells → ℕ → ℕ → ℕ → ℕ → Type 0
+IsElsewhere cells band tile a b = IsObstacle cells a b × ((b / 64 ≡ band) × (a / 64 ≡ tile) → ⊥)
+
+-- the first obstacle of the tile of a seed, if its distance is below the limit
+pub record IsSeed (distance : ℕ → ℕ → ℕ) (cells : Cells) (rect : Rect) (limit : ℕ) (seed : Seed) :
     Type 0 where
-  pub within : seed ≤ limit
-  pub some : seed < limit → (a : ℕ) × (b : ℕ) × IsObstacle cells a b
-      × (rect_distance distance rect a b < seed)
+  pub few : seed.tile < 64
+  pub small : IfSome seed.best (λ found. found.dist < 2 ^ 32)
+  pub first : IsSpotBelow distance (IsInTile cells seed.band seed.tile) rect limit seed.best
+
+-- what is found, if its distance is below the limit
+abbrev pub IsBelow : ℕ → Option Found → Option Found → Type 0
+IsBelow limit None below = below ≡ None
+IsBelow limit (Some found) None = limit ≤ found.dist
+IsBelow limit (Some found) (Some below) = (below ≡ found) × (found.dist < limit)
+
+-- the distance of what is found, or the limit
+abbrev pub distance_with : ℕ → Option Found → ℕ
+distance_with limit None = limit
+distance_with limit (Some found) = found.dist
 
 -- the first of what is found and of a set of obstacles
 pub record IsWithNext (distance : ℕ → ℕ → ℕ) (Obstacle : ℕ → ℕ → Type 0) (rect : Rect) (limit : ℕ)

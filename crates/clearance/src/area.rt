@@ -4,8 +4,8 @@ ghost use Rattle.std.specs.Prelude.{◌≡◌};
 ghost use Rattle.bits.specs.Cells.{IsInside};
 ghost use Rattle.bits.specs.Edges.{IsBlocked};
 ghost use Rattle.clearance.specs.Answers.{IsLeastOf, cells_of_rect};
-ghost use Rattle.clearance.specs.Firsts.{IsCellWithNear, IsFirstColumn, IsFirstOrNone, IsFirstRow};
-ghost use Rattle.clearance.specs.Firsts.{IsRectNear};
+ghost use Rattle.clearance.specs.Firsts.{IsCellNear, IsCellWithNear, IsFirstColumn, IsFirstOrNone};
+ghost use Rattle.clearance.specs.Firsts.{IsFirstRow, IsRectNear};
 ghost use Rattle.clearance.specs.Search.{IsRectIn};
 
 use crate::border::{least_below, nearest_spot};
@@ -50,7 +50,7 @@ fn first_of_rect<M: Metric, R: Rows>(
 {
     let y = first_row::<M, R>(rows, edge, rect, limit);
     let x = first_column::<M, R>(rows, edge, rect, y, limit);
-    with_nearest::<M, R>(rows, edge, Cell { x, y })
+    with_nearest::<M, R>(rows, edge, Cell { x, y }, limit)
 }
 
 /// The first row of the rectangle in which a cell has an obstacle at a distance below the limit.
@@ -98,17 +98,20 @@ fn first_column<M: Metric, R: Rows>(rows: &mut R, edge: Edge, rect: Rect, y: u16
     left + lines.first_near::<M, R>(rows, edge, right - left)
 }
 
-/// The cell with its nearest obstacle; `None` where there is no obstacle.
+/// The cell, which has an obstacle below the limit, with its nearest; `None` where there is no
+/// obstacle.
 pub fn with_nearest<M: Metric, R: Rows>(
     rows: &mut R,
     edge: Edge,
     cell: Cell,
+    limit: u64,
 ) -> Option<(Cell, Near)>
-    requires { IsInside (R.cells rows.old) cell.x cell.y }
+    requires inside { IsInside (R.cells rows.old) cell.x cell.y }
+    requires near { IsCellNear M.distance (IsBlocked (R.cells rows.old) edge) limit cell.x cell.y }
     ensures found { IsCellWithNear M.distance (IsBlocked (R.cells rows.old) edge) cell result }
     ensures rows { rows.new ≡ rows.old }
 {
-    match nearest_spot::<M, R>(rows, edge, cell) {
+    match nearest_spot::<M, R>(rows, edge, cell, limit) {
         Some(near) => Some((cell, near)),
         None => None,
     }

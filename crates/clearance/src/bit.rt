@@ -78,7 +78,8 @@ pub fn after_last_bit(word: u64, last: u16) -> u16
 /// Clears the bit `place` of the word.
 pub fn without_bit(word: u64, place: u16) -> u64
     requires { place < 64 }
-    ensures { (i : ℕ) → i < 64 → i ≢ place → bit_at result i ≡ bit_at word i }
+    ensures gone { bit_at result place ≡ 0 }
+    ensures kept { (i : ℕ) → i < 64 → i ≢ place → bit_at result i ≡ bit_at word i }
 {
     word & !(1 << place)
 }

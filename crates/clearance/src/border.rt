@@ -1,41 +1,54 @@
 //! Searches in a map with its frame: in the bits, and with a wall in the frame too, by arithmetic.
 
-ghost use Rattle.std.specs.Prelude.{◌≡◌, ◌≤◌, Some};
+ghost use Rattle.std.specs.Prelude.{◌≡◌, ◌<◌, ◌≤◌, Some};
 ghost use Rattle.metric.specs.Nearest.{IsNear};
 ghost use Rattle.metric.specs.declared.edge.Edge.TheVariants.{Open, Wall};
 ghost use Rattle.bits.specs.Cells.{IsBitmap, IsInside, IsObstacle};
 ghost use Rattle.bits.specs.Edges.{IsBlocked};
-ghost use Rattle.clearance.specs.Frames.{IsFoundBelow, IsLoweredByFrame};
+ghost use Rattle.clearance.specs.Firsts.{IsCellNear};
+ghost use Rattle.clearance.specs.Frames.{IsLoweredByFrame};
+ghost use Rattle.clearance.specs.Nearest.{IsFoundBelow};
 ghost use Rattle.clearance.specs.Search.{IsLeastBelow, IsRectIn};
 
-use crate::far::{least_in_bits, nearest};
+use crate::far::{least_in_bits, nearest, nearest_below};
 use crate::found::Found;
 use crate::frame::{better, frame_nearest};
-use crate::nearest::cell_rect;
 use crate::rows::{Rows, holds};
+use crate::search::NO_LIMIT;
 use metric::{Cell, Edge, MOST_SIDE, Metric, Near, Rect};
 
 /// The nearest obstacle of the cell; `None` where there is none.
-pub fn nearest_spot<M: Metric, R: Rows>(rows: &mut R, edge: Edge, cell: Cell) -> Option<Near>
-    requires { IsInside (R.cells rows.old) cell.x cell.y }
+///
+/// A limit below `NO_LIMIT` tells that one is nearer.
+pub fn nearest_spot<M: Metric, R: Rows>(
+    rows: &mut R,
+    edge: Edge,
+    cell: Cell,
+    limit: u64,
+) -> Option<Near>
+    requires inside { IsInside (R.cells rows.old) cell.x cell.y }
+    requires near { limit < NO_LIMIT → IsCellNear M.distance (IsBlocked (R.cells rows.old) edge)
+        limit cell.x cell.y }
     ensures near { IsNear M.distance (IsBlocked (R.cells rows.old) edge) cell.x cell.y result }
     ensures rows { rows.new ≡ rows.old }
 {
     match edge {
-        Edge::Open => nearest_open::<M, R>(rows, cell),
+        Edge::Open => nearest_open::<M, R>(rows, cell, limit),
         Edge::Wall => Some(nearest_walled::<M, R>(rows, cell)),
     }
 }
 
-/// The nearest obstacle of the cell, with an open edge.
-fn nearest_open<M: Metric, R: Rows>(rows: &mut R, cell: Cell) -> Option<Near>
-    requires { IsInside (R.cells rows.old) cell.x cell.y }
+/// As `nearest_spot`, with an open edge.
+fn nearest_open<M: Metric, R: Rows>(rows: &mut R, cell: Cell, limit: u64) -> Option<Near>
+    requires inside { IsInside (R.cells rows.old) cell.x cell.y }
+    requires near { limit < NO_LIMIT → IsCellNear M.distance (IsBlocked (R.cells rows.old) Open)
+        limit cell.x cell.y }
     ensures near { IsNear M.distance (IsBlocked (R.cells rows.old) Open) cell.x cell.y result }
     ensures rows { rows.new ≡ rows.old }
 {
     let inside = holds(rows, cell);
     prove!(inside);
-    match nearest::<M, R>(rows, cell) {
+    match nearest::<M, R>(rows, cell, limit) {
         Some(found) => Some(found.as_near(Edge::Open)),
         None => None,
     }
@@ -56,22 +69,8 @@ fn nearest_walled<M: Metric, R: Rows>(rows: &mut R, cell: Cell) -> Near
         y: cell.y + 1,
     };
     let frame = frame_nearest::<M>(width + 1, height + 1, framed);
-    let own = own_below::<M, R>(rows, cell, u64::from(frame.dist) + 1);
+    let own = nearest_below::<M, R>(rows, cell, u64::from(frame.dist) + 1);
     better(framed.y, frame, own).as_near(Edge::Wall)
-}
-
-/// The nearest obstacle in the bitmap, or none if none is below the limit.
-fn own_below<M: Metric, R: Rows>(rows: &mut R, cell: Cell, limit: u64) -> Option<Found>
-    requires bitmap { IsBitmap (R.cells rows.old) }
-    requires inside { IsInside (R.cells rows.old) cell.x cell.y }
-    ensures found { IsFoundBelow M.distance (IsObstacle (R.cells rows.old)) cell.x cell.y limit
-        result }
-    ensures rows { rows.new ≡ rows.old }
-{
-    if least_in_bits::<M, R>(rows, cell_rect(cell), limit) >= limit {
-        return None;
-    }
-    nearest::<M, R>(rows, cell)
 }
 
 /// The least of `limit` and of the distances of the rectangle's cells to the obstacles.

@@ -1,5 +1,5 @@
-//! A search for obstacles that are far away, tile by tile, of those tiles alone that may have one
-//! near enough.
+//! A search of a tile for the obstacle that comes first, and the bands that may have one near
+//! enough.
 
 ghost use Rattle.std.specs.Prelude.{◌≡◌, ℕ, ◌/◌, ◌%◌, ◌<◌, ◌≤◌, true};
 ghost use Rattle.std.specs.Int.{bit_at};
@@ -8,17 +8,16 @@ ghost use Rattle.bits.specs.Words.{words_across};
 ghost use Rattle.clearance.specs.Bands.{IsMarkedRow};
 ghost use Rattle.clearance.specs.Rows.{IsFar};
 ghost use Rattle.clearance.specs.Search.{column_gap, row_gap};
-ghost use Rattle.clearance.specs.Spots.{IsInBand, IsInTile, IsInTileRows, IsInWord, IsSeed};
-ghost use Rattle.clearance.specs.Spots.{IsSpotBelow, IsWithNext, limit_with};
+ghost use Rattle.clearance.specs.Nearest.{limit_with};
+ghost use Rattle.clearance.specs.Spots.{IsInTile, IsInTileRows, IsInWord, IsSpotBelow, IsWithNext};
 
 use crate::bit::{bits_from, bits_through, highest_bit, lowest_bit};
 use crate::far_bands::rows_apart;
-use crate::far_columns::{are_tiles_far, joined_span};
+use crate::far_columns::joined_span;
 use crate::found::Found;
 use crate::part::row_apart;
 use crate::rows::Rows;
 use crate::spot::{first_in_word, limit_with, merged, parts_of};
-use crate::tiles::{NO_TILE, next_tile};
 use metric::{BAND_ROWS, LAST_FRAMED, MOST_SIDE, Metric, Rect, WORD_CELLS};
 
 /// The first of the obstacles in a tile of a band, seen from the rectangle, if its distance is
@@ -246,7 +245,7 @@ fn with_word<M: Metric>(
 }
 
 /// As `first_in_tile`; the tile isn't searched if its cells are all too far.
-fn first_near_tile<M: Metric, R: Rows>(
+pub fn first_near_tile<M: Metric, R: Rows>(
     rows: &mut R,
     band: u16,
     tile: u16,
@@ -281,32 +280,6 @@ pub fn columns_apart(rect: Rect, tile: u16) -> u16
     left.max(right)
 }
 
-/// The first of the obstacles of a band, seen from the rectangle, if its distance is below the
-/// limit.
-fn first_in_band<M: Metric, R: Rows>(
-    rows: &mut R,
-    band: u16,
-    rect: Rect,
-    limit: u64,
-) -> Option<Found>
-    requires bitmap { IsBitmap (R.cells rows.old) }
-    requires band { band < 64 }
-    ensures first { IsSpotBelow M.distance (IsInBand (R.cells rows.old) band) rect limit result }
-    ensures rows { rows.new ≡ rows.old }
-{
-    let (tiles, across) = (rows.tiles(band), rows.across());
-    if are_tiles_far::<M>(tiles, rect, rows_apart(rect, band), limit) {
-        return None;
-    }
-    let (mut tile, mut best) = (next_tile(tiles, 0), None);
-    'tiles: while usize::from(tile) < across {
-        let next = first_near_tile::<M, R>(rows, band, tile, rect, limit_with(limit, best));
-        best = merged(rect.y0, best, next);
-        tile = next_tile(tiles, tile + 1);
-    }
-    best
-}
-
 /// A number of rows so large that rows as far away have no distance below the limit, or the most
 /// of all.
 pub fn reach<M: Metric>(limit: u64) -> u16
@@ -332,38 +305,4 @@ pub fn bands_within(bands: u64, rect: Rect, rows: u16) -> u64
     let first = rect.y0.saturating_sub(rows) / BAND_ROWS;
     let last = (rect.y1 - 1 + rows).min(MOST_SIDE - 1) / BAND_ROWS;
     bits_through(bits_from(bands, first), last)
-}
-
-/// The first of the obstacles, seen from the rectangle, if its distance is below the limit, band by
-/// band.
-pub fn first_by_bands<M: Metric, R: Rows>(rows: &mut R, rect: Rect, limit: u64) -> Option<Found>
-    requires bitmap { IsBitmap (R.cells rows.old) }
-    ensures first { IsSpotBelow M.distance (IsObstacle (R.cells rows.old)) rect limit result }
-    ensures rows { rows.new ≡ rows.old }
-{
-    let marks = rows.bands();
-    let bands = bands_within(marks, rect, reach::<M>(limit));
-    let (mut band, mut best) = (next_tile(bands, 0), None);
-    'bands: while band < NO_TILE {
-        let next = first_in_band::<M, R>(rows, band, rect, limit_with(limit, best));
-        best = merged(rect.y0, best, next);
-        band = next_tile(bands, band + 1);
-    }
-    best
-}
-
-/// The first of the obstacles, seen from the rectangle, if its distance is below the limit, for
-/// which this is a seed.
-pub fn first_by_tiles<M: Metric, R: Rows>(
-    rows: &mut R,
-    rect: Rect,
-    _limit: u64,
-    seed: u64,
-) -> Option<Found>
-    requires bitmap { IsBitmap (R.cells rows.old) }
-    requires seed { IsSeed M.distance (R.cells rows.old) rect _limit seed }
-    ensures first { IsSpotBelow M.distance (IsObstacle (R.cells rows.old)) rect _limit result }
-    ensures rows { rows.new ≡ rows.old }
-{
-    first_by_bands::<M, R>(rows, rect, seed)
 }

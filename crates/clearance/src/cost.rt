@@ -3,16 +3,19 @@
 ghost use Rattle.std.specs.Prelude.{◌<◌, ◌≤◌};
 
 use crate::bit::{bits_from, bits_through};
-use crate::by_tiles::{bands_within, rows_within};
+use crate::by_tiles::bands_within;
 use crate::far_bands::rows_apart;
 use crate::rows::Rows;
 use crate::search::SPARSE_GAP;
 use crate::tiles::{NO_TILE, are_few, next_tile};
 use metric::{BAND_ROWS, LAST_FRAMED, MOST_SIDE, Metric, Rect, WORD_CELLS};
 
-/// What the search of a tile costs, in instructions as those below: counted on plans, yards and
-/// walls, as are the others.
-const TILE: u32 = 1000;
+/// What the search of a tile costs besides its rows, in instructions as those below: counted on
+/// plans, yards and walls, as are the others.
+const TILE: u32 = 150;
+
+/// What a row costs in the search of a tile.
+const TILE_ROW: u32 = 14;
 
 /// What the search of a row costs besides its words.
 const ROW: u32 = 60;
@@ -23,12 +26,12 @@ const WORD: u32 = 11;
 /// What a word costs where it is first asked whether the row is blank.
 const BLANK_WORD: u32 = 3;
 
-/// Whether a search by tiles for obstacles below the limit costs less than one by rows: by the
-/// tiles and the rows, of the bands that may have an obstacle, that are within the limit. Where it
-/// was loose, rows are searched as a whole till an obstacle is found, and else in the tiles within.
-pub fn does_pay<M: Metric, R: Rows>(rows: &R, rect: Rect, limit: u64, loose: bool) -> bool {
-    // A metric is the same by columns and by rows.
-    let reach = rows_within::<M>(0, limit).min(MOST_SIDE);
+/// Whether a search by tiles costs less than one by rows, for obstacles that may be so many rows or
+/// columns away: by the tiles and the rows, of the bands that may have an obstacle, that are within
+/// the reach. A tile of the known band needn't be searched.
+pub fn does_pay<M: Metric, R: Rows>(rows: &R, rect: Rect, reach: u16, known: u16) -> bool
+    requires { reach ≤ MOST_SIDE }
+{
     let bands = bands_within(rows.bands(), rect, reach);
     let tiles = places_near(rect.x0, rect.x1, reach);
     let (top, end) = (
@@ -39,49 +42,42 @@ pub fn does_pay<M: Metric, R: Rows>(rows: &R, rect: Rect, limit: u64, loose: boo
     let mut band = next_tile(bands, 0);
     'bands: while band < NO_TILE {
         let first = top.max(BAND_ROWS * band);
-        let met = end.min(BAND_ROWS * band + BAND_ROWS).saturating_sub(first);
+        let met = u32::from(end.min(BAND_ROWS * band + BAND_ROWS).saturating_sub(first));
         let count = count_marked::<R>(rows, band, tiles);
-        let words = if loose {
-            words_of_row(rows, rect, band)
-        } else {
-            words_within(rows, band, tiles, count)
-        };
-        by_tiles = by_tiles.wrapping_add(TILE * count);
-        by_rows = by_rows.wrapping_add((ROW + words) * u32::from(met));
+        let left = count.saturating_sub(u32::from(band == known));
+        by_tiles = by_tiles.wrapping_add(tile_cost(met) * left);
+        by_rows = by_rows.wrapping_add((ROW + words_cost(rows, rect, band, tiles, count)) * met);
         band = next_tile(bands, band + 1);
     }
     is_less::<M>(by_tiles, by_rows)
 }
 
-/// What the words of a row in a band cost, as long as no obstacle is found.
-fn words_of_row<R: Rows>(rows: &R, rect: Rect, band: u16) -> u32
-    requires { band < 64 }
-    ensures { result ≤ 704 }
+/// What the search of so many rows of a tile costs.
+#[inline(always)]
+fn tile_cost(rows: u32) -> u32
+    requires { rows ≤ 64 }
+    ensures { result ≤ 1046 }
 {
-    let (tiles, across) = (rows.tiles(band), rows.across());
-    if are_few(tiles, across) {
-        return WORD * tiles.count_ones();
-    }
-    let words = across.min(64) as u32;
-    if rows_apart(rect, band) >= SPARSE_GAP {
-        BLANK_WORD * words
-    } else {
-        WORD * words
-    }
+    TILE + TILE_ROW * rows
 }
 
 /// What the words of a row in a band cost, if it is searched in these tiles, of which so many may
 /// have an obstacle.
-fn words_within<R: Rows>(rows: &R, band: u16, tiles: (u16, u16), count: u32) -> u32
+fn words_cost<R: Rows>(rows: &R, rect: Rect, band: u16, tiles: (u16, u16), count: u32) -> u32
     requires band { band < 64 }
     requires last { tiles.1 < 64 }
     requires count { count ≤ 64 }
     ensures { result ≤ 704 }
 {
-    if are_few(rows.tiles(band), rows.across()) {
-        WORD * count
+    let across = rows.across();
+    if are_few(rows.tiles(band), across) {
+        return WORD * count;
+    }
+    let words = across.min(64) as u32;
+    if rows_apart(rect, band) >= SPARSE_GAP {
+        BLANK_WORD * words
     } else {
-        WORD * (u32::from(tiles.1.saturating_sub(tiles.0)) + 1)
+        WORD * words.min(u32::from(tiles.1.saturating_sub(tiles.0)) + 1)
     }
 }
 
@@ -110,12 +106,25 @@ pub fn can_pay<M: Metric, R: Rows>(rows: &R, rect: Rect, gap: u16) -> bool
     let above = rect.y0.saturating_sub(gap) / BAND_ROWS;
     let below = (rect.y1 - 1 + gap).min(MOST_SIDE - 1) / BAND_ROWS;
     let mut count = count_marked::<R>(rows, above, tiles);
-    let mut words = ROW + words_of_row(rows, rect, above);
+    let mut words = ROW + row_cost(rows, rect, above);
     if above != below && rows.tiles(below) != 0 {
         count += count_marked::<R>(rows, below, tiles);
-        words += ROW + words_of_row(rows, rect, below);
+        words += ROW + row_cost(rows, rect, below);
     }
-    is_less::<M>(TILE * count, u32::from(BAND_ROWS) * words)
+    is_less::<M>(
+        tile_cost(u32::from(BAND_ROWS)) * count,
+        u32::from(BAND_ROWS) * words,
+    )
+}
+
+/// What the words of a row in a band cost, as long as no obstacle is found.
+#[inline(always)]
+fn row_cost<R: Rows>(rows: &R, rect: Rect, band: u16) -> u32
+    requires { band < 64 }
+    ensures { result ≤ 704 }
+{
+    let tiles = (0, NO_TILE - 1);
+    words_cost(rows, rect, band, tiles, rows.tiles(band).count_ones())
 }
 
 /// How many of these tiles of a band may have an obstacle, from a first one to a last.

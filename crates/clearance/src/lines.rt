@@ -15,7 +15,7 @@ use crate::strip::Strip;
 use metric::{Edge, LAST_FRAMED, Metric, Rect};
 
 /// The most searches by tiles for the lines of a strip.
-const MOST_TURNS: u8 = 4;
+const MOST_TURNS: u8 = 2;
 
 /// The lines of a strip from one on, and the limit: an obstacle is near a line if its distance is
 /// below it.
@@ -89,8 +89,8 @@ impl Lines {
     }
 
     /// As `first_in_bits`, by tiles while that pays. Each row in which an obstacle is found near
-    /// leaves fewer lines for the next search; after a few of them the lines that are left are
-    /// searched by rows, so that no order of obstacles asks for many.
+    /// leaves fewer lines for the next search; after two of them the lines that are left are
+    /// searched by rows: each search of their tiles may be in vain.
     fn first_by_tiles<M: Metric, R: Rows>(self, rows: &mut R, rect: Rect, end: u16) -> u16
         requires strip { IsStripIn (R.cells rows.old) self.strip }
         requires lines { IsRectOf self end rect }

@@ -3,26 +3,46 @@
 ghost use Rattle.std.specs.Prelude.{◌≡◌, ◌+◌, ◌<◌, ◌≤◌, ◌↔◌, IsTrue};
 ghost use Rattle.std.specs.Int.{abs_diff};
 ghost use Rattle.bits.specs.Cells.{IsInside, IsObstacle};
-ghost use Rattle.clearance.specs.Nearest.{IsAhead, IsBetter, IsCellRect, IsNearCell, IsRowFirst};
+ghost use Rattle.clearance.specs.Nearest.{IsAhead, IsBetter, IsCellRect, IsFoundBelow, IsRowFirst};
 ghost use Rattle.clearance.specs.Nearest.{IsRowUpTo, IsSeenInRow, IsSought, IsWithin};
-ghost use Rattle.clearance.specs.Nearest.{IsWithinOrAbove, limit_of};
+ghost use Rattle.clearance.specs.Nearest.{IsWithinOrAbove};
 
 use crate::band::{first_gap, next_gap};
 use crate::far_bands::near_bands;
 use crate::found::Found;
 use crate::rows::Rows;
 use crate::search::{FAR_GAP, NO_LIMIT, is_found_blank, is_passed};
+use crate::spot::limit_with;
 use crate::tiles::{SearchedRow, has_few_tiles};
 use crate::words::{last_nearer, next_nearer};
 use metric::{Cell, MOST_SIDE, Metric, Rect};
 
-/// The nearest obstacle of the cell; `None` if the map has no obstacle.
+/// The nearest obstacle of the cell; `None` if none is nearer than the limit.
+///
+/// A search without a limit is compiled apart: it compares no distances till it has found one.
+pub fn nearest_by_rows<M: Metric, R: Rows>(rows: &mut R, cell: Cell, limit: u64) -> Option<Found>
+    requires { IsInside (R.cells rows.old) cell.x cell.y }
+    ensures near { IsFoundBelow M.distance (IsObstacle (R.cells rows.old)) cell.x cell.y limit
+        result }
+    ensures rows { rows.new ≡ rows.old }
+{
+    if limit < NO_LIMIT {
+        nearest_in_rows::<M, R>(rows, cell, limit)
+    } else {
+        nearest_in_rows::<M, R>(rows, cell, NO_LIMIT)
+    }
+}
+
+/// As `nearest_by_rows`, for a limit up to `NO_LIMIT`.
 ///
 /// Searches the rows that may have an obstacle from the cell outwards, the upper one of two first,
 /// and the words of each row as long as an obstacle there can be as near as the best so far.
-pub fn nearest_by_rows<M: Metric, R: Rows>(rows: &mut R, cell: Cell) -> Option<Found>
-    requires { IsInside (R.cells rows.old) cell.x cell.y }
-    ensures near { IsNearCell M.distance (IsObstacle (R.cells rows.old)) cell.x cell.y result }
+#[inline(always)]
+fn nearest_in_rows<M: Metric, R: Rows>(rows: &mut R, cell: Cell, limit: u64) -> Option<Found>
+    requires inside { IsInside (R.cells rows.old) cell.x cell.y }
+    requires few { limit ≤ NO_LIMIT }
+    ensures near { IsFoundBelow M.distance (IsObstacle (R.cells rows.old)) cell.x cell.y limit
+        result }
     ensures rows { rows.new ≡ rows.old }
 {
     let mut best = None;
@@ -30,12 +50,12 @@ pub fn nearest_by_rows<M: Metric, R: Rows>(rows: &mut R, cell: Cell) -> Option<F
     let here = cell_rect(cell);
     let mut gap = first_gap(bands, cell.y, cell.y, 0);
     'gaps: while gap < height {
-        if u64::from(M::of(0, gap)) >= limit_of(best) {
+        if u64::from(M::of(0, gap)) >= limit_with(limit, best) {
             return best;
         }
-        best = with_row_above::<M, R>(rows, cell, gap, best);
-        best = with_row_below::<M, R>(rows, cell, gap, best);
-        bands = near_bands::<M, R>(rows, bands, here, gap + 1, limit_of(best));
+        best = with_row_above::<M, R>(rows, cell, gap, limit, best);
+        best = with_row_below::<M, R>(rows, cell, gap, limit, best);
+        bands = near_bands::<M, R>(rows, bands, here, gap + 1, limit_with(limit, best));
         gap = next_gap(bands, cell.y, cell.y, gap + 1);
     }
     best
@@ -56,71 +76,67 @@ pub fn cell_rect(cell: Cell) -> Rect
     }
 }
 
-/// A limit above the distance of the best so far: an obstacle equally near may be better.
-fn limit_of(best: Option<Found>) -> u64
-    ensures is { result ≡ limit_of best }
-    ensures few { result ≤ NO_LIMIT }
-{
-    match best {
-        Some(near) => u64::from(near.dist) + 1,
-        None => NO_LIMIT,
-    }
-}
-
 /// The best after a search of the row this many rows above the cell, if there is one.
+#[inline(always)]
 fn with_row_above<M: Metric, R: Rows>(
     rows: &mut R,
     cell: Cell,
     gap: u16,
+    limit: u64,
     best: Option<Found>,
 ) -> Option<Found>
     requires gap { gap < MOST_SIDE }
-    requires sought { IsSought M.distance (R.cells rows.old) cell (IsWithin cell.y gap) best }
+    requires sought { IsSought M.distance (R.cells rows.old) cell (IsWithin cell.y gap) limit best }
     ensures sought { IsSought M.distance (R.cells rows.new) cell
-        (IsWithinOrAbove cell.y gap) result }
+        (IsWithinOrAbove cell.y gap) limit result }
     ensures rows { rows.new ≡ rows.old }
 {
     if gap <= cell.y {
-        with_row::<M, R>(rows, cell, cell.y - gap, gap, best)
+        with_row::<M, R>(rows, cell, cell.y - gap, gap, limit, best)
     } else {
         best
     }
 }
 
 /// As `with_row_above`, below the cell.
+#[inline(always)]
 fn with_row_below<M: Metric, R: Rows>(
     rows: &mut R,
     cell: Cell,
     gap: u16,
+    limit: u64,
     best: Option<Found>,
 ) -> Option<Found>
     requires gap { gap < MOST_SIDE }
     requires sought { IsSought M.distance (R.cells rows.old) cell
-        (IsWithinOrAbove cell.y gap) best }
+        (IsWithinOrAbove cell.y gap) limit best }
     ensures sought { IsSought M.distance (R.cells rows.new) cell
-        (IsWithin cell.y (gap + 1)) result }
+        (IsWithin cell.y (gap + 1)) limit result }
     ensures rows { rows.new ≡ rows.old }
 {
     if 0 < gap && cell.y + gap < rows.height() {
-        with_row::<M, R>(rows, cell, cell.y + gap, gap, best)
+        with_row::<M, R>(rows, cell, cell.y + gap, gap, limit, best)
     } else {
         best
     }
 }
 
 /// The best after a search of a row this many rows away.
+#[inline(always)]
 fn with_row<M: Metric, R: Rows>(
     rows: &mut R,
     cell: Cell,
     row: u16,
     gap: u16,
+    limit: u64,
     best: Option<Found>,
 ) -> Option<Found>
     requires row { row < (R.cells rows.old).height }
     requires gap { gap ≡ abs_diff cell.y row }
     requires sought { IsSought M.distance (R.cells rows.old) cell
-        (λ a b. IsRowFirst cell.y row b) best }
-    ensures sought { IsSought M.distance (R.cells rows.new) cell (IsRowUpTo cell.y row) result }
+        (λ a b. IsRowFirst cell.y row b) limit best }
+    ensures sought { IsSought M.distance (R.cells rows.new) cell (IsRowUpTo cell.y row) limit
+        result }
     ensures rows { rows.new ≡ rows.old }
 {
     let far = gap >= FAR_GAP;
@@ -132,7 +148,7 @@ fn with_row<M: Metric, R: Rows>(
             y: row,
             by_tiles: true,
         };
-        return with_searched::<M, R>(rows, cell, searched, gap, best);
+        return with_searched::<M, R>(rows, cell, searched, gap, limit, best);
     }
     if is_found_blank(rows, row, gap, far) {
         return best;
@@ -141,7 +157,7 @@ fn with_row<M: Metric, R: Rows>(
         y: row,
         by_tiles: false,
     };
-    with_searched::<M, R>(rows, cell, searched, gap, best)
+    with_searched::<M, R>(rows, cell, searched, gap, limit, best)
 }
 
 /// As `with_row`, for a row that isn't skipped.
@@ -151,17 +167,19 @@ fn with_searched<M: Metric, R: Rows>(
     cell: Cell,
     row: SearchedRow,
     gap: u16,
+    limit: u64,
     best: Option<Found>,
 ) -> Option<Found>
     requires row { row.y < (R.cells rows.old).height }
     requires gap { gap ≡ abs_diff cell.y row.y }
     requires sought { IsSought M.distance (R.cells rows.old) cell
-        (λ a b. IsRowFirst cell.y row.y b) best }
-    ensures sought { IsSought M.distance (R.cells rows.new) cell (IsRowUpTo cell.y row.y) result }
+        (λ a b. IsRowFirst cell.y row.y b) limit best }
+    ensures sought { IsSought M.distance (R.cells rows.new) cell (IsRowUpTo cell.y row.y) limit
+        result }
     ensures rows { rows.new ≡ rows.old }
 {
-    let right = with_right::<M, R>(rows, cell, row, gap, best);
-    with_left::<M, R>(rows, cell, row, gap, right)
+    let right = with_right::<M, R>(rows, cell, row, gap, limit, best);
+    with_left::<M, R>(rows, cell, row, gap, limit, right)
 }
 
 /// The best after a search of the row's obstacles from the cell's column on: the first of them is
@@ -172,17 +190,18 @@ fn with_right<M: Metric, R: Rows>(
     cell: Cell,
     row: SearchedRow,
     gap: u16,
+    limit: u64,
     best: Option<Found>,
 ) -> Option<Found>
     requires row { row.y < (R.cells rows.old).height }
     requires gap { gap ≡ abs_diff cell.y row.y }
     requires sought { IsSought M.distance (R.cells rows.old) cell
-        (λ a b. IsRowFirst cell.y row.y b) best }
+        (λ a b. IsRowFirst cell.y row.y b) limit best }
     ensures sought { IsSought M.distance (R.cells rows.new) cell
-        (IsSeenInRow cell.y row.y (λ a. cell.x ≤ a)) result }
+        (IsSeenInRow cell.y row.y (λ a. cell.x ≤ a)) limit result }
     ensures rows { rows.new ≡ rows.old }
 {
-    match next_nearer::<M, R>(rows, row, cell.x, cell.x, gap, limit_of(best)) {
+    match next_nearer::<M, R>(rows, row, cell.x, cell.x, gap, limit_with(limit, best)) {
         Some(x) => {
             let dist = M::of(x - cell.x, gap);
             let next = Found {
@@ -203,17 +222,26 @@ fn with_left<M: Metric, R: Rows>(
     cell: Cell,
     row: SearchedRow,
     gap: u16,
+    limit: u64,
     right: Option<Found>,
 ) -> Option<Found>
     requires row { row.y < (R.cells rows.old).height }
     requires gap { gap ≡ abs_diff cell.y row.y }
     requires sought { IsSought M.distance (R.cells rows.old) cell
-        (IsSeenInRow cell.y row.y (λ a. cell.x ≤ a)) right }
-    ensures sought { IsSought M.distance (R.cells rows.new) cell (IsRowUpTo cell.y row.y) result }
+        (IsSeenInRow cell.y row.y (λ a. cell.x ≤ a)) limit right }
+    ensures sought { IsSought M.distance (R.cells rows.new) cell (IsRowUpTo cell.y row.y) limit
+        result }
     ensures rows { rows.new ≡ rows.old }
 {
     let (mut best, mut end) = (right, cell.x);
-    'left: while let Some(x) = last_nearer::<M, R>(rows, row, end, cell.x, gap, limit_of(best)) {
+    'left: while let Some(x) = last_nearer::<M, R>(
+        rows,
+        row,
+        end,
+        cell.x,
+        gap,
+        limit_with(limit, best),
+    ) {
         let dist = M::of(cell.x - x, gap);
         let next = Found {
             dist,

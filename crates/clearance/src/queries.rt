@@ -13,6 +13,7 @@ use crate::area::least_of_rect;
 use crate::border::nearest_spot;
 use crate::path::check_path;
 use crate::rows::{Rows, holds, holds_rect};
+use crate::search::NO_LIMIT;
 use crate::walk::{first_of_path, least_of_path};
 use bits::Bitmap;
 use metric::{Cell, Edge, Metric, Near, Rect, Refusal};
@@ -115,7 +116,7 @@ pub fn at_rows<M: Metric, R: Rows>(
     if !holds(rows, cell) {
         return Err(Refusal::OutOfRange);
     }
-    Ok(nearest_spot::<M, R>(rows, edge, cell))
+    Ok(nearest_spot::<M, R>(rows, edge, cell, NO_LIMIT))
 }
 
 /// As `least_in`, of a map that is read word by word.

@@ -70,6 +70,7 @@ fn least_inside<M: Metric, R: Rows>(rows: &mut R, rect: Rect, limit: u64) -> u64
 
 /// The least so far, or a lesser distance to an obstacle this many rows above the rectangle, if
 /// there is such a row.
+#[inline(always)]
 pub fn lowered_above<M: Metric, R: Rows>(rows: &mut R, rect: Rect, gap: u16, least: u64) -> u64
     requires rect { IsRectIn (R.cells rows.old) rect }
     requires gap { gap ≤ LAST_FRAMED }
@@ -87,6 +88,7 @@ pub fn lowered_above<M: Metric, R: Rows>(rows: &mut R, rect: Rect, gap: u16, lea
 }
 
 /// As `lowered_above`, below the rectangle.
+#[inline(always)]
 pub fn lowered_below<M: Metric, R: Rows>(rows: &mut R, rect: Rect, gap: u16, least: u64) -> u64
     requires rect { IsRectIn (R.cells rows.old) rect }
     requires gap { gap ≤ LAST_FRAMED }
@@ -107,6 +109,7 @@ pub fn lowered_below<M: Metric, R: Rows>(rows: &mut R, rect: Rect, gap: u16, lea
 /// The least so far, or a lesser distance to an obstacle in row `y`, this many rows away.
 ///
 /// Skips blank tiles until an obstacle is close by, and from then on searches the row word by word.
+#[inline(always)]
 pub fn lowered<M: Metric, R: Rows>(rows: &mut R, rect: Rect, y: u16, gap: u16, least: u64) -> u64
     requires rect { IsRectIn (R.cells rows.old) rect }
     requires row { y < (R.cells rows.old).height }

@@ -4,7 +4,8 @@
 ghost use Rattle.std.specs.Prelude.{◌≡◌, ◌<◌, ◌≤◌, true};
 ghost use Rattle.clearance.specs.Search.{column_gap, row_gap};
 ghost use Rattle.clearance.specs.Spots.{AreLeftOf, AreParts, AreRightFrom, IsInWord, IsLastBit};
-ghost use Rattle.clearance.specs.Spots.{IsMerged, IsSpotBelow, IsSpotIf, limit_with};
+ghost use Rattle.clearance.specs.Nearest.{limit_with};
+ghost use Rattle.clearance.specs.Spots.{IsMerged, IsSpotBelow, IsSpotIf};
 
 use crate::bit::{bits_below, bits_from, highest_bit, lowest_bit};
 use crate::found::Found;

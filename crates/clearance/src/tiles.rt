@@ -64,9 +64,13 @@ pub fn next_tile(tiles: u64, from: u16) -> u16
     requires { from ≤ 64 }
     ensures from { from ≤ result }
     ensures few { result ≤ 64 }
+    ensures some { result < 64 → bit_at tiles result ≡ 1 }
     ensures none { (k : ℕ) → from ≤ k → k < result → bit_at tiles k ≡ 1 → ⊥ }
 {
-    if tiles == u64::MAX || from == NO_TILE {
+    if from == NO_TILE {
+        return from;
+    }
+    if tiles == u64::MAX {
         return from;
     }
     let later = bits_from(tiles, from);

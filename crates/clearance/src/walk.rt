@@ -193,5 +193,5 @@ fn first_of_piece<M: Metric, R: Rows>(
     if step == end {
         return None;
     }
-    with_nearest::<M, R>(rows, edge, cells.cell(step))
+    with_nearest::<M, R>(rows, edge, cells.cell(step), limit)
 }

@@ -16,11 +16,11 @@ bands-init g c =
     c.bands_within-within.ensures c.reach.ensures.far in
     let live = AreBandsLive-without g.M.Metric.distance cells c.args.rect c.args.limit
     c.bands_within-within.result c.without_bit-bands.result c.args.known c.requires.bitmap
-    c.requires.far c.without_bit-bands.ensures within in
+    c.requires.far c.without_bit-bands.ensures.kept within in
     record {
       rows = refl;
-      far = IsSpotBelow-map_none g.M.Metric.distance (g.R.Rows.cells c.args.rows.now) c.args.rect
-          c.without_bit-bands.result c.next_tile-band.result c.args.limit live
+      far = IsSpotBelow-map_none g.M.Metric.distance cells (IsObstacle cells) c.args.rect
+          c.without_bit-bands.result c.next_tile-band.result c.args.limit live (λ a b here. here)
           c.next_tile-band.ensures.none;
       few = c.next_tile-band.ensures.few;
     }
@@ -41,19 +41,21 @@ bands-preserved g c =
     c.bands_within-within.ensures c.reach.ensures.far in
     let live = AreBandsLive-without g.M.Metric.distance cells c.args.rect c.args.limit
     c.bands_within-within.result c.without_bit-bands.result c.args.known c.requires.bitmap
-    c.requires.far c.without_bit-bands.ensures within in
+    c.requires.far c.without_bit-bands.ensures.kept within in
     let from = c.next_tile-band-in-bands.ensures.from in
     let next = rw (c.in_default.is, c.bands.invariant.rows) at c.any_in_band.ensures.any in
     record {
       rows = c.any_in_band.ensures.rows ∙ c.bands.invariant.rows;
-      far = IsSpotBelow-band_more g.M.Metric.distance (g.R.Rows.cells c.args.rows.now) c.args.rect
+      far = IsSpotBelow-band_more g.M.Metric.distance cells (IsObstacle cells) c.args.rect
           c.without_bit-bands.result c.bands.band c.next_tile-band-in-bands.result c.args.limit
-          None None None live (omega arith) c.next_tile-band-in-bands.ensures.none
+          None None None live (λ a b here. here) (omega arith) c.next_tile-band-in-bands.ensures.none
           c.bands.invariant.far next refl;
       few = c.next_tile-band-in-bands.ensures.few;
     }
 
 pub returns-clause-any : goal.returns-clause-any
 returns-clause-any g c =
-    IsSpotBelow-map_all g.M.Metric.distance (g.R.Rows.cells c.args.rows.now) c.args.rect
-    c.bands.band c.args.limit None c.requires.bitmap (omega arith) c.bands.invariant.far
+    let cells = g.R.Rows.cells c.args.rows.now in
+    IsSpotBelow-map_all g.M.Metric.distance cells (IsObstacle cells) c.args.rect
+    c.bands.band c.args.limit None c.requires.bitmap (λ a b here. here) (omega arith)
+    c.bands.invariant.far

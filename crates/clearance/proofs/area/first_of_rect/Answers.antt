@@ -15,8 +15,11 @@ with_nearest-requires g c =
     let cell = column.cell in
     rw (c.first_column-x.ensures.rows, c.first_row-y.ensures.rows)
     (record {
-      column = omega (arith, rect.columns, cell.right);
-      row = omega (arith, rect.rows, cell.bottom);
+      inside = record {
+        column = omega (arith, rect.columns, cell.right);
+        row = omega (arith, rect.rows, cell.bottom);
+      };
+      near = column.near;
     })
 
 pub returns-clause-found : goal.returns-clause-found

@@ -1,6 +1,7 @@
 -- What is found lies in the bitmap.
 use Rattle.std.proofs.Common.{arith}
 use Rattle.bits.proofs.CellsLemmas.{has-outside}
+use Rattle.clearance.proofs.Borders.{IsNear-none}
 use Rattle.clearance.proofs.border.nearest_open.Goals as goal
 
 pub as_near-requires-clause-column : goal.as_near-requires-clause-column
@@ -16,3 +17,8 @@ as_near-requires-clause-row g c =
     c.in-Some.found.cell.x c.in-Some.found.cell.y c.in-Some.ensures.near.obstacle).row in
     let high = c.holds-inside.ensures.bitmap.height_is.few in
     omega arith
+
+pub returns-in-None-clause-near : goal.returns-in-None-clause-near
+returns-in-None-clause-near g c =
+    IsNear-none g.M.Metric.distance (g.R.Rows.cells c.args.rows.now) c.args.cell.x c.args.cell.y
+    c.args.limit c.requires.near c.in-None.ensures.near

@@ -6,7 +6,7 @@ use Rattle.clearance.proofs.border.nearest_walled.Goals as goal
 pub better-requires : goal.better-requires
 better-requires g c =
     found_small g.M.Metric.distance (g.R.Rows.cells c.args.rows.now) c.args.cell.x c.args.cell.y _
-    c.own_below-own.result c.holds-inside.ensures.bitmap c.own_below-own.ensures.found
+    c.nearest_below-own.result c.holds-inside.ensures.bitmap c.nearest_below-own.ensures.near
 
 pub as_near-requires-clause-column : goal.as_near-requires-clause-column
 as_near-requires-clause-column g c =
@@ -14,8 +14,8 @@ as_near-requires-clause-column g c =
     let frame = rw (c.width-width.ensures.width, c.height-height.ensures.height) at
     c.frame_nearest-frame.ensures in
     let found = best_framed g.M.Metric.distance cells c.args.cell.x c.args.cell.y
-    c.frame_nearest-frame.result c.own_below-own.result c.better.result frame
-    (rw c.from.ensures at c.own_below-own.ensures.found) c.better.ensures in
+    c.frame_nearest-frame.result c.nearest_below-own.result c.better.result frame
+    (rw c.from.ensures at c.nearest_below-own.ensures.near) c.better.ensures in
     (framed_small cells c.better.result.cell.x c.better.result.cell.y c.holds-inside.ensures.bitmap
     found.obstacle).0
 
@@ -25,8 +25,8 @@ as_near-requires-clause-row g c =
     let frame = rw (c.width-width.ensures.width, c.height-height.ensures.height) at
     c.frame_nearest-frame.ensures in
     let found = best_framed g.M.Metric.distance cells c.args.cell.x c.args.cell.y
-    c.frame_nearest-frame.result c.own_below-own.result c.better.result frame
-    (rw c.from.ensures at c.own_below-own.ensures.found) c.better.ensures in
+    c.frame_nearest-frame.result c.nearest_below-own.result c.better.result frame
+    (rw c.from.ensures at c.nearest_below-own.ensures.near) c.better.ensures in
     (framed_small cells c.better.result.cell.x c.better.result.cell.y c.holds-inside.ensures.bitmap
     found.obstacle).1
 
@@ -39,5 +39,5 @@ returns-clause-near g c =
     (wall_nearest g.M.Metric.distance cells c.args.cell.x c.args.cell.y c.better.result.dist
     c.better.result.cell.x c.better.result.cell.y
     (best_framed g.M.Metric.distance cells c.args.cell.x c.args.cell.y c.frame_nearest-frame.result
-    c.own_below-own.result c.better.result frame
-    (rw c.from.ensures at c.own_below-own.ensures.found) c.better.ensures))
+    c.nearest_below-own.result c.better.result frame
+    (rw c.from.ensures at c.nearest_below-own.ensures.near) c.better.ensures))

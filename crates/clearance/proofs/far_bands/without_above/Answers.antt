@@ -24,6 +24,6 @@ upwards-preserved g c =
           (IsThinned-without g.M.Metric.distance (g.R.Rows.cells c.args.rows.now) c.args.rect
           c.args.gap c.args.least c.upwards.left c.without_bit-left.result
           (c.upwards.after - 1) bitmap (far c.if-not-is_band_far.false)
-          c.without_bit-left.ensures);
+          c.without_bit-left.ensures.kept);
       few = let few = c.after_last_tile-after.ensures.few in omega arith;
     }

@@ -23,6 +23,6 @@ downwards-preserved g c =
           c.downwards.left c.without_bit-left.result c.downwards.invariant.thinned
           (IsThinned-without g.M.Metric.distance (g.R.Rows.cells c.args.rows.now) c.args.rect
           c.args.gap c.args.least c.downwards.left c.without_bit-left.result
-          (c.downwards.band) bitmap (far c.if-not-is_band_far.false) c.without_bit-left.ensures);
+          (c.downwards.band) bitmap (far c.if-not-is_band_far.false) c.without_bit-left.ensures.kept);
       few = c.next_tile-band-in-downwards.ensures.few;
     }

@@ -1,6 +1,7 @@
 -- Obstacle by obstacle to the left, as long as one is as near as the best.
 use Rattle.std.proofs.Common.{◌∙◌, arith}
 use Rattle.clearance.proofs.NearestSearches.{IsNearAmong-left, IsNearAmong-left_none}
+use Rattle.clearance.proofs.NearestSearches.{limit_with-better}
 use Rattle.clearance.proofs.RowWords.{IsRowOf-words}
 use Rattle.clearance.specs.Rows.{words_of_row}
 use Rattle.clearance.proofs.nearest.with_left.Goals as goal
@@ -17,11 +18,17 @@ left-preserved g c =
       sought = record {
         bitmap = sought.bitmap;
         inside = sought.inside;
-        near = IsNearAmong-left _ cells c.args.cell.x c.args.cell.y c.args.row.y c.args.gap
-            c.limit_of.result c.of-dist.result c.in-Some.x c.left.end
+        within = limit_with-better c.args.limit c.left.best _ c.better.result
+            (let nearer = found.nearer in
+            rw (c.of-dist.ensures) (rw (c.limit_with.ensures.is) at nearer)) sought.within
+            c.better.ensures;
+        few = sought.few;
+        near = IsNearAmong-left g.M.Metric.distance cells c.args.cell.x c.args.cell.y c.args.row.y
+            c.args.gap
+            c.args.limit c.limit_with.result c.of-dist.result c.in-Some.x c.left.end
             (words_of_row cells c.args.row.y) c.left.best c.better.result
             sought.bitmap c.left.invariant.order (IsRowOf-words cells c.args.row.y) c.requires.gap
-            found c.of-dist.ensures c.better.ensures sought.near;
+            c.limit_with.ensures.is found c.of-dist.ensures c.better.ensures sought.near;
       };
       order = omega arith;
     }
@@ -34,8 +41,11 @@ returns-clause-sought g c =
     rw (c.last_nearer.ensures.rows, c.left.invariant.rows) (record {
       bitmap = sought.bitmap;
       inside = sought.inside;
-      near = IsNearAmong-left_none _ cells c.args.cell.x c.args.cell.y c.args.row.y c.args.gap
-          c.limit_of.result c.left.end (words_of_row cells c.args.row.y) c.left.best
+      within = sought.within;
+      few = sought.few;
+      near = IsNearAmong-left_none g.M.Metric.distance cells c.args.cell.x c.args.cell.y
+          c.args.row.y c.args.gap
+          c.args.limit c.limit_with.result c.left.end (words_of_row cells c.args.row.y) c.left.best
           sought.bitmap c.left.invariant.order (IsRowOf-words cells c.args.row.y) c.requires.gap
-          c.limit_of.ensures.is none sought.near;
+          c.limit_with.ensures.is none sought.near;
     })

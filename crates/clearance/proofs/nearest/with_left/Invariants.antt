@@ -7,7 +7,7 @@ abbrev pub invariant-left : goal.invariant-left
 invariant-left g l = record {
   rows : l.rows ≡ l.fn.rows;
   sought : IsSought g.M.Metric.distance (g.R.Rows.cells l.fn.rows) l.cell
-      (IsSeenInRow l.cell.y l.row.y (λ a. l.end ≤ a)) l.best;
+      (IsSeenInRow l.cell.y l.row.y (λ a. l.end ≤ a)) l.limit l.best;
   order : l.end ≤ l.cell.x;
 }
 

@@ -13,8 +13,11 @@ returns-then-is_passed-clause-sought g c =
     record {
       bitmap = sought.bitmap;
       inside = sought.inside;
-      near = IsNearAmong-blank _ cells c.args.cell.x c.args.cell.y c.args.row
-          (words_of_row cells c.args.row) c.args.best sought.bitmap (IsRowOf-words cells c.args.row)
+      within = sought.within;
+      few = sought.few;
+      near = IsNearAmong-blank g.M.Metric.distance cells c.args.cell.x c.args.cell.y c.args.row
+          c.args.limit (words_of_row cells c.args.row) c.args.best sought.bitmap (IsRowOf-words
+          cells c.args.row)
           (λ (k : ℕ) (within : k < length (words_of_row cells c.args.row)).
           blank k (omega (arith, length-words_of_row cells c.args.row))) sought.near;
     }
@@ -27,8 +30,11 @@ returns-then-is_found_blank-clause-sought g c =
     rw (c.is_found_blank.ensures.rows) (record {
       bitmap = sought.bitmap;
       inside = sought.inside;
-      near = IsNearAmong-blank _ cells c.args.cell.x c.args.cell.y c.args.row
-          (words_of_row cells c.args.row) c.args.best sought.bitmap (IsRowOf-words cells c.args.row)
+      within = sought.within;
+      few = sought.few;
+      near = IsNearAmong-blank g.M.Metric.distance cells c.args.cell.x c.args.cell.y c.args.row
+          c.args.limit (words_of_row cells c.args.row) c.args.best sought.bitmap (IsRowOf-words
+          cells c.args.row)
           (λ (k : ℕ) (within : k < length (words_of_row cells c.args.row)).
           blank k (omega (arith, length-words_of_row cells c.args.row))) sought.near;
     })

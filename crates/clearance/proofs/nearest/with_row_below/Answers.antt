@@ -11,8 +11,11 @@ returns-else-gap-gt0-clause-sought g c =
     record {
       bitmap = sought.bitmap;
       inside = sought.inside;
-      near = IsNearAmong-no_below _ (g.R.Rows.cells c.args.rows.now) c.args.cell.x c.args.cell.y
-          c.args.gap c.args.best sought.bitmap
+      within = sought.within;
+      few = sought.few;
+      near = IsNearAmong-no_below g.M.Metric.distance (g.R.Rows.cells c.args.rows.now) c.args.cell.x
+          c.args.cell.y
+          c.args.gap c.args.limit c.args.best sought.bitmap
           (elim c.else-gap-gt0.branch [
             | else-gap-gt0-via-then-gap-gt0+else-cell-gap w ↦
                 inr (omega arith)

@@ -1,10 +1,8 @@
--- What is found in one tile is a seed, and so is the limit.
-use Rattle.clearance.proofs.TileSearches.{IsSeed-found}
+-- The first obstacle of the tile that may be the nearest.
+use Rattle.clearance.proofs.FarSpots.{IsSeed-none}
 use Rattle.clearance.proofs.seed.seeded.Goals as goal
 
-pub returns-in-Some-clause-seed : goal.returns-in-Some-clause-seed
-returns-in-Some-clause-seed g c =
-    rw (c.min.ensures, c.from-in-Some.ensures)
-    (IsSeed-found g.M.Metric.distance (g.R.Rows.cells c.args.rows.now)
-    c.args.rect c.nearest_tile-near.result.band c.nearest_tile-near.result.tile _ c.args.limit
-    c.in-Some.found c.in-Some.ensures.first)
+pub returns-then-from-across-clause-seed : goal.returns-then-from-across-clause-seed
+returns-then-from-across-clause-seed g c =
+    IsSeed-none g.M.Metric.distance (g.R.Rows.cells c.args.rows.now) c.args.rect c.args.limit
+    c.none.result c.requires.bitmap c.none.ensures.tile c.none.ensures.band c.none.ensures.best

@@ -1,14 +1,14 @@
 -- The bands before this one have been searched.
 use Rattle.std.proofs.Common.{◌≡◌, ◌-◌, ◌/◌, ◌<◌, ◌≤◌}
-use Rattle.bits.specs.Cells.{IsObstacle}
-use Rattle.clearance.specs.Spots.{IsSpotBelow}
-use Rattle.clearance.proofs.by_tiles.first_by_bands.Given as goal
+use Rattle.clearance.specs.Spots.{IsElsewhere, IsSpotBelow}
+use Rattle.clearance.proofs.elsewhere.first_elsewhere.Given as goal
 
 abbrev pub invariant-bands : goal.invariant-bands
 invariant-bands g l = record {
   rows : l.rows ≡ l.fn.rows;
   first : IsSpotBelow g.M.Metric.distance
-      (λ a b. IsObstacle (g.R.Rows.cells l.fn.rows) a b × (b / 64 < l.band)) l.rect l.limit l.best;
+      (λ a b. IsElsewhere (g.R.Rows.cells l.fn.rows) l.seed.band l.seed.tile a b
+      × (b / 64 < l.band)) l.rect l.limit l.best;
   few : l.band ≤ 64;
 }
 

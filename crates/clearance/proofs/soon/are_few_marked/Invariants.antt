@@ -1,6 +1,6 @@
 -- The count is no more than the most.
 use Rattle.std.proofs.Common.{◌-◌, ◌≤◌}
-use Rattle.clearance.proofs.seed.are_few_marked.Given as goal
+use Rattle.clearance.proofs.soon.are_few_marked.Given as goal
 
 abbrev pub invariant-bands : goal.invariant-bands
 invariant-bands g l = record {
