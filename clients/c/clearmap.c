@@ -40,6 +40,7 @@ const char *clearmap_status_text(uint32_t status) {
     case CLEARMAP_OUTSIDE: return "a cell, row, rectangle or point is not in the map, or is empty";
     case CLEARMAP_CROOKED: return "a point of a path is not in the row or column of the one before";
     case CLEARMAP_ROOM: return "there is too little room for the answers";
+    case CLEARMAP_RANGE: return "low is above high, so that no byte marks an obstacle";
     case CLEARMAP_MEMORY: return "malloc had no memory for the call";
     default: return "there is no status of this number";
     }

@@ -15,7 +15,8 @@
  *         metres = sqrt(near.dist) * metres_per_cell;
  *
  * Status. Each call returns CLEARMAP_DONE (0), or what is wrong with it. A call with another status
- * has written nothing. Of several faults, the status is the first in the order of the numbers.
+ * has written nothing. Of several faults, the status is the first in the order in which statuses
+ * are listed below.
  *
  * Threads. The library keeps no state between calls and starts no thread. Any thread may make any
  * call at any time, even while others read the same map. No other thread may touch what a call
@@ -67,6 +68,7 @@ enum {
     CLEARMAP_CROOKED = 8,  /* a point of a path is neither in the row nor in the column of the point
                               before it */
     CLEARMAP_ROOM = 9,     /* there is too little room for the answers */
+    CLEARMAP_RANGE = 11,   /* low is above high, so that no byte marks an obstacle */
     CLEARMAP_MEMORY = 10   /* malloc had no memory for the call */
 };
 
@@ -119,7 +121,8 @@ typedef struct clearmap_found {
 
 /*
  * The layout of a map in bytes: cell (x, y) is the byte at y * stride + x, and an obstacle where
- * low <= byte && byte <= high. The last row need not be padded.
+ * low <= byte && byte <= high. The last row need not be padded. Where low is above high, as where
+ * high is left out, each call over bytes has the status RANGE; no call over bits has it.
  */
 typedef struct clearmap_bytes {
     uint32_t width;  /* columns, 1 to 4096 */
@@ -147,7 +150,7 @@ typedef struct clearmap_bits {
 /*
  * Packs a map in bytes into words, its rows one after another without a gap, and writes their
  * layout to *bits. words_length is at least (width + 63) / 64 * height; the rest stays as it is.
- * Status: SIZE, STRIDE, LENGTH, ROOM.
+ * Status: SIZE, STRIDE, LENGTH, ROOM, RANGE.
  */
 uint32_t clearmap_pack(const uint8_t *bytes, size_t bytes_length, const clearmap_bytes *map,
                        uint64_t *words, size_t words_length, clearmap_bits *bits);
@@ -166,7 +169,7 @@ uint32_t clearmap_unpack(const uint64_t *words, size_t words_length, const clear
 /*
  * Writes the distances of the cells of rows y0 to y1 - 1, in row-major order. distances_length is
  * at least (y1 - y0) * width; the rest stays as it is.
- * Status: SIZE, STRIDE, LENGTH, METRIC, EDGE, OUTSIDE, ROOM, MEMORY.
+ * Status: SIZE, STRIDE, LENGTH, METRIC, EDGE, OUTSIDE, ROOM, RANGE, MEMORY.
  */
 uint32_t clearmap_bytes_distances(const uint8_t *bytes, size_t bytes_length,
                                   const clearmap_bytes *map, uint32_t metric, uint32_t edge,
@@ -192,7 +195,7 @@ uint32_t clearmap_bits_nearest(const uint64_t *words, size_t words_length,
 
 /*
  * Writes the nearest obstacle of cell (x, y).
- * Status: SIZE, STRIDE, LENGTH, METRIC, EDGE, OUTSIDE.
+ * Status: SIZE, STRIDE, LENGTH, METRIC, EDGE, OUTSIDE, RANGE.
  */
 uint32_t clearmap_bytes_at(const uint8_t *bytes, size_t bytes_length, const clearmap_bytes *map,
                            uint32_t metric, uint32_t edge, uint32_t x, uint32_t y,
@@ -204,7 +207,7 @@ uint32_t clearmap_bits_at(const uint64_t *words, size_t words_length, const clea
 /*
  * Writes the first cell with the least distance in columns x0 to x1 - 1 of rows y0 to y1 - 1, in
  * row-major order, and its nearest obstacle; none if the map has no obstacle.
- * Status: SIZE, STRIDE, LENGTH, METRIC, EDGE, OUTSIDE.
+ * Status: SIZE, STRIDE, LENGTH, METRIC, EDGE, OUTSIDE, RANGE.
  */
 uint32_t clearmap_bytes_rect(const uint8_t *bytes, size_t bytes_length, const clearmap_bytes *map,
                              uint32_t metric, uint32_t edge, uint32_t x0, uint32_t y0, uint32_t x1,
@@ -217,7 +220,7 @@ uint32_t clearmap_bits_rect(const uint64_t *words, size_t words_length, const cl
  * Writes the first cell with the least distance along a path, and its nearest obstacle; none if the
  * map has no obstacle. A path is 1 to 1000 points, each in the row or the column of the point
  * before it; its cells are the first point, and then those after each point up to the next.
- * Status: SIZE, STRIDE, LENGTH, METRIC, EDGE, POINTS, OUTSIDE, CROOKED.
+ * Status: SIZE, STRIDE, LENGTH, METRIC, EDGE, POINTS, OUTSIDE, CROOKED, RANGE.
  */
 uint32_t clearmap_bytes_path(const uint8_t *bytes, size_t bytes_length, const clearmap_bytes *map,
                              uint32_t metric, uint32_t edge, const clearmap_cell *points,

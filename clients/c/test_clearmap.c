@@ -321,48 +321,52 @@ struct given {
     uint32_t width, height, metric, edge, x0, y0, x1, y1;
     size_t stride, length, points_length, count;
     clearmap_cell points[3];
+    uint8_t low, high;
 };
 
 static const uint8_t small_bytes[6] = {0, 1, 0, 0, 0, 0};
 static const uint64_t small_words[2] = {2, 0};
-static const struct given right = {3, 2, 0, 0, 1, 0, 3, 2, 0, 0, 3, 6, {{0, 0}, {2, 0}, {2, 1}}};
+static const struct given right = {3, 2, 0, 0, 1, 0, 3, 2, 0, 0, 3, 6, {{0, 0}, {2, 0}, {2, 1}},
+                                  1, 1};
 
 enum { AT = 1, RECT = 2, PATH = 4, ROWS = 8, QUERIES = AT | RECT | PATH, ALL = QUERIES | ROWS };
+
+/* Checks the status of a call over bits, which has no range of bytes. */
+#define OVER_BITS(call) CHECK(g.low > g.high || (call) == status)
 
 /* Makes calls of some kinds over bytes and over bits; each has this status, and writes nothing. */
 static void refuse(struct given g, int kinds, uint32_t status) {
     clearmap_near near = untouched, nears[6] = {{7, 7, 7}};
     clearmap_found found = untouched_found;
     uint32_t distances[6] = {7};
-    clearmap_bytes by = {g.width, g.height, g.stride ? g.stride : 3, 1, 1};
+    clearmap_bytes by = {g.width, g.height, g.stride ? g.stride : 3, g.low, g.high};
     clearmap_bits bi = {g.width, g.height, g.stride ? g.stride / 3 : 1, UINT64_MAX};
     size_t lb = g.length ? g.length : 6, li = g.length ? g.length / 5 : 2;
     uint32_t m = g.metric, e = g.edge;
     if (kinds & AT) {
         CHECK(clearmap_bytes_at(small_bytes, lb, &by, m, e, g.x0, g.y0, &near) == status);
-        CHECK(clearmap_bits_at(small_words, li, &bi, m, e, g.x0, g.y0, &near) == status);
+        OVER_BITS(clearmap_bits_at(small_words, li, &bi, m, e, g.x0, g.y0, &near));
     }
     if (kinds & RECT) {
         CHECK(clearmap_bytes_rect(small_bytes, lb, &by, m, e, g.x0, g.y0, g.x1, g.y1, &found)
               == status);
-        CHECK(clearmap_bits_rect(small_words, li, &bi, m, e, g.x0, g.y0, g.x1, g.y1, &found)
-              == status);
+        OVER_BITS(clearmap_bits_rect(small_words, li, &bi, m, e, g.x0, g.y0, g.x1, g.y1, &found));
     }
     if (kinds & PATH) {
         size_t n = g.points_length;
         CHECK(clearmap_bytes_path(small_bytes, lb, &by, m, e, g.points, n, &found) == status);
-        CHECK(clearmap_bits_path(small_words, li, &bi, m, e, g.points, n, &found) == status);
+        OVER_BITS(clearmap_bits_path(small_words, li, &bi, m, e, g.points, n, &found));
         CHECK(clearmap_bytes_clear_of(small_bytes, lb, &by, m, e, g.points, n, 3, &found)
               == status);
-        CHECK(clearmap_bits_clear_of(small_words, li, &bi, m, e, g.points, n, 3, &found) == status);
+        OVER_BITS(clearmap_bits_clear_of(small_words, li, &bi, m, e, g.points, n, 3, &found));
     }
     if (kinds & ROWS) {
         uint32_t y0 = g.y0, y1 = g.y1;
         size_t n = g.count;
         CHECK(clearmap_bytes_nearest(small_bytes, lb, &by, m, e, y0, y1, nears, n) == status);
-        CHECK(clearmap_bits_nearest(small_words, li, &bi, m, e, y0, y1, nears, n) == status);
+        OVER_BITS(clearmap_bits_nearest(small_words, li, &bi, m, e, y0, y1, nears, n));
         CHECK(clearmap_bytes_distances(small_bytes, lb, &by, m, e, y0, y1, distances, n) == status);
-        CHECK(clearmap_bits_distances(small_words, li, &bi, m, e, y0, y1, distances, n) == status);
+        OVER_BITS(clearmap_bits_distances(small_words, li, &bi, m, e, y0, y1, distances, n));
     }
     if (status != CLEARMAP_DONE)
         CHECK(same(near, untouched) && stays(found) && same(nears[0], untouched)
@@ -407,7 +411,21 @@ static void try_statuses(void) {
     REFUSE(PATH, CLEARMAP_OUTSIDE, g.points[1].x = 3);
     REFUSE(PATH, CLEARMAP_OUTSIDE, g.points[2].y = 2);
     REFUSE(PATH, CLEARMAP_CROOKED, g.points[2].x = 1);
-    /* Of several faults the first is reported. */
+    REFUSE(ALL, CLEARMAP_RANGE, g.high = 0);
+    REFUSE(ALL, CLEARMAP_RANGE, g.low = 255; g.high = 254);
+    REFUSE(ALL, CLEARMAP_DONE, g.low = 0; g.high = 255);
+    /* Of several faults the first is reported, and a range last. */
+    REFUSE(ALL, CLEARMAP_SIZE, g.height = 0; g.high = 0);
+    REFUSE(ALL, CLEARMAP_STRIDE, g.stride = 2; g.high = 0);
+    REFUSE(ALL, CLEARMAP_LENGTH, g.length = 5; g.high = 0);
+    REFUSE(ALL, CLEARMAP_METRIC, g.metric = 3; g.high = 0);
+    REFUSE(ALL, CLEARMAP_EDGE, g.edge = 2; g.high = 0);
+    REFUSE(AT | RECT, CLEARMAP_OUTSIDE, g.x0 = 3; g.high = 0);
+    REFUSE(RECT | ROWS, CLEARMAP_OUTSIDE, g.y1 = 3; g.high = 0);
+    REFUSE(ROWS, CLEARMAP_ROOM, g.count = 5; g.high = 0);
+    REFUSE(PATH, CLEARMAP_POINTS, g.points_length = 0; g.high = 0);
+    REFUSE(PATH, CLEARMAP_OUTSIDE, g.points[1].x = 3; g.high = 0);
+    REFUSE(PATH, CLEARMAP_CROOKED, g.points[2].x = 1; g.high = 0);
     REFUSE(ALL, CLEARMAP_SIZE, g.height = 4097; g.stride = 2; g.metric = 9);
     REFUSE(ALL, CLEARMAP_STRIDE, g.stride = 2; g.length = 5; g.edge = 9);
     REFUSE(ALL, CLEARMAP_LENGTH, g.length = 5; g.metric = 9; g.y1 = 9);
@@ -425,6 +443,7 @@ static void try_statuses(void) {
 /* Pack and unpack, with too little of each. */
 static void try_pack_statuses(void) {
     clearmap_bytes by = {3, 2, 3, 1, 1}, wide = {4097, 2, 4097, 1, 1}, close = {3, 2, 2, 1, 1};
+    clearmap_bytes turned = {3, 2, 3, 2, 1};
     clearmap_bits bi = {3, 2, 1, UINT64_MAX}, out = {9, 9, 9, 9};
     uint64_t words[2] = {7, 7};
     uint8_t bytes[6] = {7};
@@ -432,6 +451,8 @@ static void try_pack_statuses(void) {
     CHECK(clearmap_pack(small_bytes, 6, &close, words, 1, &out) == CLEARMAP_STRIDE);
     CHECK(clearmap_pack(small_bytes, 5, &by, words, 1, &out) == CLEARMAP_LENGTH);
     CHECK(clearmap_pack(small_bytes, 6, &by, words, 1, &out) == CLEARMAP_ROOM);
+    CHECK(clearmap_pack(small_bytes, 6, &turned, words, 1, &out) == CLEARMAP_ROOM);
+    CHECK(clearmap_pack(small_bytes, 6, &turned, words, 2, &out) == CLEARMAP_RANGE);
     CHECK(words[0] == 7 && words[1] == 7 && out.width == 9 && out.bands == 9);
     CHECK(clearmap_pack(small_bytes, 6, &by, words, 2, &out) == CLEARMAP_DONE);
     CHECK(words[0] == 2 && words[1] == 0 && out.width == 3 && out.stride == 1 && out.bands == 1);
@@ -442,10 +463,10 @@ static void try_pack_statuses(void) {
     bi.height = 0;
     CHECK(clearmap_unpack(words, 2, &bi, 0, 1, bytes, 6) == CLEARMAP_SIZE);
     CHECK(bytes[0] == 7);
-    for (uint32_t status = 0; status < 12; status++)
+    for (uint32_t status = 0; status < 13; status++)
         for (uint32_t other = 0; other < status; other++)
             CHECK(strcmp(clearmap_status_text(status), clearmap_status_text(other)) != 0);
-    CHECK(strcmp(clearmap_status_text(11), clearmap_status_text(UINT32_MAX)) == 0);
+    CHECK(strcmp(clearmap_status_text(12), clearmap_status_text(UINT32_MAX)) == 0);
     CHECK(strcmp(clearmap_version(), CLEARMAP_VERSION) == 0);
 }
 
@@ -481,10 +502,11 @@ static long try_memory(void) {
             CHECK(same(nears[0], untouched) && distances[0] == 7);
             refused++;
         }
-    /* Queries allocate none. */
+    /* Queries allocate none, nor does a call that is refused for another fault. */
     until_refused = 0;
     requests = 0;
     REFUSE(QUERIES, CLEARMAP_DONE, (void)0);
+    REFUSE(ALL, CLEARMAP_RANGE, g.high = 0);
     CHECK(requests == 0);
     until_refused = -1;
     return refused;

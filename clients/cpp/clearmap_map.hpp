@@ -436,8 +436,6 @@ private:
     /// Takes the cells from bytes.
     void pack(const void* cells, std::size_t length, std::size_t stride, Range obstacles,
               Rows rows) {
-        if (obstacles.low > obstacles.high)
-            throw std::invalid_argument("a range of bytes ends before it begins");
         static constexpr std::uint8_t none = 0;
         const clearmap_bytes from{detail::numbered(size_.width), detail::numbered(size_.height),
                                   stride, obstacles.low, obstacles.high};

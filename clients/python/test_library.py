@@ -435,6 +435,33 @@ class Finding(unittest.TestCase):
             self.assertEqual(list(declared.argtypes), wanted, name)
             self.assertIs(declared.restype, ctypes.c_uint32)
 
+    def test_a_range_that_is_left_out(self):
+        """Each call over bytes refuses a map whose `high` is left out or below `low`, and writes
+        nothing."""
+        header = (TOP / "clients/c/clearmap.h").read_text()
+        refused = int(re.search(r"CLEARMAP_RANGE = (\d+)", header)[1])
+        calls = library.library()
+        cells, words = np.full((2, 3), 9, np.uint8), np.full(2, 7, np.uint64)
+        path = np.array([[0, 0], [2, 0]], np.uint16)
+        numbers, nears = np.full(6, 7, np.uint32), np.full((6, 8), 7, np.uint8)
+        near, found, bits = library.CNear(7), library.CFound(7), library.Bits(7)
+        for high in ({}, {"high": 8}):
+            layout = library.Bytes(width=3, height=2, stride=3, low=9, **high)
+            over = (cells.ctypes.data, 6, layout)
+            told = [
+                calls.clearmap_bytes_distances(*over, 0, 0, 0, 2, numbers.ctypes.data, 6),
+                calls.clearmap_bytes_nearest(*over, 0, 0, 0, 2, nears.ctypes.data, 6),
+                calls.clearmap_bytes_at(*over, 0, 0, 0, 0, near),
+                calls.clearmap_bytes_rect(*over, 0, 0, 0, 0, 3, 2, found),
+                calls.clearmap_bytes_path(*over, 0, 0, path.ctypes.data, 2, found),
+                calls.clearmap_bytes_clear_of(*over, 0, 0, path.ctypes.data, 2, 5, found),
+                calls.clearmap_pack(*over, words.ctypes.data, 2, bits),
+            ]
+            self.assertEqual(told, [refused] * 7)
+        self.assertEqual((near.dist, found.x, found.near.dist, bits.width), (7, 7, 0, 7))
+        self.assertTrue((numbers == 7).all() and (nears == 7).all() and (words == 7).all())
+        self.assertIn(b"low is above high", calls.clearmap_status_text(refused))
+
     def test_no_memory(self):
         self.assertRaises(MemoryError, library.check, library.MEMORY)
         self.assertRaises(clearmap.ClearmapError, library.check, 7)

@@ -1,5 +1,5 @@
 -- What is wrong with a call, as a number: this project's own rule. Of several faults it is the
--- first, in the order of their numbers.
+-- first, in the order of their numbers up to 9; then comes 11, and 10 comes last.
 use Rattle.std.specs.Prelude.{◌≡◌, ℕ, zero, suc, ◌+◌, ◌-◌, ◌*◌, ◌^◌, ◌&&◌, ◌||◌, ◌⊎◌, nat_le}
 use Rattle.std.specs.Prelude.{nat_lt, not, Bool, List, length, Option, Some, None, if◌then◌else◌}
 use Rattle.metric.specs.declared.cell.Cell.{Cell}
@@ -72,6 +72,10 @@ rows_status cells y0 y1 = if nat_le y0 y1 && nat_le y1 cells.height then 0 else 
 -- 9: the output has capacity for fewer answers than there are
 abbrev pub room_status : ℕ → ℕ → ℕ
 room_status needed count = if nat_le needed count then 0 else 9
+
+-- 11: no byte marks an obstacle, since the least that does is above the greatest
+abbrev pub range_status : ClearmapBytes → ℕ
+range_status map = if nat_le map.low map.high then 0 else 11
 
 -- a call that allocates memory has the expected status, or 10 (out of memory) in place of 0
 abbrev pub IsStatus : ℕ → ℕ → Type 0

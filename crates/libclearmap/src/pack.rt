@@ -5,13 +5,14 @@ ghost use Rattle.std.specs.Prelude.{if◌then◌else◌};
 ghost use Rattle.bits.specs.Cells.{has};
 ghost use Rattle.bits.specs.Words.{words_across};
 ghost use Rattle.libclearmap.specs.Layouts.{cells_of_bits, cells_of_bytes};
-ghost use Rattle.libclearmap.specs.Statuses.{bits_status, bytes_status, first_wrong, room_status};
+ghost use Rattle.libclearmap.specs.Statuses.{bits_status, bytes_status, first_wrong};
+ghost use Rattle.libclearmap.specs.Statuses.{range_status, room_status};
 
 use crate::bit_map::BitMap;
 use crate::byte_map::ByteMap;
 use crate::copy::pack_rows;
 use crate::layout::{ClearmapBits, ClearmapBytes};
-use crate::status::{DONE, room_status};
+use crate::status::{DONE, first_wrong, range_status, room_status};
 use crate::unpack::{Shades, unpack_rows};
 
 /// Packs a map in bytes into words, one row after another, and writes their layout to `bits`.
@@ -27,8 +28,9 @@ pub extern "C" fn clearmap_pack(
     ensures right { result ≡ DONE → bits_status bits.new words.new ≡ DONE }
     ensures rest { (k : ℕ) → map.now.height * words_across map.now.width ≤ k → slice_index
         words.new k ≡ slice_index words.old k }
-    ensures status { result ≡ first_wrong (bytes_status map.now bytes.now)
-        (room_status (map.now.height * words_across map.now.width) (length words.old)) }
+    ensures status { result ≡ first_wrong (bytes_status map.now bytes.now) (first_wrong
+        (room_status (map.now.height * words_across map.now.width) (length words.old))
+        (range_status map.now)) }
     ensures refused { result ≢ DONE → words.new ≡ words.old }
     ensures kept { result ≢ DONE → bits.new ≡ bits.old }
 {
@@ -38,7 +40,8 @@ pub extern "C" fn clearmap_pack(
     };
     let (width, height) = (map.width, map.height);
     let stride = (width as usize).div_ceil(64);
-    let status = room_status(height as usize * stride, words.len());
+    let room = room_status(height as usize * stride, words.len());
+    let status = first_wrong(room, range_status(map));
     if status != DONE {
         return status;
     }

@@ -1,7 +1,7 @@
 //! The queries of cells, rectangles and paths, over a map that is read word by word. None allocates
 //! memory.
 
-ghost use Rattle.std.specs.Prelude.{◌≡◌, ◌≢◌, ◌<◌, IfSome, IsSome, ◌↔◌};
+ghost use Rattle.std.specs.Prelude.{◌≡◌, ◌≢◌, ◌<◌, negsuc, ◌≤ℤ◌, IfSome, IsSome, ◌↔◌};
 ghost use Rattle.metric.specs.Nearest.{IsNear};
 ghost use Rattle.bits.specs.Edges.{IsBlocked};
 ghost use Rattle.clearance.specs.Answers.{IsClearOf, IsLeastOf, cells_of_rect};
@@ -15,7 +15,7 @@ use crate::near::{ClearmapFound, ClearmapNear, found_of, kept_of};
 use crate::setting::{Corners, Setting, along_by, at_by, clear_by, edge_of, kind_of, least_by};
 use crate::status::{DONE, OUTSIDE, refusal_status, setting_status};
 use clearance::Rows;
-use metric::{Cell, Rect};
+use metric::{Cell, Near, Rect};
 
 /// Writes the nearest obstacle of cell (`x`, `y`).
 pub fn at_in<R: Rows>(
@@ -28,7 +28,7 @@ pub fn at_in<R: Rows>(
     ensures near { result ≡ DONE → IsNear (distance_numbered setting.metric)
         (IsBlocked (R.cells rows.old) (edge_numbered setting.edge)) x y (near_kept near.new) }
     ensures status { result ≡ first_wrong (setting_status setting.metric setting.edge)
-        (cell_status (R.cells rows.old) x y) }
+        (first_wrong (cell_status (R.cells rows.old) x y) setting.range) }
     ensures refused { result ≢ DONE → near.new ≡ near.old }
 {
     let status = setting_status(setting.metric, setting.edge);
@@ -38,6 +38,9 @@ pub fn at_in<R: Rows>(
     let (width, height) = (u32::from(rows.width()), u32::from(rows.height()));
     if width <= x || height <= y {
         return OUTSIDE;
+    }
+    if setting.range != DONE {
+        return setting.range;
     }
     let cell = Cell {
         x: x as u16,
@@ -65,7 +68,8 @@ pub fn rect_in<R: Rows>(
         (cells_of_rect corners.x0 corners.y0 corners.x1 corners.y1)
         (found_kept found.new) }
     ensures status { result ≡ first_wrong (setting_status setting.metric setting.edge)
-        (rect_status (R.cells rows.old) corners.x0 corners.y0 corners.x1 corners.y1) }
+        (first_wrong (rect_status (R.cells rows.old) corners.x0 corners.y0 corners.x1 corners.y1)
+        setting.range) }
     ensures refused { result ≢ DONE → found.new ≡ found.old }
 {
     let status = setting_status(setting.metric, setting.edge);
@@ -85,10 +89,7 @@ pub fn rect_in<R: Rows>(
     };
     let (kind, edge) = (kind_of(setting.metric), edge_of(setting.edge));
     match least_by::<R>(kind, rows, edge, rect) {
-        Ok(least) => {
-            *found = found_of(least);
-            DONE
-        }
+        Ok(least) => write_found(setting.range, least, found),
         Err(refusal) => refusal_status(refusal),
     }
 }
@@ -104,7 +105,7 @@ pub fn path_in<R: Rows>(
         (IsBlocked (R.cells rows.old) (edge_numbered setting.edge)) (cells_of_path points.now)
         (found_kept found.new) }
     ensures status { result ≡ first_wrong (setting_status setting.metric setting.edge)
-        (path_status (R.cells rows.old) points.now) }
+        (first_wrong (path_status (R.cells rows.old) points.now) setting.range) }
     ensures refused { result ≢ DONE → found.new ≡ found.old }
 {
     let status = setting_status(setting.metric, setting.edge);
@@ -113,10 +114,7 @@ pub fn path_in<R: Rows>(
     }
     let (kind, edge) = (kind_of(setting.metric), edge_of(setting.edge));
     match along_by::<R>(kind, rows, edge, points) {
-        Ok(least) => {
-            *found = found_of(least);
-            DONE
-        }
+        Ok(least) => write_found(setting.range, least, found),
         Err(refusal) => refusal_status(refusal),
     }
 }
@@ -134,7 +132,7 @@ pub fn clear_in<R: Rows>(
         (IsBlocked (R.cells rows.old) (edge_numbered setting.edge)) (cells_of_path points.now) d
         (found_kept found.new) }
     ensures status { result ≡ first_wrong (setting_status setting.metric setting.edge)
-        (path_status (R.cells rows.old) points.now) }
+        (first_wrong (path_status (R.cells rows.old) points.now) setting.range) }
     ensures refused { result ≢ DONE → found.new ≡ found.old }
 {
     let status = setting_status(setting.metric, setting.edge);
@@ -143,10 +141,20 @@ pub fn clear_in<R: Rows>(
     }
     let (kind, edge) = (kind_of(setting.metric), edge_of(setting.edge));
     match clear_by::<R>(kind, rows, edge, points, d) {
-        Ok(first) => {
-            *found = found_of(first);
-            DONE
-        }
+        Ok(first) => write_found(setting.range, first, found),
         Err(refusal) => refusal_status(refusal),
     }
+}
+
+/// Writes the answer of a search, unless this status is that of a fault. Returns the status.
+fn write_found(status: u32, least: Option<(Cell, Near)>, found: &mut ClearmapFound) -> u32
+    requires { IfSome least (λ some. negsuc 0 ≤ℤ some.1.cell.x) }
+    ensures status { result ≡ status }
+    ensures found { result ≡ DONE → found_kept found.new ≡ least }
+    ensures refused { result ≢ DONE → found.new ≡ found.old }
+{
+    if status == DONE {
+        *found = found_of(least);
+    }
+    status
 }

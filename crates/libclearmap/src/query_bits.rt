@@ -38,7 +38,11 @@ pub extern "C" fn clearmap_bits_at(
         y)) }
     ensures refused { result ≢ DONE → near.new ≡ near.old }
 {
-    let setting = Setting { metric, edge };
+    let setting = Setting {
+        metric,
+        edge,
+        range: DONE,
+    };
     match BitMap::of(words, map) {
         Ok(mut rows) => at_in::<BitMap<'_>>(&mut rows, setting, x, y, near),
         Err(status) => status,
@@ -68,7 +72,11 @@ pub extern "C" fn clearmap_bits_rect(
     ensures refused { result ≢ DONE → found.new ≡ found.old }
 {
     let corners = Corners { x0, y0, x1, y1 };
-    let setting = Setting { metric, edge };
+    let setting = Setting {
+        metric,
+        edge,
+        range: DONE,
+    };
     match BitMap::of(words, map) {
         Ok(mut rows) => { rect_in::<BitMap<'_>>(&mut rows, setting, corners, found) }
         Err(status) => status,
@@ -93,7 +101,11 @@ pub extern "C" fn clearmap_bits_path(
         points.now)) }
     ensures refused { result ≢ DONE → found.new ≡ found.old }
 {
-    let setting = Setting { metric, edge };
+    let setting = Setting {
+        metric,
+        edge,
+        range: DONE,
+    };
     match BitMap::of(words, map) {
         Ok(mut rows) => path_in::<BitMap<'_>>(&mut rows, setting, points, found),
         Err(status) => status,
@@ -120,7 +132,11 @@ pub extern "C" fn clearmap_bits_clear_of(
         points.now)) }
     ensures refused { result ≢ DONE → found.new ≡ found.old }
 {
-    let setting = Setting { metric, edge };
+    let setting = Setting {
+        metric,
+        edge,
+        range: DONE,
+    };
     match BitMap::of(words, map) {
         Ok(mut rows) => clear_in::<BitMap<'_>>(&mut rows, setting, points, d, found),
         Err(status) => status,

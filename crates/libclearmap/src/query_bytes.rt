@@ -9,14 +9,14 @@ ghost use Rattle.libclearmap.specs.Kept.{found_kept, near_kept};
 ghost use Rattle.libclearmap.specs.Layouts.{cells_of_bytes};
 ghost use Rattle.libclearmap.specs.Settings.{distance_numbered, edge_numbered};
 ghost use Rattle.libclearmap.specs.Statuses.{bytes_status, cell_status, first_wrong, path_status};
-ghost use Rattle.libclearmap.specs.Statuses.{rect_status, setting_status};
+ghost use Rattle.libclearmap.specs.Statuses.{range_status, rect_status, setting_status};
 
 use crate::byte_map::ByteMap;
 use crate::layout::ClearmapBytes;
 use crate::near::{ClearmapFound, ClearmapNear};
 use crate::queries::{at_in, clear_in, path_in, rect_in};
 use crate::setting::{Corners, Setting};
-use crate::status::DONE;
+use crate::status::{DONE, range_status};
 use metric::Cell;
 
 /// Writes the nearest obstacle of cell (`x`, `y`).
@@ -34,11 +34,16 @@ pub extern "C" fn clearmap_bytes_at(
         (IsBlocked (cells_of_bytes map.now bytes.now) (edge_numbered edge)) x y
         (near_kept near.new) }
     ensures status { result ≡ first_wrong (bytes_status map.now bytes.now)
-        (first_wrong (setting_status metric edge) (cell_status (cells_of_bytes map.now bytes.now) x
-        y)) }
+        (first_wrong (setting_status metric edge) (first_wrong
+        (cell_status (cells_of_bytes map.now bytes.now) x y) (range_status map.now))) }
     ensures refused { result ≢ DONE → near.new ≡ near.old }
 {
-    let setting = Setting { metric, edge };
+    let range = range_status(map);
+    let setting = Setting {
+        metric,
+        edge,
+        range,
+    };
     match ByteMap::of(bytes, map) {
         Ok(mut rows) => at_in::<ByteMap<'_>>(&mut rows, setting, x, y, near),
         Err(status) => status,
@@ -63,12 +68,17 @@ pub extern "C" fn clearmap_bytes_rect(
         (IsBlocked (cells_of_bytes map.now bytes.now) (edge_numbered edge))
         (cells_of_rect x0 y0 x1 y1) (found_kept found.new) }
     ensures status { result ≡ first_wrong (bytes_status map.now bytes.now)
-        (first_wrong (setting_status metric edge) (rect_status (cells_of_bytes map.now bytes.now)
-        x0 y0 x1 y1)) }
+        (first_wrong (setting_status metric edge) (first_wrong
+        (rect_status (cells_of_bytes map.now bytes.now) x0 y0 x1 y1) (range_status map.now))) }
     ensures refused { result ≢ DONE → found.new ≡ found.old }
 {
     let corners = Corners { x0, y0, x1, y1 };
-    let setting = Setting { metric, edge };
+    let range = range_status(map);
+    let setting = Setting {
+        metric,
+        edge,
+        range,
+    };
     match ByteMap::of(bytes, map) {
         Ok(mut rows) => { rect_in::<ByteMap<'_>>(&mut rows, setting, corners, found) }
         Err(status) => status,
@@ -89,11 +99,16 @@ pub extern "C" fn clearmap_bytes_path(
         (IsBlocked (cells_of_bytes map.now bytes.now) (edge_numbered edge))
         (cells_of_path points.now) (found_kept found.new) }
     ensures status { result ≡ first_wrong (bytes_status map.now bytes.now)
-        (first_wrong (setting_status metric edge) (path_status (cells_of_bytes map.now bytes.now)
-        points.now)) }
+        (first_wrong (setting_status metric edge) (first_wrong
+        (path_status (cells_of_bytes map.now bytes.now) points.now) (range_status map.now))) }
     ensures refused { result ≢ DONE → found.new ≡ found.old }
 {
-    let setting = Setting { metric, edge };
+    let range = range_status(map);
+    let setting = Setting {
+        metric,
+        edge,
+        range,
+    };
     match ByteMap::of(bytes, map) {
         Ok(mut rows) => path_in::<ByteMap<'_>>(&mut rows, setting, points, found),
         Err(status) => status,
@@ -116,11 +131,16 @@ pub extern "C" fn clearmap_bytes_clear_of(
         (IsBlocked (cells_of_bytes map.now bytes.now) (edge_numbered edge))
         (cells_of_path points.now) d (found_kept found.new) }
     ensures status { result ≡ first_wrong (bytes_status map.now bytes.now)
-        (first_wrong (setting_status metric edge) (path_status (cells_of_bytes map.now bytes.now)
-        points.now)) }
+        (first_wrong (setting_status metric edge) (first_wrong
+        (path_status (cells_of_bytes map.now bytes.now) points.now) (range_status map.now))) }
     ensures refused { result ≢ DONE → found.new ≡ found.old }
 {
-    let setting = Setting { metric, edge };
+    let range = range_status(map);
+    let setting = Setting {
+        metric,
+        edge,
+        range,
+    };
     match ByteMap::of(bytes, map) {
         Ok(mut rows) => clear_in::<ByteMap<'_>>(&mut rows, setting, points, d, found),
         Err(status) => status,

@@ -18,6 +18,9 @@ use metric::{Cell, Chess, City, Edge, Euclid2, MetricKind, Near, Rect, Refusal};
 pub struct Setting {
     pub metric: u32,
     pub edge: u32,
+    /// The status of the bytes that mark an obstacle, which is told after any other fault; `DONE`
+    /// for a map in bits.
+    pub range: u32,
 }
 
 /// The columns `x0` to `x1 - 1` and the rows `y0` to `y1 - 1`, as a call names them.

@@ -1,11 +1,12 @@
-//! The statuses of calls, in the order in which they are checked: the first that applies is
-//! returned.
+//! The statuses of calls. The first that applies is returned, in the order of their numbers, but
+//! that `MEMORY` comes after `RANGE`.
 
 ghost use Rattle.std.specs.Prelude.{◌≡◌, ◌≤◌};
 ghost use Rattle.libclearmap.specs.Layouts.{IsShape};
-ghost use Rattle.libclearmap.specs.Statuses.{refusal_status, room_status, setting_status};
-ghost use Rattle.libclearmap.specs.Statuses.{shape_status};
+ghost use Rattle.libclearmap.specs.Statuses.{first_wrong, range_status, refusal_status};
+ghost use Rattle.libclearmap.specs.Statuses.{room_status, setting_status, shape_status};
 
+use crate::layout::ClearmapBytes;
 use metric::{MOST_SIDE, Refusal};
 
 /// The call is done.
@@ -41,6 +42,9 @@ pub const ROOM: u32 = 9;
 
 /// The C library had no memory for the call.
 pub const MEMORY: u32 = 10;
+
+/// No byte marks an obstacle: the least that does is above the greatest.
+pub const RANGE: u32 = 11;
 
 /// The largest stride.
 const MOST_STRIDE: usize = 0xffff_ffff;
@@ -82,6 +86,20 @@ pub fn room_status(needed: usize, count: usize) -> u32
     ensures room { result ≡ DONE → needed ≤ count }
 {
     if count < needed { ROOM } else { DONE }
+}
+
+/// The status of the bytes that mark an obstacle.
+pub fn range_status(map: &ClearmapBytes) -> u32
+    ensures { result ≡ range_status map.now }
+{
+    if map.high < map.low { RANGE } else { DONE }
+}
+
+/// The first of two statuses that isn't `DONE`.
+pub fn first_wrong(first: u32, next: u32) -> u32
+    ensures { result ≡ first_wrong first next }
+{
+    if first != DONE { first } else { next }
 }
 
 /// The status of a path that is refused for this reason.

@@ -40,7 +40,11 @@ pub extern "C" fn clearmap_bits_distances(
         result }
     ensures refused { result ≢ DONE → distances.new ≡ distances.old }
 {
-    let setting = Setting { metric, edge };
+    let setting = Setting {
+        metric,
+        edge,
+        range: DONE,
+    };
     match BitMap::of(words, map) {
         Ok(mut rows) => table_in(alloc, &mut rows, setting, y0..y1, distances),
         Err(status) => status,
@@ -69,7 +73,11 @@ pub extern "C" fn clearmap_bits_nearest(
         result }
     ensures refused { result ≢ DONE → nears.new ≡ nears.old }
 {
-    let setting = Setting { metric, edge };
+    let setting = Setting {
+        metric,
+        edge,
+        range: DONE,
+    };
     match BitMap::of(words, map) {
         Ok(mut rows) => table_in(alloc, &mut rows, setting, y0..y1, nears),
         Err(status) => status,

@@ -7,13 +7,14 @@ ghost use Rattle.libclearmap.specs.Distances.{AreDistances};
 ghost use Rattle.libclearmap.specs.Kept.{kept_nothing, near_kept};
 ghost use Rattle.libclearmap.specs.Layouts.{cells_of_bytes};
 ghost use Rattle.libclearmap.specs.Settings.{distance_numbered, edge_numbered};
-ghost use Rattle.libclearmap.specs.Statuses.{IsStatus, bytes_status, first_wrong, table_status};
+ghost use Rattle.libclearmap.specs.Statuses.{IsStatus, bytes_status, first_wrong, range_status};
+ghost use Rattle.libclearmap.specs.Statuses.{table_status};
 
 use crate::byte_map::ByteMap;
 use crate::layout::ClearmapBytes;
 use crate::near::ClearmapNear;
 use crate::setting::Setting;
-use crate::status::DONE;
+use crate::status::{DONE, range_status};
 use crate::tables::table_in;
 use std::alloc::Global;
 
@@ -36,11 +37,16 @@ pub extern "C" fn clearmap_bytes_distances(
     ensures rest { (k : ℕ) → (y1 - y0) * map.now.width ≤ k → slice_index distances.new k
         ≡ slice_index distances.old k }
     ensures status { IsStatus (first_wrong (bytes_status map.now bytes.now)
-        (table_status (cells_of_bytes map.now bytes.now) metric edge y0 y1 (length distances.old)))
-        result }
+        (first_wrong (table_status (cells_of_bytes map.now bytes.now) metric edge y0 y1
+        (length distances.old)) (range_status map.now))) result }
     ensures refused { result ≢ DONE → distances.new ≡ distances.old }
 {
-    let setting = Setting { metric, edge };
+    let range = range_status(map);
+    let setting = Setting {
+        metric,
+        edge,
+        range,
+    };
     match ByteMap::of(bytes, map) {
         Ok(mut rows) => table_in(alloc, &mut rows, setting, y0..y1, distances),
         Err(status) => status,
@@ -65,11 +71,16 @@ pub extern "C" fn clearmap_bytes_nearest(
     ensures rest { (k : ℕ) → (y1 - y0) * map.now.width ≤ k → slice_index_or nears.new k
         kept_nothing ≡ slice_index_or nears.old k kept_nothing }
     ensures status { IsStatus (first_wrong (bytes_status map.now bytes.now)
-        (table_status (cells_of_bytes map.now bytes.now) metric edge y0 y1 (length nears.old)))
-        result }
+        (first_wrong (table_status (cells_of_bytes map.now bytes.now) metric edge y0 y1
+        (length nears.old)) (range_status map.now))) result }
     ensures refused { result ≢ DONE → nears.new ≡ nears.old }
 {
-    let setting = Setting { metric, edge };
+    let range = range_status(map);
+    let setting = Setting {
+        metric,
+        edge,
+        range,
+    };
     match ByteMap::of(bytes, map) {
         Ok(mut rows) => table_in(alloc, &mut rows, setting, y0..y1, nears),
         Err(status) => status,

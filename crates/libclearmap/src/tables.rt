@@ -3,11 +3,11 @@
 ghost use Rattle.std.specs.Prelude.{◌≡◌, ◌≢◌, ℕ, ◌-◌, ◌*◌, ◌≤◌, IfErr, IfOk, length};
 ghost use Rattle.std.specs.Prelude.{slice_index_or, take};
 ghost use Rattle.libclearmap.specs.Settings.{distance_numbered, edge_numbered};
-ghost use Rattle.libclearmap.specs.Statuses.{IsStatus, table_status};
+ghost use Rattle.libclearmap.specs.Statuses.{IsStatus, first_wrong, table_status};
 
 use crate::copy::bitmap_of;
 use crate::setting::{Setting, edge_of, kind_of};
-use crate::status::{DONE, MEMORY, OUTSIDE, room_status, setting_status};
+use crate::status::{DONE, MEMORY, OUTSIDE, first_wrong, room_status, setting_status};
 use crate::table_cell::TableCell;
 use bits::Bitmap;
 use clearance::Rows;
@@ -28,8 +28,8 @@ pub fn table_in<T: TableCell, R: Rows>(
         (take ((asked.end - asked.start) * (R.cells rows.old).width) cells.new) }
     ensures rest { (k : ℕ) (other : T) → (asked.end - asked.start) * (R.cells rows.old).width ≤ k
         → slice_index_or cells.new k other ≡ slice_index_or cells.old k other }
-    ensures status { IsStatus (table_status (R.cells rows.old) setting.metric setting.edge
-        asked.start asked.end (length cells.old)) result }
+    ensures status { IsStatus (first_wrong (table_status (R.cells rows.old) setting.metric
+        setting.edge asked.start asked.end (length cells.old)) setting.range) result }
     ensures refused { result ≢ DONE → cells.new ≡ cells.old }
 {
     let bitmap = match map_of(alloc, rows, setting, &asked, cells.len()) {
@@ -58,14 +58,14 @@ fn map_of<R: Rows>(
     count: usize,
 ) -> Result<Bitmap, u32>
     ensures map { IfOk result (λ bitmap. bitmap ≡ R.cells rows.old) }
-    ensures right { IfOk result (λ _. table_status (R.cells rows.old) setting.metric
-        setting.edge asked.now.start asked.now.end count ≡ DONE) }
+    ensures right { IfOk result (λ _. first_wrong (table_status (R.cells rows.old) setting.metric
+        setting.edge asked.now.start asked.now.end count) setting.range ≡ DONE) }
     ensures order { IfOk result (λ _. asked.now.start ≤ asked.now.end) }
     ensures within { IfOk result (λ _. asked.now.end ≤ (R.cells rows.old).height) }
     ensures room { IfOk result (λ _. (asked.now.end - asked.now.start) * (R.cells rows.old).width
         ≤ count) }
-    ensures wrong { IfErr result (λ status. IsStatus (table_status (R.cells rows.old)
-        setting.metric setting.edge asked.now.start asked.now.end count) status) }
+    ensures wrong { IfErr result (λ status. IsStatus (first_wrong (table_status (R.cells rows.old)
+        setting.metric setting.edge asked.now.start asked.now.end count) setting.range) status) }
     ensures some { IfErr result (λ status. status ≢ DONE) }
 {
     let status = rows_status(rows, setting, asked, count);
@@ -80,8 +80,8 @@ fn map_of<R: Rows>(
 
 /// The status of a call for these rows of a map, memory aside.
 fn rows_status<R: Rows>(rows: &R, setting: Setting, asked: &Range<u32>, count: usize) -> u32
-    ensures status { result ≡ table_status (R.cells rows.now) setting.metric setting.edge
-        asked.now.start asked.now.end count }
+    ensures status { result ≡ first_wrong (table_status (R.cells rows.now) setting.metric
+        setting.edge asked.now.start asked.now.end count) setting.range }
     ensures order { result ≡ DONE → asked.now.start ≤ asked.now.end }
     ensures within { result ≡ DONE → asked.now.end ≤ (R.cells rows.now).height }
     ensures room { result ≡ DONE → (asked.now.end - asked.now.start) * (R.cells rows.now).width
@@ -94,8 +94,6 @@ fn rows_status<R: Rows>(rows: &R, setting: Setting, asked: &Range<u32>, count: u
     if asked.end < asked.start || u32::from(rows.height()) < asked.end {
         return OUTSIDE;
     }
-    room_status(
-        (asked.end - asked.start) as usize * usize::from(rows.width()),
-        count,
-    )
+    let needed = (asked.end - asked.start) as usize * usize::from(rows.width());
+    first_wrong(room_status(needed, count), setting.range)
 }
