@@ -133,18 +133,19 @@ typedef struct clearmap_bytes {
 
 /*
  * The layout of a map in bits: cell (x, y) is bit x % 64, from the lowest, of the word at y *
- * stride + x / 64, and an obstacle where that bit is 1 and so is bit y / 64 of bands. Bits past the
- * last column may be anything.
+ * stride + x / 64, and an obstacle where that bit is 1 and bit y / 64 of blank_bands is 0. Bits
+ * past the last column may be anything.
  *
- * Bit k of bands says that rows 64 k to 64 k + 63 may have an obstacle: where it is 0 they count as
- * blank, WHATEVER THEIR WORDS SAY. So a query skips blank bands. clearmap_pack sets bands; if you
- * set a bit in row y afterwards, set bit y / 64 of bands too. UINT64_MAX is right for every map.
+ * Bit k of blank_bands says that rows 64 k to 64 k + 63 are known to be blank: where it is 1 they
+ * count as blank, WHATEVER THEIR WORDS SAY, and queries skip them. clearmap_pack sets it; if you
+ * set a bit in row y afterwards, clear bit y / 64 of blank_bands too. 0, as where the field is left
+ * out, is right for every map, and costs only time.
  */
 typedef struct clearmap_bits {
     uint32_t width;  /* columns, 1 to 4096 */
     uint32_t height; /* rows, 1 to 4096 */
     size_t stride;   /* words from one row to the next: (width + 63) / 64 or more, below 2^32 */
-    uint64_t bands;
+    uint64_t blank_bands;
 } clearmap_bits;
 
 /*

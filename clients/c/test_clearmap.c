@@ -105,7 +105,7 @@ static void make_bits(struct map *m) {
             if (bit) bands |= 1ull << (y / 64);
         }
     }
-    CHECK(bits.bands == bands); /* no band is said to have an obstacle that has none */
+    CHECK(bits.blank_bands == ~bands); /* each band without an obstacle is said to be blank */
     bits.stride = stride;
     m->in_bits = bits;
     free(packed);
@@ -277,18 +277,25 @@ static void try_unpack(const struct map *m) {
     free(bytes);
 }
 
-/* A band whose bit is 0 is blank, whatever its words say. */
+/* A band whose bit is 1 is blank, whatever its words say; where the field is left out, none is. */
 static void try_bands(const struct map *m) {
     clearmap_bits blank = m->in_bits;
-    blank.bands = 0;
+    blank.blank_bands = UINT64_MAX;
     clearmap_near near;
     CHECK(!clearmap_bits_at(m->words, m->words_length, &blank, 0, CLEARMAP_OPEN, 0, 0, &near));
     CHECK(near.dist == CLEARMAP_NO_OBSTACLE && near.x == CLEARMAP_NOWHERE);
-    clearmap_bits unknown = m->in_bits;
-    unknown.bands = UINT64_MAX;
+    clearmap_bits left_out = {.width = m->in_bits.width,
+                              .height = m->in_bits.height,
+                              .stride = m->in_bits.stride};
     clearmap_near want = search(m, 0, 0, 0, 0);
-    CHECK(!clearmap_bits_at(m->words, m->words_length, &unknown, 0, CLEARMAP_OPEN, 0, 0, &near));
+    CHECK(!clearmap_bits_at(m->words, m->words_length, &left_out, 0, CLEARMAP_OPEN, 0, 0, &near));
     CHECK(same(near, want));
+    clearmap_found least, found = untouched_found;
+    CHECK(!clearmap_bits_rect(m->words, m->words_length, &m->in_bits, 0, CLEARMAP_OPEN, 0, 0,
+                              left_out.width, left_out.height, &least));
+    CHECK(!clearmap_bits_rect(m->words, m->words_length, &left_out, 0, CLEARMAP_OPEN, 0, 0,
+                              left_out.width, left_out.height, &found));
+    CHECK(same_found(found, least));
 }
 
 static void try_maps(int maps) {
@@ -340,7 +347,7 @@ static void refuse(struct given g, int kinds, uint32_t status) {
     clearmap_found found = untouched_found;
     uint32_t distances[6] = {7};
     clearmap_bytes by = {g.width, g.height, g.stride ? g.stride : 3, g.low, g.high};
-    clearmap_bits bi = {g.width, g.height, g.stride ? g.stride / 3 : 1, UINT64_MAX};
+    clearmap_bits bi = {g.width, g.height, g.stride ? g.stride / 3 : 1, 0};
     size_t lb = g.length ? g.length : 6, li = g.length ? g.length / 5 : 2;
     uint32_t m = g.metric, e = g.edge;
     if (kinds & AT) {
@@ -444,7 +451,7 @@ static void try_statuses(void) {
 static void try_pack_statuses(void) {
     clearmap_bytes by = {3, 2, 3, 1, 1}, wide = {4097, 2, 4097, 1, 1}, close = {3, 2, 2, 1, 1};
     clearmap_bytes turned = {3, 2, 3, 2, 1};
-    clearmap_bits bi = {3, 2, 1, UINT64_MAX}, out = {9, 9, 9, 9};
+    clearmap_bits bi = {3, 2, 1, 0}, out = {9, 9, 9, 9};
     uint64_t words[2] = {7, 7};
     uint8_t bytes[6] = {7};
     CHECK(clearmap_pack(small_bytes, 6, &wide, words, 2, &out) == CLEARMAP_SIZE);
@@ -453,9 +460,10 @@ static void try_pack_statuses(void) {
     CHECK(clearmap_pack(small_bytes, 6, &by, words, 1, &out) == CLEARMAP_ROOM);
     CHECK(clearmap_pack(small_bytes, 6, &turned, words, 1, &out) == CLEARMAP_ROOM);
     CHECK(clearmap_pack(small_bytes, 6, &turned, words, 2, &out) == CLEARMAP_RANGE);
-    CHECK(words[0] == 7 && words[1] == 7 && out.width == 9 && out.bands == 9);
+    CHECK(words[0] == 7 && words[1] == 7 && out.width == 9 && out.blank_bands == 9);
     CHECK(clearmap_pack(small_bytes, 6, &by, words, 2, &out) == CLEARMAP_DONE);
-    CHECK(words[0] == 2 && words[1] == 0 && out.width == 3 && out.stride == 1 && out.bands == 1);
+    CHECK(words[0] == 2 && words[1] == 0 && out.width == 3 && out.stride == 1);
+    CHECK(out.blank_bands == ~1ull);
     CHECK(clearmap_unpack(words, 1, &bi, 0, 1, bytes, 5) == CLEARMAP_LENGTH);
     CHECK(clearmap_unpack(words, 2, &bi, 0, 1, bytes, 5) == CLEARMAP_ROOM);
     bi.stride = 0;
@@ -474,7 +482,7 @@ static void try_pack_statuses(void) {
 
 static uint32_t rows_call(int which, clearmap_near *nears, uint32_t *distances) {
     static const clearmap_bytes by = {3, 2, 3, 1, 1};
-    static const clearmap_bits bi = {3, 2, 1, UINT64_MAX};
+    static const clearmap_bits bi = {3, 2, 1, 0};
     switch (which) {
     case 0: return clearmap_bytes_nearest(small_bytes, 6, &by, 0, 1, 0, 2, nears, 6);
     case 1: return clearmap_bits_nearest(small_words, 2, &bi, 0, 1, 0, 2, nears, 6);
@@ -577,7 +585,7 @@ static void try_largest(void) {
     m.words_length = all / 64;
     m.words = room(8 * m.words_length);
     CHECK(!clearmap_pack(m.bytes, all, &m.in_bytes, m.words, m.words_length, &m.in_bits));
-    CHECK(m.in_bits.bands == 1ull << 63);
+    CHECK(m.in_bits.blank_bands == ~(1ull << 63));
     uint32_t *distances = room(4 * all);
     clearmap_near near;
     clearmap_found found;

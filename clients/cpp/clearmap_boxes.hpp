@@ -144,10 +144,10 @@ struct Changes {
     Runs cleared, painted;
 
     Changes(const Map& from, const Map& to, std::size_t most) {
-        const std::uint64_t bands = from.bits().bands | to.bits().bands;
+        const std::uint64_t blank = from.bits().blank_bands & to.bits().blank_bands;
         for (int y = 0; y < from.size().height && count() <= most; y += 64) {
             const int end = std::min(y + 64, from.size().height);
-            if ((bands >> y / 64 & 1) == 0 || same(from, to, y, end))
+            if ((blank >> y / 64 & 1) == 1 || same(from, to, y, end))
                 end_row();
             else
                 rows(from, to, y, end, most);

@@ -293,7 +293,8 @@ public:
     /// column are 0.
     const std::vector<std::uint64_t>& words() const noexcept { return words_; }
     clearmap_bits bits() const noexcept {
-        return {detail::numbered(size().width), detail::numbered(size().height), stride(), bands_};
+        return {detail::numbered(size().width), detail::numbered(size().height), stride(),
+                blank_bands_};
     }
 
     /// Whether the sizes, the edges and the obstacles are the same.
@@ -442,7 +443,7 @@ private:
         clearmap_bits to{};
         detail::check(clearmap_pack(length == 0 ? &none : static_cast<const std::uint8_t*>(cells),
                                     length, &from, words_.data(), words_.size(), &to));
-        bands_ = to.bands;
+        blank_bands_ = to.blank_bands;
         if (rows == Rows::upwards) flip();
     }
 
@@ -457,7 +458,7 @@ private:
         mark(0, size_.height);
     }
 
-    /// Sets whether each band of rows y0 to y1 - 1 has an obstacle.
+    /// Sets whether each band of rows y0 to y1 - 1 is blank.
     void mark(int y0, int y1) {
         for (int b = y0 / band; b <= (y1 - 1) / band; ++b) {
             auto rows = [&](int y) {
@@ -466,7 +467,7 @@ private:
             bool any = std::any_of(rows(b * band), rows(std::min((b + 1) * band, size_.height)),
                                    [](std::uint64_t bits) { return bits != 0; });
             std::uint64_t bit = std::uint64_t{1} << b;
-            bands_ = any ? bands_ | bit : bands_ & ~bit;
+            blank_bands_ = any ? blank_bands_ & ~bit : blank_bands_ | bit;
         }
     }
 
@@ -488,7 +489,7 @@ private:
 
     Size size_;
     Edge edge_;
-    std::uint64_t bands_ = 0;
+    std::uint64_t blank_bands_ = ~std::uint64_t{0};
     std::vector<std::uint64_t> words_;
 };
 

@@ -23,7 +23,7 @@ public:
         const std::size_t start = numbered(box_.y0) * part.stride + numbered(box_.x0) / 64;
         part.width = numbered(box_.x1 - box_.x0);
         part.height = numbered(box_.y1 - box_.y0);
-        part.bands = ~std::uint64_t{0};
+        part.blank_bands = 0;
         check(clearmap_bits_nearest(map.words().data() + start, map.words().size() - start, &part,
                                     numbered(metric), CLEARMAP_OPEN, numbered(cells.y0 - box_.y0),
                                     numbered(cells.y1 - box_.y0), nears_.get(), length(cells)));

@@ -269,13 +269,13 @@ static void made(int maps) {
                        static_cast<std::size_t>(x)] = model.obstacle(x, y) ? -1 : 64;
         Map turned = Map::of_bytes(larger.data(), larger.size(), stride, size, {65, 255},
                                    model.edge, Rows::upwards);
-        CHECK(turned == map && turned.bits().bands == map.bits().bands);
+        CHECK(turned == map && turned.bits().blank_bands == map.bits().blank_bands);
 
         Map painted(size, model.edge);
         for (int y = 0; y < size.height; ++y)
             for (int x = 0; x < size.width; ++x)
                 if (model.obstacle(x, y)) CHECK(painted.paint(x, y, x + 1, y + 1) == 1);
-        CHECK(painted == map && painted.bits().bands == map.bits().bands);
+        CHECK(painted == map && painted.bits().blank_bands == map.bits().blank_bands);
         model.edge = model.edge == Edge::open ? Edge::wall : Edge::open;
         CHECK(map != model.map() && map.words() == model.map().words());
     }
@@ -301,10 +301,12 @@ static void drawn(int maps) {
                 model.cell(c.x, c.y) = paint;
             }
             CHECK((paint ? map.paint(a.x, a.y, x1, y1) : map.clear(a.x, a.y, x1, y1)) == changed);
-            CHECK(map == model.map() && map.bits().bands == model.map().bits().bands);
+            CHECK(map == model.map());
+            CHECK(map.bits().blank_bands == model.map().bits().blank_bands);
         }
         map.clear(0, 0, model.size.width, model.size.height);
-        CHECK(map == Map(model.size, model.edge) && map.bits().bands == 0);
+        CHECK(map == Map(model.size, model.edge));
+        CHECK(map.bits().blank_bands == ~std::uint64_t{0});
         CHECK(map.at({0, 0}).has_value() == (model.edge == Edge::wall));
     }
 }
@@ -472,7 +474,7 @@ static void largest() {
     CHECK(field.distance({0, 4095}) == 4095u * 4095 && field.distance({4095, 0}) == 4095u * 4095);
     CHECK(map.paint(4095, 4095, 4096, 4096) == 1 && map.clear(0, 0, 4095, 4096) == 1);
     CHECK(map.at({0, 0})->obstacle == (Cell{4095, 4095}));
-    CHECK(map.bits().bands == std::uint64_t{1} << 63);
+    CHECK(map.bits().blank_bands == ~(std::uint64_t{1} << 63));
 }
 
 // ---- images that aren't

@@ -114,7 +114,7 @@ class Maps(unittest.TestCase):
             grid[y0:y1, x0:x1] = turn % 3 == 0
             np.testing.assert_array_equal(area.grid(), grid)
             bands = sum(1 << k for k in range(5) if grid[64 * k : 64 * k + 64].any())
-            self.assertEqual(area._held.memory.layout.bands, bands)
+            self.assertEqual(area._held.memory.layout.blank_bands, 2**64 - 1 - bands)
             np.testing.assert_array_equal(area.distances(), clearmap.distances(grid))
 
     def test_a_grid_that_changes_later(self):

@@ -68,7 +68,7 @@ def put_together(
     width, height = record.size
     if width % 64 and (words[:, -1] >> numpy().uint64(width % 64)).any():
         raise BadVersion("a tile has cells beyond the map's right side")
-    bits = Bits(width, height, words.shape[1], _bands(words))
+    bits = Bits(width, height, words.shape[1], _blank_bands(words))
     area = FixedMap._of(Memory("bits", words, words.size, bits), record.edge)
     told = record.number, record.run, record.order, record.hash
     return Version(area, *told, published, record)
@@ -93,8 +93,9 @@ def _words(record: Record, before: Optional[Version], fetched: Dict[bytes, bytes
     return words
 
 
-def _bands(words: Any) -> int:
-    """One bit per 64 rows, set if they have an obstacle."""
+def _blank_bands(words: Any) -> int:
+    """One bit per 64 rows, set if they have no obstacle."""
     rows = words.any(axis=1)
     starts = range(0, len(rows), ROWS)
-    return sum(1 << k for k, y in enumerate(starts) if rows[y : y + ROWS].any())
+    some = sum(1 << k for k, y in enumerate(starts) if rows[y : y + ROWS].any())
+    return 2**64 - 1 - some

@@ -36,7 +36,7 @@ class Bits(ctypes.Structure):
         ("width", ctypes.c_uint32),
         ("height", ctypes.c_uint32),
         ("stride", ctypes.c_size_t),
-        ("bands", ctypes.c_uint64),
+        ("blank_bands", ctypes.c_uint64),
     ]
 
 

@@ -25,7 +25,7 @@ from .grids import EDGES, OPEN, Memory, edge_of, map_of, number_of
 from .library import CROOKED, NO_OBSTACLE, Bits, CFound, CNear, check, library, numpy
 from .requests import EUCLID2, LARGEST_SIDE, LONGEST_PATH, Cell, Near, Request, Tightest, whole
 from .rows import distances_of
-from .signed import ALL_BANDS, gradients_of, signed_of
+from .signed import NO_BANDS, gradients_of, signed_of
 
 if TYPE_CHECKING:
     import numpy as np
@@ -54,7 +54,7 @@ def unpacked(memory: Memory, y0: int, y1: int) -> Any:
     """The cells of rows y0 to y1 - 1 of a map in bits, as bools."""
     cells, width = memory.cells[y0:y1], memory.layout.width
     out = numpy().empty((y1 - y0, width), numpy().uint8)
-    bits = Bits(width, y1 - y0, cells.shape[1], ALL_BANDS)
+    bits = Bits(width, y1 - y0, cells.shape[1], NO_BANDS)
     where = cells.ctypes.data, cells.size, ctypes.byref(bits)
     check(library().clearmap_unpack(*where, 0, 1, out.ctypes.data, out.size))
     return out.view(bool)
@@ -280,7 +280,7 @@ class Map:
         first, mask = _mask(x0, x1)
         with self._lock:
             _, cells, length, old = self._held.memory
-            cells, bands = cells.copy(), int(old.bands)
+            cells, blank = cells.copy(), int(old.blank_bands)
             part = cells[y0:y1, first : first + len(mask)]
             if name == "PAINT":
                 part |= mask
@@ -288,8 +288,8 @@ class Map:
                 part &= ~mask
             for band in range(y0 // ROWS, (y1 - 1) // ROWS + 1):
                 rows = cells[band * ROWS : (band + 1) * ROWS]
-                bands = bands & ~(1 << band) | int(rows.any()) << band
-            bits = Bits(old.width, old.height, old.stride, bands)
+                blank = blank & ~(1 << band) | int(not rows.any()) << band
+            bits = Bits(old.width, old.height, old.stride, blank)
             self._held = Held(Memory("bits", cells, length, bits), self._edge)
 
 

@@ -16,7 +16,7 @@ if TYPE_CHECKING:
     Reals = NDArray[np.float64]
 
 PIECE = 1 << 15  # cells that are converted at once, by arrays that the processor's cache holds
-ALL_BANDS = 2**64 - 1  # as if each had an obstacle: it is right for words that have none too
+NO_BANDS = 0  # as if no band were known to be blank: it is right for all words
 
 
 def signed_distances(
@@ -72,7 +72,7 @@ def _packed(grid: object, low: Optional[float], high: Optional[float]) -> Memory
 def inverse(memory: Memory) -> Memory:
     """The map in bits whose obstacles are the free cells of another."""
     old = memory.layout
-    bits = Bits(old.width, old.height, memory.cells.shape[1], ALL_BANDS)
+    bits = Bits(old.width, old.height, memory.cells.shape[1], NO_BANDS)
     return Memory("bits", ~memory.cells, memory.length, bits)
 
 

@@ -1,13 +1,13 @@
 -- The words of a map that lies in the caller's memory.
 use Rattle.std.proofs.Common.{◌/◌, ◌%◌, nat_le, ◌&&◌, ◌==◌, ◌≡◌, ℕ, suc, ◌+◌, ◌-◌, ◌*◌, ◌^◌, ◌<◌}
 use Rattle.std.proofs.Common.{◌≤◌, min, inl, inr, Bool, true, false, cond, List, length, get_or}
-use Rattle.std.proofs.Common.{if◌then◌else◌, refl, sym, ap, ◌∙◌, arith, take, drop}
-use Rattle.std.specs.Int.{bit_at}
+use Rattle.std.proofs.Common.{if◌then◌else◌, refl, sym, ap, ◌∙◌, arith, take, drop, w64}
+use Rattle.std.specs.Int.{bit_at, bit_not}
 use Rattle.std.proofs.lemmas.Bool.{and_parts, cases_lt, eqb-true}
 use Rattle.std.proofs.lemmas.Bool.Decides.{nat_tests}
 use lib.Bits.{bit_and}
 use Rattle.std.proofs.lemmas.Nat.Bits.{bit_at-lt, bit_at-zero, bit_at_and, bit_at_cat_high}
-use Rattle.std.proofs.lemmas.Nat.Bits.{same_from_bits_below}
+use Rattle.std.proofs.lemmas.Nat.Bits.{bit_at_not, same_from_bits_below}
 use Rattle.std.proofs.lemmas.List.{length-take-le, length-drop, get_or-take, get_or-drop}
 use Rattle.std.proofs.Math.Nat.{pow-le-pow_right, pow-suc, mul-le-mul_right}
 use Rattle.bits.specs.Bands.{IsBanded}
@@ -22,7 +22,7 @@ use Rattle.clearance.specs.Rows.{words_of_row}
 use Rattle.clearance.proofs.RowWords.{word_in_row}
 use Rattle.libclearmap.specs.declared.layout.ClearmapBytes.{ClearmapBytes}
 use Rattle.libclearmap.specs.declared.layout.ClearmapBits.{ClearmapBits}
-use Rattle.libclearmap.specs.Layouts.{IsShape, cells_of_bits, cells_of_bytes, is_dark, is_in_band}
+use Rattle.libclearmap.specs.Layouts.{IsShape, cells_of_bits, cells_of_bytes, is_counted, is_dark}
 use Rattle.libclearmap.specs.Layouts.{is_marked, is_obstacle_byte}
 
 -- the bits of a number from its size on are 0
@@ -144,18 +144,18 @@ masked_fits : (b : Bool) (own : ℕ) → own < 2 ^ 64 → (if b then own else 0)
 masked_fits true own fits = fits
 masked_fits false own fits = omega arith
 
--- the bits of a word of a row, without those past the edge, are the row's word where its band may
--- have an obstacle; else that is 0
+-- the bits of a word of a row, without those past the edge, are the row's word where its band isn't
+-- known to be blank; else that is 0
 pub word_in_bits : (map : ClearmapBits) (words : List ℕ) (y k own : ℕ) → k < words_across map.width
     → y < map.height → own < 2 ^ 64
     → ((i : ℕ) → i < map.width - 64 * k → i < 64 → bit_at own i
     ≡ bit_at (get_or words (y * map.stride + k) 0) i)
     → ((i : ℕ) → map.width - 64 * k ≤ i → i < 64 → bit_at own i ≡ 0)
-    → (if is_in_band map.bands y then own else 0)
+    → (if is_counted map.blank_bands y then own else 0)
     ≡ get_or (words_of_row (cells_of_bits map words) y) k 0
 word_in_bits map words y k own within row fits kept cleared =
     let cells = cells_of_bits map words in
-    let band = is_in_band map.bands y in
+    let band = is_counted map.blank_bands y in
     let test : ℕ → Bool = λ j. has cells (64 * k + j) y in
     same_from_bits_below 64 (if band then own else 0) (word_where test 64)
     (masked_fits band own fits) (word_where-lt test 64)
@@ -188,11 +188,15 @@ word_in_bits map words y k own within row fits kept cleared =
 
 -- a map in bits has no obstacle in a band that is said to be blank
 pub IsBanded-bits : (map : ClearmapBits) (words : List ℕ) → IsSide map.width → IsSide map.height
-    → IsBanded (cells_of_bits map words) map.bands
-IsBanded-bits map words wide high = λ x y obstacle.
+    → map.blank_bands < 2 ^ 64 → IsBanded (cells_of_bits map words) (bit_not w64 map.blank_bands)
+IsBanded-bits map words wide high fits = λ x y obstacle.
     let inside = has-outside _ (IsBitmap-cells_where map.width map.height (is_marked map words) wide
     high) x y obstacle in
     let marked = sym (has-cells_where map.width map.height (is_marked map words) x y inside.column
     inside.row) ∙ obstacle in
-    eqb-true (bit_at map.bands (y / 64)) 1
-    (and_parts (is_in_band map.bands y) (is_stored map.stride words x y) marked).0
+    let zero = eqb-true (bit_at map.blank_bands (y / 64)) 0
+    (and_parts (is_counted map.blank_bands y) (is_stored map.stride words x y) marked).0 in
+    let row = inside.row in
+    let few = high.few in
+    let bit = bit_at_not w64 map.blank_bands (y / 64) fits (omega (arith, row, few)) in
+    rw zero at bit

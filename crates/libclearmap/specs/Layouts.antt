@@ -20,13 +20,13 @@ is_dark map bytes x y = is_obstacle_byte map.low map.high (slice_index bytes (y 
 abbrev pub cells_of_bytes : ClearmapBytes → List ℕ → Cells
 cells_of_bytes map bytes = cells_where map.width map.height (is_dark map bytes)
 
--- whether row y is in a band that may have an obstacle
-abbrev pub is_in_band : ℕ → ℕ → Bool
-is_in_band bands y = bit_at bands (y / 64) == 1
+-- whether row y is in a band that isn't known to be blank
+abbrev pub is_counted : ℕ → ℕ → Bool
+is_counted blank_bands y = bit_at blank_bands (y / 64) == 0
 
--- whether cell (x, y) of a map in bits is an obstacle: its bit is 1, and so is its band's
+-- whether cell (x, y) of a map in bits is an obstacle: its bit is 1, and its band's is 0
 abbrev pub is_marked : ClearmapBits → List ℕ → ℕ → ℕ → Bool
-is_marked map words x y = is_in_band map.bands y && is_stored map.stride words x y
+is_marked map words x y = is_counted map.blank_bands y && is_stored map.stride words x y
 
 -- the map in the words
 abbrev pub cells_of_bits : ClearmapBits → List ℕ → Cells

@@ -3,7 +3,7 @@
 ghost use Rattle.std.specs.Prelude.{◌≡◌, ◌≢◌, ℕ, ◌/◌, ◌≤◌, ◌<◌, IfErr, IfOk, length, if◌then◌else◌};
 ghost use Rattle.std.specs.Int.{bit_at};
 ghost use Rattle.bits.specs.Words.{words_across};
-ghost use Rattle.libclearmap.specs.Layouts.{IsShape, is_in_band};
+ghost use Rattle.libclearmap.specs.Layouts.{IsShape, is_counted};
 ghost use Rattle.libclearmap.specs.Statuses.{bits_status};
 
 use crate::layout::ClearmapBits;
@@ -60,7 +60,7 @@ impl<'a> Rows for BitMap<'a> {
     fn word(&mut self, y: u16, index: usize) -> u64 {
         let word = self.words[usize::from(y) * self.map.stride + index];
         let own = low_bits(word, self.map.width as usize - 64 * index);
-        in_band(self.map.bands, y, own)
+        counted(self.map.blank_bands, y, own)
     }
 
     /// A row with a bit set past its edge doesn't count as blank.
@@ -71,7 +71,7 @@ impl<'a> Rows for BitMap<'a> {
 
     #[inline(always)]
     fn bands(&self) -> u64 {
-        self.map.bands
+        !self.map.blank_bands
     }
 }
 
@@ -90,11 +90,11 @@ fn low_bits(word: u64, count: usize) -> u64
 
 /// The word of row `y`, or 0 where the row's band is known to be blank.
 #[inline(always)]
-fn in_band(bands: u64, y: u16, word: u64) -> u64
+fn counted(blank_bands: u64, y: u16, word: u64) -> u64
     requires { y < MOST_SIDE }
-    ensures { result ≡ (if is_in_band bands y then word else 0) }
+    ensures { result ≡ (if is_counted blank_bands y then word else 0) }
 {
-    if (bands >> (y / BAND_ROWS)) & 1 == 1 {
+    if (blank_bands >> (y / BAND_ROWS)) & 1 == 0 {
         word
     } else {
         0

@@ -21,7 +21,7 @@ pub struct ClearmapBytes {
 /// A map in bits, 64 cells per word: cell (x, y) is bit x % 64 of the word at y * `stride` + x /
 /// 64.
 ///
-/// A cell is an obstacle where its bit is 1 and so is bit y / 64 of `bands`.
+/// A cell is an obstacle where its bit is 1 and bit y / 64 of `blank_bands` is 0.
 #[repr(C)]
 #[derive(Clone, Copy, Debug)]
 pub struct ClearmapBits {
@@ -31,7 +31,7 @@ pub struct ClearmapBits {
     pub height: u32,
     /// Words from one row's first word to the next row's: (`width` + 63) / 64 or more, below 2^32.
     pub stride: usize,
-    /// Which bands of 64 rows may have an obstacle. Where bit k is 0, rows 64 k to 64 k + 63 count
-    /// as blank, whatever their words say. `u64::MAX` where nothing is known.
-    pub bands: u64,
+    /// Which bands of 64 rows are known to be blank. Where bit k is 1, rows 64 k to 64 k + 63 count
+    /// as blank, whatever their words say. 0 where nothing is known.
+    pub blank_bands: u64,
 }

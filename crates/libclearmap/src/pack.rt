@@ -50,7 +50,7 @@ pub extern "C" fn clearmap_pack(
         width,
         height,
         stride,
-        bands,
+        blank_bands: !bands,
     };
     DONE
 }

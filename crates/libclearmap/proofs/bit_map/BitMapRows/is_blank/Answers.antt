@@ -3,7 +3,7 @@ use Rattle.std.proofs.Common.{◌≡◌, ◌+◌, ◌*◌, ◌≤◌, ℕ, Bool,
 use Rattle.std.proofs.Common.{if◌then◌else◌, refl, sym, ap, ◌∙◌, arith}
 use Rattle.std.specs.Int.{bit_at}
 use Rattle.std.proofs.lemmas.Nat.Bits.{bit_at-zero}
-use Rattle.libclearmap.specs.Layouts.{is_in_band}
+use Rattle.libclearmap.specs.Layouts.{is_counted}
 use Rattle.libclearmap.proofs.LayoutLemmas.{part_length, part_read, part_within, word_in_bits}
 use Rattle.libclearmap.proofs.bit_map.BitMapRows.is_blank.Goals as goal
 
@@ -34,4 +34,4 @@ returns-clause-blank c = λ yes k within.
     ∙ (sym zero ∙ c.is_blank.ensures yes k (rw part (omega (arith, across)))) in
     sym (word_in_bits map words c.args.y k 0 within c.requires (omega arith)
     (λ i below bit. ap (λ (n : ℕ). bit_at n i) (sym stored)) (λ i past bit. bit_at-zero i))
-    ∙ neither (is_in_band map.bands c.args.y)
+    ∙ neither (is_counted map.blank_bands c.args.y)

@@ -10,7 +10,7 @@ returns-clause-word c =
     let words = c.args.self.now.words.now in
     let place : c.from.result * map.stride + c.args.index
     ≡ c.args.y * map.stride + c.args.index = rw c.from.ensures refl in
-    c.in_band.ensures ∙ word_in_bits map words c.args.y c.args.index c.low_bits-own.result
+    c.counted.ensures ∙ word_in_bits map words c.args.y c.args.index c.low_bits-own.result
     c.requires.index c.requires.row (omega arith)
     (λ i inside bit. c.low_bits-own.ensures.kept i inside bit
     ∙ ap (λ (n : ℕ). bit_at (get_or words n 0) i) place) c.low_bits-own.ensures.cleared
