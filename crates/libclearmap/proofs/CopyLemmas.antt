@@ -17,6 +17,7 @@ use Rattle.bits.specs.TileWords.{is_bit}
 use Rattle.bits.specs.Writes.{with_row}
 use Rattle.bits.proofs.StoredLemmas.{test_of_bit}
 use Rattle.bits.proofs.CellsLemmas.{cells_where-same, cells_where-has, has-cells_where}
+use Rattle.bits.proofs.CellsLemmas.{has-cells_where_right}
 use Rattle.clearance.specs.Rows.{words_of_row}
 use Rattle.clearance.proofs.RowWords.{IsRowOf-words}
 use Rattle.libclearmap.specs.Layouts.{is_counted}
@@ -114,6 +115,23 @@ cells_stored-packed cells words bitmap packed =
     (has cells) (λ x y hx hy.
     ap (λ (w : ℕ). is_bit w (x % 64)) (packed y (x / 64) hy (omega arith)) ∙ row_bit cells x y hx)
     ∙ sym (cells_where-has cells bitmap)
+
+-- the bits past the edge of words that are the rows are 0
+pub packed_edge : (cells : Cells) (words : List ℕ) → IsBitmap cells
+    → ((y k : ℕ) → y < cells.height → k < words_across cells.width
+    → get_or words (y * words_across cells.width + k) 0 ≡ get_or (words_of_row cells y) k 0)
+    → (x y : ℕ) → cells.width ≤ x → x < 64 * words_across cells.width → y < cells.height
+    → is_stored (words_across cells.width) words x y ≡ false
+packed_edge cells words bitmap packed x y past within row =
+    let column : x / 64 < words_across cells.width = omega arith in
+    let whole : 64 * (x / 64) + x % 64 ≡ x = omega arith in
+    let none : has cells x y ≡ false = ap (λ (map : Cells). has map x y)
+    (cells_where-has cells bitmap)
+    ∙ has-cells_where_right cells.width cells.height (has cells) x y past in
+    ap (λ (w : ℕ). is_bit w (x % 64)) (packed y (x / 64) row column)
+    ∙ (test_of_bit (bit_at (get_or (words_of_row cells y) (x / 64) 0) (x % 64)) (has cells x y)
+    ((IsRowOf-words cells y).bits (x / 64) (x % 64) column (omega arith)
+    ∙ ap (λ (a : ℕ). cond (has cells a y) 1 0) whole) ∙ none)
 
 -- an item of a row above lies before the row
 pub place_above : (b y width x : ℕ) → b < y → x < width → b * width + x < y * width

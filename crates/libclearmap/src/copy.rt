@@ -1,9 +1,10 @@
 //! Copies of a map that is read word by word: as a bitmap, and as words.
 
-ghost use Rattle.std.specs.Prelude.{◌≡◌, ℕ, ◌<◌, ◌≤◌, ◌+◌, ◌*◌, IfOk, IfErr, length, slice_index};
+ghost use Rattle.std.specs.Prelude.{◌≡◌, ℕ, ◌<◌, ◌≤◌, ◌+◌, ◌*◌, IfOk, IfErr, length};
+ghost use Rattle.std.specs.Prelude.{false, slice_index};
 ghost use Rattle.std.specs.Int.{bit_at};
 ghost use Rattle.bits.specs.Bands.{IsBanded};
-ghost use Rattle.bits.specs.Stored.{cells_stored};
+ghost use Rattle.bits.specs.Stored.{cells_stored, is_stored};
 ghost use Rattle.bits.specs.Words.{words_across};
 ghost use Rattle.bits.specs.Writes.{with_row};
 ghost use Rattle.clearance.specs.Rows.{words_of_row};
@@ -50,6 +51,9 @@ pub fn pack_rows<R: Rows>(rows: &mut R, words: &mut [u64]) -> u64
     ensures packed { cells_stored (R.cells rows.old).width (R.cells rows.old).height words.new
         ≡ R.cells rows.old }
     ensures bands { IsBanded (R.cells rows.old) result }
+    ensures edge { (x y : ℕ) → (R.cells rows.old).width ≤ x
+        → x < 64 * words_across (R.cells rows.old).width → y < (R.cells rows.old).height
+        → is_stored (words_across (R.cells rows.old).width) words.new x y ≡ false }
     ensures rest { (k : ℕ) → (R.cells rows.old).height * words_across (R.cells rows.old).width ≤ k
         → slice_index words.new k ≡ slice_index words.old k }
     ensures len { length words.new ≡ length words.old }

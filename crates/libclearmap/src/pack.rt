@@ -1,8 +1,9 @@
 //! The calls that convert a map from bytes to bits, and back.
 
 ghost use Rattle.std.specs.Prelude.{◌≡◌, ◌≢◌, ℕ, ◌<◌, ◌≤◌, ◌+◌, ◌*◌, length, slice_index};
-ghost use Rattle.std.specs.Prelude.{if◌then◌else◌};
+ghost use Rattle.std.specs.Prelude.{false, if◌then◌else◌};
 ghost use Rattle.bits.specs.Cells.{has};
+ghost use Rattle.bits.specs.Stored.{is_stored};
 ghost use Rattle.bits.specs.Words.{words_across};
 ghost use Rattle.libclearmap.specs.Layouts.{cells_of_bits, cells_of_bytes};
 ghost use Rattle.libclearmap.specs.Statuses.{bits_status, bytes_status, first_wrong};
@@ -15,7 +16,8 @@ use crate::layout::{ClearmapBits, ClearmapBytes};
 use crate::status::{DONE, first_wrong, range_status, room_status};
 use crate::unpack::{Shades, unpack_rows};
 
-/// Packs a map in bytes into words, one row after another, and writes their layout to `bits`.
+/// Packs a map in bytes into words, one row after another without a gap, and writes their layout to
+/// `bits`. Bits past the last column are 0.
 #[unsafe(no_mangle)]
 pub extern "C" fn clearmap_pack(
     bytes: &[u8],
@@ -26,6 +28,10 @@ pub extern "C" fn clearmap_pack(
     ensures packed { result ≡ DONE → cells_of_bits bits.new words.new ≡ cells_of_bytes map.now
         bytes.now }
     ensures right { result ≡ DONE → bits_status bits.new words.new ≡ DONE }
+    ensures stride { result ≡ DONE → bits.new.stride ≡ words_across map.now.width }
+    ensures edge { (x y : ℕ) → result ≡ DONE → map.now.width ≤ x
+        → x < 64 * words_across map.now.width → y < map.now.height
+        → is_stored (words_across map.now.width) words.new x y ≡ false }
     ensures rest { (k : ℕ) → map.now.height * words_across map.now.width ≤ k → slice_index
         words.new k ≡ slice_index words.old k }
     ensures status { result ≡ first_wrong (bytes_status map.now bytes.now) (first_wrong

@@ -4,7 +4,8 @@ use Rattle.std.proofs.Math.Nat.{mul-le-mul_right}
 use Rattle.std.proofs.lemmas.Bool.{cases_lt}
 use Rattle.bits.specs.Words.{words_across}
 use Rattle.bits.proofs.CellsLemmas.{has-outside}
-use Rattle.libclearmap.proofs.CopyLemmas.{cells_stored-packed, obstacle_bit, place_above}
+use Rattle.libclearmap.proofs.CopyLemmas.{cells_stored-packed, obstacle_bit, packed_edge}
+use Rattle.libclearmap.proofs.CopyLemmas.{place_above}
 use Rattle.libclearmap.proofs.copy.pack_rows.Goals as goal
 
 pub rows-preserved : goal.rows-preserved
@@ -60,3 +61,10 @@ returns-clause-bands g c =
     λ x y obstacle.
     let row = (has-outside cells c.height-height.ensures.bitmap x y obstacle).row in
     c.rows.invariant.banded x y (omega (arith, row, high)) obstacle
+
+pub returns-clause-edge : goal.returns-clause-edge
+returns-clause-edge g c =
+    let cells = g.R.Rows.cells c.args.rows.now in
+    let high : c.height-height.result ≡ cells.height = c.height-height.ensures.height in
+    packed_edge cells c.rows.words c.height-height.ensures.bitmap
+    (λ y k row column. c.rows.invariant.packed y k (omega (arith, row, high)) column)
