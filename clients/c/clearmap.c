@@ -2,6 +2,7 @@
 #include "clearmap.h"
 
 #include <stdbool.h>
+#include <stddef.h>
 #include <stdlib.h>
 
 /* The allocator that the proved part calls: whether there is memory, and where. */
@@ -12,15 +13,18 @@ struct tried {
 
 static char nothing;
 
-/* malloc aligns to 16, and the library needs no more. */
+/* What malloc aligns to. The library needs no more, and is refused more. */
+enum { ALIGNED = 16 };
+_Static_assert(_Alignof(max_align_t) >= ALIGNED, "malloc aligns to less");
+
 struct tried rattle_alloc(size_t size, size_t align) {
-    void *place = malloc(size ? size : align);
+    void *place = align > ALIGNED ? NULL : malloc(size ? size : align);
     return (struct tried){place != NULL, place ? place : &nothing};
 }
 
 struct tried rattle_realloc(void *old, size_t kept, size_t size, size_t align) {
     (void)kept;
-    void *place = realloc(old, size ? size : align);
+    void *place = align > ALIGNED ? NULL : realloc(old, size ? size : align);
     return (struct tried){place != NULL, place ? place : &nothing};
 }
 

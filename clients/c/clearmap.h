@@ -24,7 +24,8 @@
  * each compute some rows (y0 to y1 - 1) into memory of its own.
  *
  * Caller's duties, which nothing checks: no pointer is null, even if its length is 0; each length
- * is true; pointers are aligned for their types; what a call writes does not overlap what it reads.
+ * is true, and counts items, not bytes; pointers are aligned for their types; what a call writes
+ * overlaps neither what it reads nor what else it writes.
  * A call that allocates memory is not made from a signal handler, nor in the forked child of a
  * process that has threads.
  *
@@ -92,7 +93,7 @@ enum {
 /* The distance that means no obstacle at all. No obstacle is that far away. */
 #define CLEARMAP_NO_OBSTACLE UINT32_MAX
 
-/* The column and the row that mean no obstacle. */
+/* The column and the row that mean no obstacle, both of them. No obstacle has them. */
 #define CLEARMAP_NOWHERE (-2)
 
 /* A column and a row. */
@@ -104,7 +105,7 @@ typedef struct clearmap_cell {
  * The nearest obstacle of a cell: its distance, its column and its row. In the frame around a map
  * either may be -1, or the number of columns or rows. Of several at the least distance it is the
  * one of the least column; of those the one in the fewest rows away, and of two such the upper.
- * Where there is no obstacle: CLEARMAP_NO_OBSTACLE, CLEARMAP_NOWHERE, CLEARMAP_NOWHERE.
+ * Where there is no obstacle: CLEARMAP_NO_OBSTACLE, and CLEARMAP_NOWHERE for both x and y.
  */
 typedef struct clearmap_near {
     uint32_t dist;
@@ -150,7 +151,8 @@ typedef struct clearmap_bits {
 
 /*
  * Packs a map in bytes into words, its rows one after another without a gap, and writes their
- * layout to *bits. words_length is at least (width + 63) / 64 * height; the rest stays as it is.
+ * layout to *bits, whose stride is (width + 63) / 64. The bits past the last column are 0.
+ * words_length is at least (width + 63) / 64 * height; the rest stays as it is.
  * Status: SIZE, STRIDE, LENGTH, ROOM, RANGE.
  */
 uint32_t clearmap_pack(const uint8_t *bytes, size_t bytes_length, const clearmap_bytes *map,

@@ -11,6 +11,7 @@
 #include "clearmap.h"
 
 #include <pthread.h>
+#include <stdbool.h>
 #include <stdio.h>
 #include <stdlib.h>
 #include <string.h>
@@ -98,7 +99,10 @@ static void make_bits(struct map *m) {
     uint64_t bands = 0;
     for (uint32_t y = 0; y < height; y++) {
         for (size_t k = 0; k < across; k++) m->words[y * stride + k] = packed[y * across + k];
-        if (width % 64) m->words[y * stride + across - 1] |= ~0ull << (width % 64);
+        if (width % 64) {
+            CHECK(packed[(y + 1) * across - 1] >> (width % 64) == 0);
+            m->words[y * stride + across - 1] |= ~0ull << (width % 64);
+        }
         for (uint32_t x = 0; x < width; x++) {
             int bit = (int)(packed[y * across + x / 64] >> (x % 64) & 1);
             CHECK(bit == is_obstacle(m, (int)x, (int)y));
@@ -491,6 +495,28 @@ static uint32_t rows_call(int which, clearmap_near *nears, uint32_t *distances) 
     }
 }
 
+/* The heap of clearmap.c refuses what malloc doesn't align to, and keeps what it was to move. */
+struct tried {
+    bool ok;
+    void *place;
+};
+struct tried rattle_alloc(size_t size, size_t align);
+struct tried rattle_realloc(void *old, size_t kept, size_t size, size_t align);
+void rattle_dealloc(void *place);
+
+static void try_alignments(void) {
+    for (size_t align = 1; align <= 4096; align *= 2) {
+        struct tried given = rattle_alloc(64, align);
+        CHECK(given.ok == (align <= 16));
+        if (!given.ok) continue;
+        CHECK((uintptr_t)given.place % align == 0);
+        memset(given.place, 7, 64);
+        CHECK(!rattle_realloc(given.place, 64, 128, 32).ok);
+        CHECK(((char *)given.place)[63] == 7);
+        rattle_dealloc(given.place);
+    }
+}
+
 /* Each request of each call refused in turn, until there is none left to refuse. */
 static long try_memory(void) {
     long refused = 0;
@@ -609,6 +635,7 @@ int main(int argc, char **argv) {
     int maps = argc > 1 ? atoi(argv[1]) : 40;
     try_statuses();
     try_pack_statuses();
+    try_alignments();
     long refused = try_memory();
     try_threads();
     try_maps(maps);
