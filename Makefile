@@ -36,7 +36,7 @@ lib_sources = $(shell find $(lib_crates:%=crates/%) -name out -prune -o -name '*
     -o -name '*.antt' -print)
 CFLAGS = -O2
 lib_cflags = -std=c11 -fPIC $(CFLAGS)
-lib_links = -Wl,-soname,libclearmap.so.0 -Wl,--version-script=clients/c/clearmap.map -Wl,-z,defs
+lib_links = -Wl,-soname,libclearmap.so.1 -Wl,--version-script=clients/c/clearmap.map -Wl,-z,defs
 libdir = $(DESTDIR)$(LIBDIR)
 arm = $(library)/aarch64
 headers = $(notdir $(wildcard clients/cpp/clearmap*.hpp))
@@ -125,7 +125,7 @@ wheel: all lib
 release: all lib
 	tools/package/make_release.sh packages gate.log
 
-lib: $(library)/libclearmap.a $(library)/libclearmap.so.0
+lib: $(library)/libclearmap.a $(library)/libclearmap.so.1
 
 $(archive): $(lib_sources)
 	cd crates/libclearmap && rt lib
@@ -138,7 +138,7 @@ $(library)/libclearmap.a: $(archive) $(library)/clearmap.o
 	cp $(archive) $@
 	$(AR) rs $@ $(library)/clearmap.o
 
-$(library)/libclearmap.so.0: $(archive) $(library)/clearmap.o clients/c/clearmap.map
+$(library)/libclearmap.so.1: $(archive) $(library)/clearmap.o clients/c/clearmap.map
 	$(CC) -shared $(lib_links) -o $@ $(library)/clearmap.o \
 	    -Wl,--whole-archive $(archive) -Wl,--no-whole-archive
 
@@ -161,8 +161,8 @@ install-lib: lib
 	    $(INSTALL) -m 644 clients/cpp/$$header '$(to)/include/'$$header || exit 1; \
 	done
 	$(INSTALL) -D -m 644 $(library)/libclearmap.a '$(libdir)/libclearmap.a'
-	$(INSTALL) -m 644 $(library)/libclearmap.so.0 '$(libdir)/libclearmap.so.0'
-	ln -sf libclearmap.so.0 '$(libdir)/libclearmap.so'
+	$(INSTALL) -m 644 $(library)/libclearmap.so.1 '$(libdir)/libclearmap.so.1'
+	ln -sf libclearmap.so.1 '$(libdir)/libclearmap.so'
 	$(INSTALL) -d '$(DESTDIR)$(PKGCONFIGDIR)' '$(to)/share/clearmap/cmake'
 	$(filled) packaging/libclearmap.pc.in > '$(DESTDIR)$(PKGCONFIGDIR)/libclearmap.pc'
 	$(INSTALL) -m 644 packaging/clearmapConfig.cmake '$(to)/share/clearmap/cmake/clearmapConfig.cmake'
@@ -170,7 +170,7 @@ install-lib: lib
 	    > '$(to)/share/clearmap/cmake/clearmapConfigVersion.cmake'
 
 uninstall-lib:
-	rm -f '$(to)/include/clearmap.h' '$(libdir)/libclearmap.a' '$(libdir)/libclearmap.so.0' \
+	rm -f '$(to)/include/clearmap.h' '$(libdir)/libclearmap.a' '$(libdir)/libclearmap.so.1' \
 	    '$(libdir)/libclearmap.so' '$(DESTDIR)$(PKGCONFIGDIR)/libclearmap.pc'
 	for header in $(filter-out clearmap.hpp,$(headers)); do rm -f '$(to)/include/'$$header; done
 	[ -e '$(to)/bin/clearmap' ] || rm -rf $(shared)

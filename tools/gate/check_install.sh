@@ -137,7 +137,7 @@ tried_scripts() { # tried_scripts PREFIX: the scripts and the client there
 tried_scripts "$usr"
 
 # The library, where it is built, and the installed package over it.
-if [ -e crates/libclearmap/out/libclearmap.so.0 ]; then
+if [ -e crates/libclearmap/out/libclearmap.so.1 ]; then
     make -s -o lib install-lib DESTDIR="$scratch/root" PREFIX=/usr || wrong=$((wrong + 1))
     arrays=$(tools/python_with numpy)
     if [ -n "$arrays" ]; then
@@ -145,7 +145,7 @@ if [ -e crates/libclearmap/out/libclearmap.so.0 ]; then
 import clearmap, clearmap.library as it
 it.library()
 print(it._found(), clearmap.distances([[True, False, False]]).tolist())')" \
-            "$usr/lib/libclearmap.so.0 [[0, 1, 4]]"
+            "$usr/lib/libclearmap.so.1 [[0, 1, 4]]"
     else
         echo 'the package in process left out: there is no python3 with numpy'
     fi
@@ -256,7 +256,7 @@ fi
 
 # The installed gateway to this server, which finds the installed package and library.
 arrays=$(tools/python_with numpy)
-if [ -n "$arrays" ] && [ -e "$usr/lib/libclearmap.so.0" ]; then
+if [ -n "$arrays" ] && [ -e "$usr/lib/libclearmap.so.1" ]; then
     : > "$scratch/gate"
     timeout 300 "$arrays" "$usr/bin/clearmap-gateway" --port "$port" --links 2 > "$scratch/gate" &
     gateway=$!
@@ -270,7 +270,7 @@ fi
 
 # The installed publisher of this server, and a follower, by the installed package and library.
 shared=$(tools/python_with numpy, redis)
-if [ -n "$shared" ] && [ -e "$usr/lib/libclearmap.so.0" ] \
+if [ -n "$shared" ] && [ -e "$usr/lib/libclearmap.so.1" ] \
     && command -v redis-server > /dev/null; then
     redis-server --port 0 --unixsocket "$scratch/redis" --save '' --dir "$scratch" > /dev/null &
     store=$!

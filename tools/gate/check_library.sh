@@ -41,12 +41,12 @@ flags="-std=c11 -Wall -Wextra -Wshadow -Wconversion -Wpedantic -Werror -g -Iclie
 test="clients/c/test_clearmap.c"
 
 # The shared library shows the calls of the header, has its own name, and needs the C library alone.
-nm -D --defined-only "$library/libclearmap.so.0" | sed 's/.* //' | sort > "$scratch/shown"
+nm -D --defined-only "$library/libclearmap.so.1" | sed 's/.* //' | sort > "$scratch/shown"
 grep -oE '\*?clearmap_[a-z_]+\(' clients/c/clearmap.h | grep -oE 'clearmap_[a-z_]+' | sort -u \
     > "$scratch/told"
 try 'shown names' diff "$scratch/told" "$scratch/shown"
-readelf -d "$library/libclearmap.so.0" > "$scratch/dynamic"
-grep -q 'SONAME.*\[libclearmap.so.0\]' "$scratch/dynamic" \
+readelf -d "$library/libclearmap.so.1" > "$scratch/dynamic"
+grep -q 'SONAME.*\[libclearmap.so.1\]' "$scratch/dynamic" \
     || { failed=1; echo 'the soname is another one'; }
 [ "$(grep -c NEEDED "$scratch/dynamic")" = "$(grep -c 'NEEDED.*\[libc.so' "$scratch/dynamic")" ] \
     || { failed=1; echo 'it needs more than the C library'; }
@@ -184,7 +184,7 @@ if [ -n "$arrays" ]; then
     export PYTHONPATH="$prefix/share/clearmap/python"
     says 'page by Python' "$c_says" "$arrays" "$scratch/page.py"
     try 'its library' "$arrays" -c 'import clearmap.library as it; it.library(); print(it._found())'
-    [ "$(cat "$scratch/log")" = "$prefix/lib/libclearmap.so.0" ] || failed=1
+    [ "$(cat "$scratch/log")" = "$prefix/lib/libclearmap.so.1" ] || failed=1
     unset PYTHONPATH
 else
     echo "the page's lines in Python left out: there is no python3 with numpy"

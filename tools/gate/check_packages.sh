@@ -24,7 +24,7 @@ expect() { # expect WHAT GOT WANTED
     echo "$1: '$2' where '$3' was wanted"
 }
 
-if [ ! -x "$program" ] || [ ! -e crates/libclearmap/out/libclearmap.so.0 ]; then
+if [ ! -x "$program" ] || [ ! -e crates/libclearmap/out/libclearmap.so.1 ]; then
     echo 'the packages left out: the program or the library is not built'
     exit 0
 fi
@@ -81,14 +81,14 @@ expect 'what is left' "$(find "$all" ! -type d)" ''
 if wants dpkg-deb 'the packages for Debian' && wants strip 'the packages for Debian'; then
     debs=$(timeout 300 tools/package/make_deb.sh "$scratch/packages") || wrong=$((wrong + 1))
     expect 'their names' "$(echo "$debs" | sed 's|.*/||; s|_.*||' | tr '\n' ' ')" \
-        'clearmap libclearmap0 libclearmap-dev '
+        'clearmap libclearmap1 libclearmap-dev '
     for deb in $debs; do
         expect "the version of $deb" "clearmap $(dpkg-deb -f "$deb" Version)" "$version"
         dpkg-deb -x "$deb" "$scratch/unpacked"
         dpkg-deb --fsys-tarfile "$deb" | tar -t | grep -v '/$' >> "$scratch/paths"
     done
     expect 'paths in two packages' "$(sort "$scratch/paths" | uniq -d)" ''
-    folder=$(cd "$scratch/unpacked" && dirname "$(find usr/lib -name libclearmap.so.0)")
+    folder=$(cd "$scratch/unpacked" && dirname "$(find usr/lib -name libclearmap.so.1)")
     tried_program "$scratch/unpacked" "/$folder"
     expect "Debian's python3" "clearmap $(
         cd "$scratch" && PYTHONPATH=$scratch/unpacked/usr/lib/python3/dist-packages /usr/bin/python3 \
@@ -115,7 +115,7 @@ if "$python" -c 'import ensurepip, venv' 2> /dev/null; then
         found=$(cd "$scratch" && bare "$venv/bin/python" -c \
             'import clearmap.library as it; it.library(); print(it._found())')
         expect "the library of $wheel" "${found#"$venv"/lib/python*/}" \
-            'site-packages/clearmap/libclearmap.so.0'
+            'site-packages/clearmap/libclearmap.so.1'
     done
     if [ -n "$arrays" ]; then
         expect 'distances' "$(cd "$scratch" && bare "$venv/bin/python" -c "$row")" '[[0, 1, 4]]'
@@ -138,7 +138,7 @@ if python3 -m pip --version > /dev/null 2>&1; then
         --target "$scratch/pip" clients/python || wrong=$((wrong + 1))
     expect 'by pip' "clearmap $(cd "$scratch" && PYTHONPATH=$scratch/pip python3 -c \
         'import clearmap, importlib.metadata as it; print(it.version("clearmap"))')" "$version"
-    for part in py.typed libclearmap.so.0; do
+    for part in py.typed libclearmap.so.1; do
         [ -e "$scratch/pip/clearmap/$part" ] || { wrong=$((wrong + 1)); echo "pip: no $part"; }
     done
 else

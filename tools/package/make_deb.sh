@@ -1,5 +1,5 @@
 #!/bin/sh
-# Writes packages for Debian into a folder: clearmap, libclearmap0 and libclearmap-dev. Together
+# Writes packages for Debian into a folder: clearmap, libclearmap1 and libclearmap-dev. Together
 # they are what `make install` installs. The program and the library have to be built. Needs
 # dpkg-deb, and strip and objdump of binutils.
 #   tools/package/make_deb.sh FOLDER
@@ -26,7 +26,7 @@ root=$roots/clearmap
 make -s -o all -o lib install DESTDIR="$root" PREFIX=/usr LIBDIR="$lib" \
     PKGCONFIGDIR="$lib/pkgconfig"
 rm "$root/usr/share/doc/clearmap/LICENSE"
-strip --strip-unneeded "$root/usr/bin/clearmap" "$root$lib/libclearmap.so.0"
+strip --strip-unneeded "$root/usr/bin/clearmap" "$root$lib/libclearmap.so.1"
 strip --strip-debug "$root$lib/libclearmap.a"
 for script in "$root"/usr/share/clearmap/python/*.py "$root"/usr/share/clearmap/view/*.py \
     "$root"/usr/share/clearmap/gateway/*.py "$root"/usr/share/clearmap/fleet/*.py; do
@@ -44,7 +44,7 @@ take() { # take PACKAGE PATH ..: moves files or folders to another package
         mv "$root$path" "$to${path%/*}/"
     done
 }
-take libclearmap0 "$lib/libclearmap.so.0"
+take libclearmap1 "$lib/libclearmap.so.1"
 take libclearmap-dev /usr/include "$lib" /usr/share/clearmap/cmake /usr/share/pkgconfig
 
 copyright() {
@@ -90,7 +90,7 @@ package() { # package NAME SECTION FIELD ..: writes it; the description comes on
 
 libc=$(libc_of "$root/usr/bin/clearmap")
 package clearmap science "Depends: $libc, python3" \
-    "Recommends: libclearmap0 (= $version), python3-numpy" \
+    "Recommends: libclearmap1 (= $version), python3-numpy" \
     "Suggests: python3-aiohttp, python3-pil, python3-redis, python3-uvloop, python3-rospy, \
 python3-nav-msgs, python3-map-msgs, python3-sensor-msgs, python3-visualization-msgs, \
 python3-roslaunch, redis-server, rviz" << 'DESCRIPTION'
@@ -103,20 +103,20 @@ Description: clearance maps of robots, with a proved server
  (clearmap-ros-node) and conversions of ROS's maps are tested, not proved.
 DESCRIPTION
 
-mkdir "$roots/libclearmap0/DEBIAN"
-echo "libclearmap 0 libclearmap0 (>= $version)" > "$roots/libclearmap0/DEBIAN/shlibs"
-echo 'activate-noawait ldconfig' > "$roots/libclearmap0/DEBIAN/triggers"
-libc=$(libc_of "$roots/libclearmap0$lib/libclearmap.so.0")
-package libclearmap0 libs "Depends: $libc" 'Multi-Arch: same' << 'DESCRIPTION'
+mkdir "$roots/libclearmap1/DEBIAN"
+echo "libclearmap 1 libclearmap1 (>= $version)" > "$roots/libclearmap1/DEBIAN/shlibs"
+echo 'activate-noawait ldconfig' > "$roots/libclearmap1/DEBIAN/triggers"
+libc=$(libc_of "$roots/libclearmap1$lib/libclearmap.so.1")
+package libclearmap1 libs "Depends: $libc" 'Multi-Arch: same' << 'DESCRIPTION'
 Description: exact distances to the nearest obstacle of a map
  Distances and nearest obstacles of a map in the caller's own memory: of all
  cells of some rows, of one cell, of a rectangle or along a path. What each
  call does is proved.
 DESCRIPTION
 
-package libclearmap-dev libdevel "Depends: libclearmap0 (= $version)" << 'DESCRIPTION'
+package libclearmap-dev libdevel "Depends: libclearmap1 (= $version)" << 'DESCRIPTION'
 Description: exact distances to the nearest obstacle of a map, headers
- Headers for C and C++ and the static library of libclearmap0, and the client
+ Headers for C and C++ and the static library of libclearmap1, and the client
  for C++ of the server in the package clearmap, found by pkg-config and CMake.
  The headers are tested and not proved.
 DESCRIPTION

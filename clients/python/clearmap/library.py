@@ -1,4 +1,4 @@
-"""Finds libclearmap.so.0, and declares its calls as clients/c/clearmap.h has them."""
+"""Finds libclearmap.so.1, and declares its calls as clients/c/clearmap.h has them."""
 import ctypes
 import functools
 import importlib
@@ -9,7 +9,7 @@ from typing import Any, Dict, List, Optional
 
 from .errors import ClearmapError
 
-FILE = "libclearmap.so.0"
+FILE = "libclearmap.so.1"
 VERSION = "0.2."  # the start of the versions of the library that have the calls below
 NO_OBSTACLE = 0xFFFF_FFFF  # the distance where there is no obstacle at all
 NOWHERE = -2  # the column and the row of no obstacle
