@@ -1,16 +1,14 @@
 -- A bitmap once some of its rows are copied.
 use Rattle.std.proofs.Common.{◌≡◌, ℕ, ◌&&◌, eq-eqb, refl, ◌+◌, ◌*◌, ◌/◌, ◌%◌, ◌<◌, ◌≤◌, ◌==◌}
 use Rattle.std.proofs.Common.{nat_lt, if◌then◌else◌, Bool, true, false, cond, List, length, get_or}
-use Rattle.std.proofs.Common.{set, sym, ap, ◌∙◌, ◌^◌, arith, w64}
-use Rattle.std.specs.Int.{bit_at, bit_not}
+use Rattle.std.proofs.Common.{set, sym, ap, ◌∙◌, arith}
+use Rattle.std.specs.Int.{bit_at}
 use Rattle.std.proofs.Math.Nat.{mul-le-mul_right}
 use Rattle.std.proofs.lemmas.Bool.{cases_eq}
 use Rattle.std.proofs.lemmas.Bool.Decides.{nat_tests}
-use Rattle.std.proofs.lemmas.Nat.Bits.{bit_at_not}
 use Rattle.std.proofs.lemmas.List.{get_or-set_same, get_or-set_other}
 use mathlib.Core.Logic.{inl, inr}
-use Rattle.bits.specs.Cells.{Cells, has, cells_where, IsBitmap}
-use Rattle.bits.specs.Bands.{IsBanded}
+use Rattle.bits.specs.Cells.{Cells, has, cells_where, IsBitmap, IsObstacle}
 use Rattle.bits.specs.Stored.{cells_stored, is_stored}
 use Rattle.bits.specs.Words.{words_across}
 use Rattle.bits.specs.TileWords.{is_bit}
@@ -153,12 +151,12 @@ and_implied false true implied = implied refl
 and_implied false false implied = refl
 
 -- words that are a map are it still where only those bands count that may have an obstacle
-pub packed_bits : (cells : Cells) (bands : ℕ) (words : List ℕ) → bands < 2 ^ 64 → IsBitmap cells
-    → IsBanded cells bands → cells_stored cells.width cells.height words ≡ cells
+pub packed_bits : (cells : Cells) (blank : ℕ) (words : List ℕ)
+    → ((x y : ℕ) → IsObstacle cells x y → bit_at blank (y / 64) ≡ 0)
+    → cells_stored cells.width cells.height words ≡ cells
     → cells_where cells.width cells.height
-    (λ x y. is_counted (bit_not w64 bands) y && is_stored (words_across cells.width) words x y)
-    ≡ cells
-packed_bits cells bands words fits bitmap banded packed =
+    (λ x y. is_counted blank y && is_stored (words_across cells.width) words x y) ≡ cells
+packed_bits cells blank words marked packed =
     cells_where-same cells.width cells.height _ (is_stored (words_across cells.width) words)
     (λ x y hx hy.
     let told : has (cells_stored cells.width cells.height words) x y
@@ -166,9 +164,6 @@ packed_bits cells bands words fits bitmap banded packed =
     (is_stored (words_across cells.width) words) x y hx hy in
     let here : has cells x y ≡ is_stored (words_across cells.width) words x y = ap
     (λ (map : Cells). has map x y) (sym packed) ∙ told in
-    let few = bitmap.height_is.few in
-    let bit = bit_at_not w64 bands (y / 64) fits (omega (arith, hy, few)) in
-    and_implied (is_counted (bit_not w64 bands) y) (is_stored (words_across cells.width) words x y)
-    (λ stored. let one = banded x y (here ∙ stored) in
-    eq-eqb (bit_at (bit_not w64 bands) (y / 64)) 0 (rw one at bit)))
+    and_implied (is_counted blank y) (is_stored (words_across cells.width) words x y)
+    (λ stored. eq-eqb (bit_at blank (y / 64)) 0 (marked x y (here ∙ stored))))
     ∙ packed

@@ -1,18 +1,18 @@
 //! Copies of a map that is read word by word: as a bitmap, and as words.
 
 ghost use Rattle.std.specs.Prelude.{◌≡◌, ℕ, ◌<◌, ◌≤◌, ◌+◌, ◌*◌, IfOk, IfErr, length};
-ghost use Rattle.std.specs.Prelude.{false, slice_index};
+ghost use Rattle.std.specs.Prelude.{◌≢◌, ◌/◌, false, slice_index};
 ghost use Rattle.std.specs.Int.{bit_at};
-ghost use Rattle.bits.specs.Bands.{IsBanded};
+ghost use Rattle.bits.specs.Cells.{IsObstacle};
 ghost use Rattle.bits.specs.Stored.{cells_stored, is_stored};
 ghost use Rattle.bits.specs.Words.{words_across};
 ghost use Rattle.bits.specs.Writes.{with_row};
-ghost use Rattle.clearance.specs.Rows.{words_of_row};
+ghost use Rattle.clearance.specs.Rows.{IsBlankRow, words_of_row};
 ghost use Rattle.metric.specs.declared.refusal.Refusal.TheVariants.{Memory};
 
-use bits::{Bitmap, marked};
+use bits::Bitmap;
 use clearance::Rows;
-use metric::Refusal;
+use metric::{BAND_ROWS, MOST_SIDE, Refusal};
 use std::alloc::Global;
 
 /// Copies the map into a bitmap. Fails only when out of memory.
@@ -44,13 +44,15 @@ fn copy_row<R: Rows>(bitmap: &mut Bitmap, rows: &mut R, y: u16)
     bitmap.set_row(y, &row);
 }
 
-/// Writes the words of all rows, one row after another. Returns which bands may have an obstacle.
+/// Writes the words of all rows, one row after another. Returns which bands are blank.
 pub fn pack_rows<R: Rows>(rows: &mut R, words: &mut [u64]) -> u64
     requires { (R.cells rows.old).height * words_across (R.cells rows.old).width
         ≤ length words.old }
     ensures packed { cells_stored (R.cells rows.old).width (R.cells rows.old).height words.new
         ≡ R.cells rows.old }
-    ensures bands { IsBanded (R.cells rows.old) result }
+    ensures marked { (x y : ℕ) → IsObstacle (R.cells rows.old) x y → bit_at result (y / 64) ≡ 0 }
+    ensures blank { (band : ℕ) → band < 64 → ((y : ℕ) → y / 64 ≡ band
+        → IsBlankRow (R.cells rows.old) y) → bit_at result band ≡ 1 }
     ensures edge { (x y : ℕ) → (R.cells rows.old).width ≤ x
         → x < 64 * words_across (R.cells rows.old).width → y < (R.cells rows.old).height
         → is_stored (words_across (R.cells rows.old).width) words.new x y ≡ false }
@@ -60,12 +62,29 @@ pub fn pack_rows<R: Rows>(rows: &mut R, words: &mut [u64]) -> u64
 {
     let across = rows.across();
     let height = rows.height();
-    let mut bands = 0;
+    let mut blank = u64::MAX;
     'rows: for y in 0..height {
         let some = pack_row(rows, y, usize::from(y) * across, words);
-        bands = marked(bands, y, some);
+        blank = still_blank(blank, y, some);
     }
-    bands
+    blank
+}
+
+/// The blank bands after a row whose words have these bits: without its own, if any bit is set.
+#[inline(always)]
+fn still_blank(blank: u64, y: u16, some: u64) -> u64
+    requires { y < MOST_SIDE }
+    ensures marked { (i : ℕ) → bit_at some i ≡ 1 → bit_at result (y / BAND_ROWS) ≡ 0 }
+    ensures fewer { (band : ℕ) → band < BAND_ROWS → bit_at blank band ≡ 0 → bit_at result band ≡ 0 }
+    ensures others { (band : ℕ) → band < BAND_ROWS → band ≢ y / BAND_ROWS → bit_at result band
+        ≡ bit_at blank band }
+    ensures none { some ≡ 0 → result ≡ blank }
+{
+    if some == 0 {
+        blank
+    } else {
+        blank & !(1 << (y / BAND_ROWS))
+    }
 }
 
 /// Writes the words of row `y` from index `start` on. Returns the bits set in any of them.
@@ -77,6 +96,7 @@ fn pack_row<R: Rows>(rows: &mut R, y: u16, start: usize, words: &mut [u64]) -> u
         (start + k) ≡ slice_index (words_of_row (R.cells rows.old) y) k }
     ensures some { (k i : ℕ) → k < words_across (R.cells rows.old).width → bit_at
         (slice_index (words_of_row (R.cells rows.old) y) k) i ≡ 1 → bit_at result i ≡ 1 }
+    ensures none { IsBlankRow (R.cells rows.old) y → result ≡ 0 }
     ensures before { (k : ℕ) → k < start → slice_index words.new k ≡ slice_index words.old k }
     ensures after { (k : ℕ) → start + words_across (R.cells rows.old).width ≤ k → slice_index
         words.new k ≡ slice_index words.old k }

@@ -1,10 +1,12 @@
 //! The calls that convert a map from bytes to bits, and back.
 
 ghost use Rattle.std.specs.Prelude.{◌≡◌, ◌≢◌, ℕ, ◌<◌, ◌≤◌, ◌+◌, ◌*◌, length, slice_index};
-ghost use Rattle.std.specs.Prelude.{false, if◌then◌else◌};
+ghost use Rattle.std.specs.Prelude.{◌/◌, false, if◌then◌else◌};
+ghost use Rattle.std.specs.Int.{bit_at};
 ghost use Rattle.bits.specs.Cells.{has};
-ghost use Rattle.bits.specs.Stored.{is_stored};
+ghost use Rattle.bits.specs.Stored.{cells_stored, is_stored};
 ghost use Rattle.bits.specs.Words.{words_across};
+ghost use Rattle.clearance.specs.Rows.{IsBlankRow};
 ghost use Rattle.libclearmap.specs.Layouts.{cells_of_bits, cells_of_bytes};
 ghost use Rattle.libclearmap.specs.Statuses.{bits_status, bytes_status, first_wrong};
 ghost use Rattle.libclearmap.specs.Statuses.{range_status, room_status};
@@ -28,6 +30,10 @@ pub extern "C" fn clearmap_pack(
     ensures packed { result ≡ DONE → cells_of_bits bits.new words.new ≡ cells_of_bytes map.now
         bytes.now }
     ensures right { result ≡ DONE → bits_status bits.new words.new ≡ DONE }
+    ensures stored { result ≡ DONE → cells_stored map.now.width map.now.height words.new
+        ≡ cells_of_bytes map.now bytes.now }
+    ensures blank { (band : ℕ) → result ≡ DONE → band < 64 → ((y : ℕ) → y / 64 ≡ band
+        → IsBlankRow (cells_of_bytes map.now bytes.now) y) → bit_at bits.new.blank_bands band ≡ 1 }
     ensures stride { result ≡ DONE → bits.new.stride ≡ words_across map.now.width }
     ensures edge { (x y : ℕ) → result ≡ DONE → map.now.width ≤ x
         → x < 64 * words_across map.now.width → y < map.now.height
@@ -51,12 +57,12 @@ pub extern "C" fn clearmap_pack(
     if status != DONE {
         return status;
     }
-    let bands = pack_rows::<ByteMap<'_>>(&mut rows, words);
+    let blank_bands = pack_rows::<ByteMap<'_>>(&mut rows, words);
     *bits = ClearmapBits {
         width,
         height,
         stride,
-        blank_bands: !bands,
+        blank_bands,
     };
     DONE
 }

@@ -1,6 +1,7 @@
 -- One more word is written, and its bits are told.
 use Rattle.std.proofs.Common.{◌≡◌, ◌+◌, ◌∙◌, ℕ, inl, inr, get_or, ap, sym, arith}
 use Rattle.std.specs.Int.{bit_at}
+use Rattle.std.specs.Int.Bits.{or_zero_l}
 use Rattle.std.proofs.lemmas.Bool.{cases_lt}
 use Rattle.std.proofs.lemmas.List.{length-set, get_or-set_other}
 use Rattle.bits.proofs.BandLemmas.{joined_before, joined_here}
@@ -29,6 +30,11 @@ words-preserved g c =
             joined_here c.words.some word i (ap (λ (n : ℕ). bit_at n i) (word_is
             ∙ ap (λ (n : ℕ). get_or row n 0) (sym same)) ∙ one)
       ];
+      none = λ blank.
+          let earlier = c.words.invariant.none blank in
+          let here : word ≡ 0 = word_is
+          ∙ blank c.words.index (omega (arith, across, c.words-test.true)) in
+          rw (earlier, here) (or_zero_l 0);
       before = λ k below. get_or-set_other c.words.words (c.args.start + c.words.index) k word 0
           (λ (same : k ≡ c.args.start + c.words.index). omega (arith, below, same))
           ∙ c.words.invariant.before k below;

@@ -2,7 +2,7 @@
 use Rattle.std.proofs.Common.{◌≡◌, ℕ, ◌+◌, ◌<◌, ◌≤◌, get_or, length}
 use Rattle.std.specs.Int.{bit_at}
 use Rattle.bits.specs.Words.{words_across}
-use Rattle.clearance.specs.Rows.{words_of_row}
+use Rattle.clearance.specs.Rows.{IsBlankRow, words_of_row}
 use Rattle.libclearmap.proofs.copy.pack_row.Given as goal
 
 abbrev pub invariant-words : goal.invariant-words
@@ -13,6 +13,7 @@ invariant-words g l = record {
       ≡ get_or (words_of_row (g.R.Rows.cells l.fn.rows) l.y) k 0;
   told : (k i : ℕ) → k < l.index → bit_at (get_or (words_of_row (g.R.Rows.cells l.fn.rows) l.y) k 0)
       i ≡ 1 → bit_at l.some i ≡ 1;
+  none : IsBlankRow (g.R.Rows.cells l.fn.rows) l.y → l.some ≡ 0;
   before : (k : ℕ) → k < l.start → get_or l.words k 0 ≡ get_or l.fn.words k 0;
   after : (k : ℕ) → l.start + words_across (g.R.Rows.cells l.fn.rows).width ≤ k → get_or l.words k 0
       ≡ get_or l.fn.words k 0;
