@@ -312,6 +312,26 @@ static void drawn(int maps) {
 }
 
 /// A path of over 1000 points is asked in pieces, and no cell between two is left out.
+/// The bits of a map whose blank bands are left out are the same map.
+static void bands_left_out(int maps) {
+    for (int i = 0; i < maps; ++i) {
+        Model model = random_model(150, 300);
+        const Map map = model.map();
+        clearmap_bits left_out{};
+        left_out.width = map.bits().width;
+        left_out.height = map.bits().height;
+        left_out.stride = map.bits().stride;
+        const auto cells = left_out.width * std::size_t{left_out.height};
+        std::vector<std::uint8_t> told(cells), wanted(cells);
+        for (bool known : {false, true}) {
+            const clearmap_bits bits = known ? map.bits() : left_out;
+            CHECK(clearmap_unpack(map.words().data(), map.words().size(), &bits, 0, 1,
+                                  known ? wanted.data() : told.data(), cells) == CLEARMAP_DONE);
+        }
+        CHECK(told == wanted);
+    }
+}
+
 static void long_paths() {
     Map map({6, 4});
     map.paint(2, 1, 3, 2);
@@ -605,6 +625,7 @@ int main(int count, char** words) {
     random_maps(maps);
     made(maps);
     drawn(maps);
+    bands_left_out(maps);
     long_paths();
     shared();
     invalid_queries();

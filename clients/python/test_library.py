@@ -462,6 +462,22 @@ class Finding(unittest.TestCase):
         self.assertTrue((numbers == 7).all() and (nears == 7).all() and (words == 7).all())
         self.assertIn(b"low is above high", calls.clearmap_status_text(refused))
 
+    def test_bands_that_are_left_out(self):
+        """A map in bits is the same where its blank bands aren't told."""
+        calls = library.library()
+        grid = np.random.default_rng(5).random((200, 70)) < 0.001
+        grid[64:128] = False
+        memory = clearmap.Map(grid)._held.memory
+        old = memory.layout
+        self.assertEqual(old.blank_bands >> 1 & 1, 1)
+        told = np.empty(grid.shape, np.uint32)
+        for bits in (old, library.Bits(width=old.width, height=old.height, stride=old.stride)):
+            status = calls.clearmap_bits_distances(
+                memory.cells.ctypes.data, memory.length, bits, 0, 0, 0, 200, told.ctypes.data, 14000
+            )
+            self.assertEqual(status, library.DONE)
+            np.testing.assert_array_equal(told, clearmap.distances(grid))
+
     def test_no_memory(self):
         self.assertRaises(MemoryError, library.check, library.MEMORY)
         self.assertRaises(clearmap.ClearmapError, library.check, 7)
