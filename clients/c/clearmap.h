@@ -78,7 +78,12 @@ const char *clearmap_status_text(uint32_t status);
 
 /* ---- Metrics, edges, answers ----------------------------------------------------------------- */
 
-/* The unit of all distances. For a radius of r cells ask euclid2 for d = ceil(r * r). */
+/*
+ * The unit of all distances. For a round robot of radius r, in cells, ask clear_of by euclid2 for
+ * d = ceil((r + sqrt(2))^2): if the path is clear, no part of the robot enters an obstacle's cell,
+ * wherever in the path's cells its middle is. The smaller d = ceil(r^2) counts from cell middle to
+ * cell middle, as costmaps inflate: the robot may come nearer than r, by up to sqrt(2) cells.
+ */
 enum {
     CLEARMAP_EUCLID2 = 0, /* dx * dx + dy * dy: the square of the Euclidean distance */
     CLEARMAP_CITY = 1,    /* dx + dy: steps to the four neighbours */

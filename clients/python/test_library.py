@@ -7,6 +7,7 @@ in the environment is how many random arrays are tried, 150 where it isn't there
 import ctypes
 import gc
 import importlib.util
+import math
 import os
 import pathlib
 import random
@@ -408,6 +409,18 @@ class Finding(unittest.TestCase):
         self.assertIn(f"#define CLEARMAP_NOWHERE ({clearmap.NOWHERE})", header)
         self.assertEqual(clearmap.NO_OBSTACLE, np.iinfo(np.uint32).max)
         self.assertIn(f'#define CLEARMAP_VERSION "{library.VERSION}', header)
+
+    def test_the_distance_for_a_radius(self):
+        """The header and the page name first the distance by which no part of a round robot enters
+        an obstacle's cell: with r^2 they would name 36 for 6 cells."""
+        for page in ("clients/c/clearmap.h", "docs/use/LIBRARY.md"):
+            forms = re.findall(r"\bceil\((.*?\^2)\)", (TOP / page).read_text())
+            first, other = (
+                [math.ceil(eval(form.replace("^", "**"), {"r": r, "sqrt": math.sqrt}))
+                 for r in (6, 4.4)]
+                for form in forms[:2]
+            )  # fmt: skip
+            self.assertEqual((first, other), ([55, 34], [36, 20]), page)
 
     def test_what_the_header_declares(self):
         """Each call has the argument list of the header, in order."""

@@ -38,6 +38,9 @@ if [ -n "$arrays" ] && [ -e "$library" ]; then
         clients/python/test_signed.py; do
         tried "$arrays" "$test"
     done
+    for rules in legacy weak; do # numpy's on numbers of few bits: those of numpy 1 and of 2
+        NPY_PROMOTION_STATE=$rules tried "$arrays" clients/python/test_numbers.py
+    done
     for peer in scipy cv2; do
         "$arrays" -c "import $peer" 2> /dev/null || echo "  not compared with $peer: there is none"
     done

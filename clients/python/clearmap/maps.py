@@ -155,6 +155,7 @@ class Map:
     def gradient(self, x: int, y: int, metric: str = EUCLID2) -> Optional[Tuple[float, float]]:
         """The unit vector away from the nearest obstacle of a cell, by columns and by rows; None in
         an obstacle, and if the map has none. Refused as `at` is."""
+        x, y = whole(x), whole(y)  # numpy's small integers would wrap around below
         near = self.at(x, y, metric)
         if near is None or near.distance == 0:
             return None
