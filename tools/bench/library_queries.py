@@ -1,5 +1,5 @@
 #!/usr/bin/env python3
-"""Measures the library's queries over bits next to the same loops in Rust, at 4096 by 4096.
+"""Measures the library's queries over bits next to the same loops in Rust.
 
 `library_queries.c` asks by the calls of clearmap.h; its twin is that of `queries.py`, without the
 library's tests of arguments. Both draw the same queries, and the sums of their answers are
@@ -20,7 +20,8 @@ from typing import Dict, Tuple
 HERE = pathlib.Path(__file__).resolve().parent
 sys.path.insert(0, str(HERE))
 import bench
-from queries import SIDE, build_twin, figures
+from queries import SIDE, figures, side_of
+from twin import build_twin
 
 TOP = HERE.parent.parent
 KINDS = ("at", "least_in", "along", "clear_of", "walk")
@@ -53,6 +54,7 @@ def main() -> None:
     """Prints the table, a row as soon as it is measured."""
     words = argparse.ArgumentParser(description=(__doc__ or "").splitlines()[0])
     words.add_argument("--rounds", type=int, default=3)
+    words.add_argument("--side", type=side_of, default=SIDE, help="columns and rows of each map")
     options = words.parse_args()
     print("| Map | " + " | ".join(f"`{kind}`" for kind in KINDS) + " |")
     print("|---" * (len(KINDS) + 1) + "|")
@@ -61,7 +63,7 @@ def main() -> None:
         own, twin = build_own(folder), build_twin(folder)
         for name, make in MAPS:
             source = folder / (re.sub(r"\W+", "_", name) + ".pbm")
-            make(SIDE, random.Random(bench.SEED)).write(source)
+            make(options.side, random.Random(bench.SEED)).write(source)
             times = least(own, twin, source, options.rounds)
             told = [f"{one} / {one / max(other, 1):.2f}" for one, other in times.values()]
             print(f"| {name} | " + " | ".join(told) + " |", flush=True)

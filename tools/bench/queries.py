@@ -1,14 +1,12 @@
 #!/usr/bin/env python3
 """Measures queries, and reading and writing images, on the six maps of `bench.py`.
 
-The maps have 4096 by 4096 cells.
-
 In a copy of the crates that are wanted, a program (`queries/main.rt.in`) is proved and built that
 times each kind of query inside one process. Next to it stands a twin in Rust of the very same
-loops: the sources of `clearance` and the raw raster of `pbm` without their clauses, between
-`queries/twin_head.rs` and `queries/twin_tail.rs`, compiled by `rustc -O`. Both draw the same
-queries, and the sums of their answers are compared. Each map is timed in several runs, in turn; the
-least of each figure is printed as a Markdown table.
+loops: the sources of `clearance` and the raw raster of `pbm` without their clauses (`twin.py`),
+between `queries/twin_head.rs` and `queries/twin_tail.rs`, compiled by `rustc -O`. Both draw the
+same queries, and the sums of their answers are compared. Each map is timed in several runs, in
+turn; the least of each figure is printed as a Markdown table.
 
 With `--program`, `dist --query` is timed whole, on raw and plain images, and next to it netpbm's
 `pamtopnm` where it is installed.
@@ -25,55 +23,11 @@ import tempfile
 import time
 
 import bench
-from program import HERE, ROOT, build
+from program import HERE, build
+from twin import build_twin
 
-SEARCH = (
-    "bit band row rows tiles words far_columns far_bands search nearest found frame border bound "
-    "segment strip part lines area walk"
-).split()
-LOOPS = [
-    "metric/src/limits",
-    "metric/src/edge",
-    *(f"clearance/src/{name}" for name in SEARCH),
-    "pbm/src/raw_raster",
-]
 SIDE = 4096
-
-
-def rust_of(source):
-    """A source without its clauses, imports and module comments. A clause may take several lines.
-    """
-    kept = []
-    open_braces = 0
-    for line in source.splitlines():
-        word = line.strip().split(" ")[0]
-        if open_braces or word in ("requires", "ensures"):
-            open_braces += line.count("{") - line.count("}")
-            if not open_braces and line.endswith(";"):
-                kept.append(";")
-        elif word not in ("ghost", "use") and not line.startswith("//!") and "#[tactic" not in line:
-            kept.append(line)
-    return "\n".join(kept)
-
-
-def raw_loops(source):
-    """Of the raw raster's file what reads words."""
-    end = source.index("/// Reads a raw raster into a blank bitmap, and gives")
-    return source[:end].replace("\nfn ", "\npub fn ")
-
-
-def build_twin(folder):
-    parts = [(HERE / "queries" / "twin_head.rs").read_text()]
-    for name in LOOPS:
-        source = (ROOT / "crates" / f"{name}.rt").read_text()
-        text = rust_of(raw_loops(source) if "raw_raster" in name else source)
-        module = name.rpartition("/")[2]
-        parts.append(f"mod {module} {{\nuse super::*;\n{text}\n}}\npub use {module}::*;")
-    parts.append((HERE / "queries" / "twin_tail.rs").read_text())
-    path = folder / "twin.rs"
-    path.write_text("\n".join(parts))
-    subprocess.run(["rustc", "-O", "-C", "target-cpu=x86-64-v2", "-A", "warnings", "-o", str(folder / "twin"), str(path)], check=True)
-    return folder / "twin"
+LEAST_SIDE = 1000  # cells; a path has as many
 
 
 def figures(program, source):
@@ -100,16 +54,47 @@ def cell_of(kind, one, other):
     return told if kind.startswith("write") else f"{told} / {one / max(other, 1):.2f}"
 
 
-def write_plain(raw, path):
+def write_plain(raw, path, side):
     """The same image in the plain form, in lines of 70 digits."""
-    across = (SIDE + 7) // 8
-    head, rows = raw.read_bytes()[: -across * SIDE], raw.read_bytes()[-across * SIDE :]
+    across = (side + 7) // 8
+    rows = raw.read_bytes()[-across * side :]
     digits = [format(byte, "08b") for byte in range(256)]
     with open(path, "w") as out:
-        out.write(f"P1\n{SIDE} {SIDE}\n")
-        for y in range(SIDE):
-            row = "".join(digits[byte] for byte in rows[y * across : (y + 1) * across])
-            out.write("\n".join(row[x : x + 70] for x in range(0, SIDE, 70)) + "\n")
+        out.write(f"P1\n{side} {side}\n")
+        for y in range(side):
+            row = "".join(digits[byte] for byte in rows[y * across : (y + 1) * across])[:side]
+            out.write("\n".join(row[x : x + 70] for x in range(0, side, 70)) + "\n")
+
+
+def side_of(word):
+    """The side of a map on which each kind of query fits."""
+    side = int(word)
+    if not LEAST_SIDE <= side <= SIDE:
+        raise argparse.ArgumentTypeError(f"{side}, where {LEAST_SIDE} to {SIDE} are wanted")
+    return side
+
+
+def print_queries(sources, rounds, work):
+    """The table of the queries, a row as soon as it is measured."""
+    text = (HERE / "queries" / "main.rt.in").read_text()
+    program, twin = build(work, text, ["clearance", "pbm", "bits", "metric"]), build_twin(work)
+    heads = ("`read_image`, us", "`at`, ns", "`least_in`, ns", "`along`, ns", "`clear_of`, ns", "walk, us", "`write_raw`, us", "`write_plain`, us")
+    print("| Map | " + " | ".join(heads) + " |\n|" + "---|" * (len(heads) + 1))
+    for name, source in sources:
+        least = measure_map(program, twin, source, rounds)
+        print(f"| {name} | " + " | ".join(cell_of(kind, *times) for kind, times in least.items()) + " |", flush=True)
+
+
+def print_whole(program, raw, side):
+    """How long `dist --query` takes as a whole, on both forms of an image."""
+    plain = raw.with_name("plain.pbm")
+    write_plain(raw, plain, side)
+    query = [str(program), "dist", "--query", f"AT euclid2 {side // 2} {side // 2}"]
+    for form, source in (("raw", raw), ("plain", plain)):
+        line = f"dist --query, {form}: {whole(query, source, 15):.1f} ms"
+        if shutil.which("pamtopnm"):
+            line += f"; pamtopnm: {whole(['pamtopnm'], source, 15):.1f} ms"
+        print(line)
 
 
 def whole(command, source, rounds):
@@ -127,6 +112,7 @@ def whole(command, source, rounds):
 def main():
     parser = argparse.ArgumentParser(description=__doc__.splitlines()[0])
     parser.add_argument("--rounds", type=int, default=3)
+    parser.add_argument("--side", type=side_of, default=SIDE, help="columns and rows of each map")
     parser.add_argument("--program", type=pathlib.Path, help="the built clearmap, for `dist --query` whole")
     parser.add_argument("--no-queries", action="store_true", help="only `dist --query` whole")
     given = parser.parse_args()
@@ -135,26 +121,12 @@ def main():
         sources = []
         for name, make in bench.MAPS:
             source = pathlib.Path(maps) / (re.sub(r"\W+", "_", name) + ".pbm")
-            make(SIDE, random.Random(bench.SEED)).write(source)
+            make(given.side, random.Random(bench.SEED)).write(source)
             sources.append((name, source))
         if not given.no_queries:
-            text = (HERE / "queries" / "main.rt.in").read_text()
-            program, twin = build(work, text, ["clearance", "pbm", "bits", "metric"]), build_twin(pathlib.Path(work))
-            heads = ("`read_image`, us", "`at`, ns", "`least_in`, ns", "`along`, ns", "`clear_of`, ns", "walk, us", "`write_raw`, us", "`write_plain`, us")
-            print("| Map | " + " | ".join(heads) + " |\n|" + "---|" * (len(heads) + 1))
-            for name, source in sources:
-                least = measure_map(program, twin, source, given.rounds)
-                print(f"| {name} | " + " | ".join(cell_of(kind, *times) for kind, times in least.items()) + " |", flush=True)
+            print_queries(sources, given.rounds, work)
         if given.program:
-            raw = dict(sources)["20 % at random"]
-            plain = pathlib.Path(maps) / "plain.pbm"
-            write_plain(raw, plain)
-            query = [str(given.program), "dist", "--query", "AT euclid2 2000 2000"]
-            for form, source in (("raw", raw), ("plain", plain)):
-                line = f"dist --query, {form}: {whole(query, source, 15):.1f} ms"
-                if shutil.which("pamtopnm"):
-                    line += f"; pamtopnm: {whole(['pamtopnm'], source, 15):.1f} ms"
-                print(line)
+            print_whole(given.program, dict(sources)["20 % at random"], given.side)
 
 
 if __name__ == "__main__":

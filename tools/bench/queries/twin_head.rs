@@ -11,6 +11,11 @@ pub struct Spot { pub x: i16, pub y: i16 }
 pub struct Near { pub dist: u32, pub cell: Spot }
 #[derive(Clone, Copy, Debug, PartialEq, Eq)]
 pub struct Rect { pub x0: u16, pub y0: u16, pub x1: u16, pub y1: u16 }
+#[derive(Clone, Copy, Debug, PartialEq, Eq)]
+pub enum Refusal { OutOfRange, BadPath, Crooked { index: u32 } }
+pub enum PbmFault { Truncated }
+#[derive(Clone, Copy)]
+pub struct Global;
 pub trait Metric { fn of(dx: u16, g: u16) -> u32; }
 pub struct Euclid2;
 impl Metric for Euclid2 {
