@@ -40,8 +40,8 @@ namespace clearmap {
 enum class Edge { open, wall };
 
 /// The bytes that mark obstacles: low to high. {65, 100} for an occupancy grid's occupied cells,
-/// {65, 255} with the unknown ones; {253, 254} for a costmap's lethal ones; {0, 0} for an image's
-/// zeros.
+/// {65, 255} with the unknown ones, which are -1; {253, 254} for a costmap's lethal ones, and
+/// {253, 255} with the unknown ones; {0, 0} for an image's zeros.
 struct Range {
     std::uint8_t low, high;
 };

@@ -24,7 +24,7 @@ the loopback interface of its machine only.
 In process, over an array of numpy:
 
     squares = clearmap.distances(grid, low=65)      # uint32; an obstacle is a cell of 65 and more
-    area = clearmap.Map(grid, low=65)
+    area = clearmap.Map(grid, low=65, unknown=-1)   # or one of -1, as an occupancy grid has them
     near = area.at(3, 4)                            # answers as a pin's
 
 From other machines, through Redis, where `clearmap-publish` puts each version:

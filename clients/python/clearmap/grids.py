@@ -2,7 +2,8 @@
 from typing import Any, NamedTuple, Optional, Tuple, Union
 
 from .library import Bits, Bytes, numpy
-from .requests import LARGEST_SIDE, METRICS, metric_of, whole
+from .limits import Bounds, Limits, of_bools, of_floats, of_integers
+from .requests import LARGEST_SIDE, METRICS, metric_of
 
 OPEN, WALL = "open", "wall"
 EDGES = (OPEN, WALL)
@@ -87,67 +88,50 @@ def _byte_range(array: Any, low: int, high: int) -> Optional[Tuple[int, int]]:
     return None
 
 
-def _of_numbers(array: Any, low: Optional[float], high: Optional[float]) -> Memory:
-    """A map of an array of numbers: an obstacle is a cell from low to high. None means no limit."""
-    np = numpy()
-    kind = array.dtype.kind
-    if kind == "c":
-        raise TypeError("complex numbers have no order: low and high say nothing of them")
-    if kind == "f":
-        return _of_floats(array, low, high)
-    if kind == "b":
-        return _of_bools(array, low, high)
-    limits = np.iinfo(array.dtype)
-    least = limits.min if low is None else max(whole(low), int(limits.min))
-    most = limits.max if high is None else min(whole(high), int(limits.max))
-    if least > most:  # no number of this dtype
-        return byte_map(np.zeros(array.shape, np.uint8), 1, 1)
-    found = _byte_range(array, int(least), int(most))
-    if found is not None:
-        return byte_map(array, *found)
+def _between(array: Any, bounds: Bounds) -> Memory:
+    """A map of the numbers from the least to the most, and of the unknown one."""
     number = array.dtype.type
-    return byte_map((array >= number(least)) & (array <= number(most)), 1, 255)
-
-
-def _of_bools(array: Any, low: Optional[float], high: Optional[float]) -> Memory:
-    """The same of an array of bools, of which True is 1, whatever its byte."""
-    free, full = (
-        (low is None or low <= number) and (high is None or number <= high) for number in (0, 1)
-    )
-    if not free and not full:
-        return byte_map(numpy().zeros(array.shape, bool), 1, 1)
-    return byte_map(array, 0 if free else 1, 255 if full else 0)
-
-
-def _of_floats(array: Any, low: Optional[float], high: Optional[float]) -> Memory:
-    """The same of an array of floats."""
-    np = numpy()
-    if np.isnan(array).any():
-        raise ValueError("a cell is NaN, which is neither an obstacle nor free")
-    obstacles = np.ones(array.shape, bool)
-    if low is not None:
-        obstacles &= array >= low
-    if high is not None:
-        obstacles &= array <= high
+    obstacles = numpy().ones(array.shape, bool)
+    if bounds.least is not None:
+        obstacles &= array >= number(bounds.least)
+    if bounds.most is not None:
+        obstacles &= array <= number(bounds.most)
+    if bounds.unknown is not None:
+        obstacles |= array == number(bounds.unknown)
     return byte_map(obstacles, 1, 255)
 
 
-def map_of(grid: object, low: Optional[float], high: Optional[float]) -> Memory:
+def _of_numbers(array: Any, limits: Limits) -> Memory:
+    """A map of an array of numbers by limits."""
+    kind = array.dtype.kind
+    if kind == "c":
+        raise TypeError("complex numbers have no order: low and high say nothing of them")
+    if kind == "b":
+        free, full = of_bools(limits)
+        return byte_map(array, 0 if free else 1, 255 if full else 0)
+    if kind == "f":
+        bounds = of_floats(array.dtype, limits)
+        if numpy().isnan(array).any():
+            raise ValueError("a cell is NaN, which is neither an obstacle nor free")
+        return _between(array, bounds)
+    bounds = of_integers(array.dtype, limits)
+    found = _byte_range(array, bounds.least, bounds.most)
+    if found is None or bounds.unknown is not None:
+        return _between(array, bounds)
+    return byte_map(array, *found)
+
+
+def map_of(grid: object, limits: Limits) -> Memory:
     """A map of an array: of bools, where True is an obstacle, or of numbers with limits."""
     array = _array(grid)
-    if low is None and high is None:
-        if array.dtype.kind != "b":
-            raise ValueError(
-                f"an array of {array.dtype} wants low or high: a cell is an obstacle where "
-                "low <= cell <= high"
-            )
-        return byte_map(array, 1, 255)
-    for limit in (low, high):
-        if limit is not None and limit != limit:
-            raise ValueError("a limit is NaN")
-    if low is not None and high is not None and low > high:
-        raise ValueError(f"low is {low}, above high, which is {high}")
-    return _of_numbers(array, low, high)
+    if limits.low is not None or limits.high is not None:
+        return _of_numbers(array, limits)
+    if array.dtype.kind != "b":
+        raise ValueError(
+            f"an array of {array.dtype} wants low or high: a cell is an obstacle where "
+            "low <= cell <= high"
+        )
+    return byte_map(array, 1, 255) if limits.unknown is None else _of_numbers(array, limits)
 
 
 def zeros_of(grid: object) -> Memory:

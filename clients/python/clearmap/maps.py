@@ -23,6 +23,7 @@ from . import requests
 from .errors import BadArguments, BadPath, Crooked, OutOfRange, Refused, Size
 from .grids import EDGES, OPEN, Memory, edge_of, map_of, number_of
 from .library import CROOKED, NO_OBSTACLE, Bits, CFound, CNear, check, library, numpy
+from .limits import Limits
 from .requests import EUCLID2, LARGEST_SIDE, LONGEST_PATH, Cell, Near, Request, Tightest, whole
 from .rows import distances_of
 from .signed import NO_BANDS, gradients_of, signed_of
@@ -95,8 +96,9 @@ class Map:
         *,
         low: Optional[float] = None,
         high: Optional[float] = None,
+        unknown: Optional[float] = None,
     ) -> None:
-        self._begin(packed(map_of(grid, low, high)), edge)
+        self._begin(packed(map_of(grid, Limits(low, high, unknown))), edge)
 
     def _begin(self, memory: Memory, edge: str) -> None:
         """Holds a map in bits that nobody writes any more."""

@@ -6,6 +6,7 @@ from typing import TYPE_CHECKING, Any, Callable, Literal, Optional, Tuple, overl
 
 from .grids import OPEN, Memory, edge_of, map_of, number_of
 from .library import check, library, numpy
+from .limits import Limits
 from .requests import EUCLID2, whole
 
 if TYPE_CHECKING:
@@ -73,6 +74,7 @@ def distances(
     *,
     low: Optional[float] = ...,
     high: Optional[float] = ...,
+    unknown: Optional[float] = ...,
 ) -> Distances: ...
 @overload
 def distances(
@@ -84,6 +86,7 @@ def distances(
     threads: int = ...,
     low: Optional[float] = ...,
     high: Optional[float] = ...,
+    unknown: Optional[float] = ...,
 ) -> Tuple[Distances, Obstacles]: ...
 def distances(
     grid: object,
@@ -94,6 +97,7 @@ def distances(
     *,
     low: Optional[float] = None,
     high: Optional[float] = None,
+    unknown: Optional[float] = None,
 ) -> Any:
     """The distance of each cell of a grid to its nearest obstacle, as an array of uint32: `euclid2`
     is the square of the Euclidean distance in cells, `city` and `chess` count steps. Each cell is
@@ -101,9 +105,11 @@ def distances(
 
     A grid is an array of 2 dimensions with 1 to 4096 rows and as many columns, of any memory order.
     Of bools, True is an obstacle. Of numbers, a cell is an obstacle if low <= cell <= high; at
-    least one limit must be given. Limits of integers are integers; floats are compared as numpy
-    compares them, and a NaN is a ValueError. With `edge="wall"` each cell of the frame around the
-    grid is an obstacle too.
+    least one limit must be given. Limits that no number of the dtype meets, such as low=253 for
+    int8, are a ValueError. With `unknown` each cell of that number is an obstacle too: `low=65,
+    unknown=-1` for an occupancy grid, `low=253, high=254, unknown=255` for a costmap. All three are
+    integers for integers; for floats they are rounded to the dtype, and a NaN is a ValueError. With
+    `edge="wall"` each cell of the frame around the grid is an obstacle too.
 
     With `nearest=True` the result is (distances, obstacles), two views of one array: obstacles has
     the shape (rows, columns, 2) and the dtype int16, and obstacles[y, x] is the column and the row
@@ -113,8 +119,9 @@ def distances(
 
     `threads` share the rows. A grid of bool, uint8 or int8 whose rows lie one after another, even
     with gaps between them, is read in place: nobody may write it meanwhile. int8 limits from below
-    0 to 0 or more cost a copy of one byte per cell, as do other dtypes and orders.
+    0 to 0 or more cost a copy of one byte per cell, as do other dtypes and orders, and `unknown`
+    unless it is next to the limits.
 
     ValueError and TypeError for anything but a grid, and MemoryError.
     """
-    return distances_of(map_of(grid, low, high), metric, edge, nearest, threads)
+    return distances_of(map_of(grid, Limits(low, high, unknown)), metric, edge, nearest, threads)

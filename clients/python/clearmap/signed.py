@@ -6,6 +6,7 @@ from typing import TYPE_CHECKING, Any, Optional, Tuple
 
 from .grids import OPEN, Memory, edge_of, map_of, number_of
 from .library import NO_OBSTACLE, Bits, numpy
+from .limits import Limits
 from .requests import EUCLID2
 from .rows import fill, in_bands, near_type
 
@@ -28,6 +29,7 @@ def signed_distances(
     *,
     low: Optional[float] = None,
     high: Optional[float] = None,
+    unknown: Optional[float] = None,
 ) -> Reals:
     """The distance of each free cell to its nearest obstacle, and the negative distance of each
     obstacle to its nearest free cell, as an array of float64: from centre to centre, so that no
@@ -36,10 +38,10 @@ def signed_distances(
 
     Each cell is inf if there is no obstacle, and -inf if there is no free cell. With `edge="wall"`
     the frame around the grid is an obstacle for the free cells. Only cells of the grid are free
-    cells, with either edge. Grid, metric, edge, `threads`, `low` and `high` are as those of
-    `distances`, and so are the errors; a resolution that isn't above 0 is a ValueError.
+    cells, with either edge. Grid, metric, edge, `threads`, `low`, `high` and `unknown` are as those
+    of `distances`, and so are the errors; a resolution that isn't above 0 is a ValueError.
     """
-    return signed_of(_packed(grid, low, high), metric, edge, resolution, threads)
+    return signed_of(_packed(grid, Limits(low, high, unknown)), metric, edge, resolution, threads)
 
 
 def gradients(
@@ -51,6 +53,7 @@ def gradients(
     *,
     low: Optional[float] = None,
     high: Optional[float] = None,
+    unknown: Optional[float] = None,
 ) -> Reals:
     """The unit vector away from each cell's nearest obstacle, as float64 of the shape (rows,
     columns, 2): by columns and by rows. It is (0, 0) in obstacles and if there is none. Of several
@@ -59,14 +62,14 @@ def gradients(
     With `inside=True` the direction in an obstacle is that to its nearest free cell, so that
     `signed_distances` grow along each. The rest is as there.
     """
-    return gradients_of(_packed(grid, low, high), metric, edge, inside, threads)
+    return gradients_of(_packed(grid, Limits(low, high, unknown)), metric, edge, inside, threads)
 
 
-def _packed(grid: object, low: Optional[float], high: Optional[float]) -> Memory:
+def _packed(grid: object, limits: Limits) -> Memory:
     """A grid as a map in bits."""
     from .maps import packed  # which has calls of this module
 
-    return packed(map_of(grid, low, high))
+    return packed(map_of(grid, limits))
 
 
 def inverse(memory: Memory) -> Memory:

@@ -6,6 +6,7 @@ from typing import TYPE_CHECKING, Any, Iterator, NamedTuple, Optional, Tuple
 
 from .grids import OPEN, edge_of, flat_array, map_of, number_of
 from .library import NO_OBSTACLE, numpy
+from .limits import Limits
 from .requests import EUCLID2, LARGEST_SIDE, whole
 from .rows import fill, in_bands
 
@@ -23,8 +24,7 @@ class _Asked(NamedTuple):
     edge: int
     cap: int
     reach: int
-    low: Optional[float]
-    high: Optional[float]
+    limits: Limits
 
 
 def capped_distances(
@@ -36,16 +36,17 @@ def capped_distances(
     *,
     low: Optional[float] = None,
     high: Optional[float] = None,
+    unknown: Optional[float] = None,
     tile: Optional[int] = None,
 ) -> Distances:
     """The distance of each cell of a grid of any size to its nearest obstacle, if it is at most
     `cap`, as an array of uint32. Every other cell is FARTHER: its nearest obstacle is farther than
     the cap, or there is none.
 
-    Grid, metric, edge, `threads`, `low` and `high` are as those of `distances`, except that the
-    grid may have more than 4096 rows or columns. `cap` is in the metric's unit: with `euclid2` it
-    is a square, r * r for a reach of r cells. It reaches over at most 1024 rows: it is 0 to 1024,
-    or with `euclid2` to 1024 * 1024.
+    Grid, metric, edge, `threads`, `low`, `high` and `unknown` are as those of `distances`, except
+    that the grid may have more than 4096 rows or columns. `cap` is in the metric's unit: with
+    `euclid2` it is a square, r * r for a reach of r cells. It reaches over at most 1024 rows: it is
+    0 to 1024, or with `euclid2` to 1024 * 1024.
 
     The grid is computed in tiles, each in a window with a margin of as many cells as the cap
     reaches over. So all obstacles that matter to a tile's cells are in its window, and the results
@@ -56,7 +57,7 @@ def capped_distances(
     """
     array = flat_array(grid)
     reach = _reach_of(whole(cap), metric)
-    asked = _Asked(number_of(metric), edge_of(edge), whole(cap), reach, low, high)
+    asked = _Asked(number_of(metric), edge_of(edge), whole(cap), reach, Limits(low, high, unknown))
     most = LARGEST_SIDE - 2 * reach
     side = most if tile is None else whole(tile)
     if not 1 <= side <= most:
@@ -96,7 +97,7 @@ def _work_tile(
     x0, y0, x1, y1 = tile
     left, top = max(x0 - asked.reach, 0), max(y0 - asked.reach, 0)
     window = array[top : y1 + asked.reach, left : x1 + asked.reach]
-    memory = map_of(window, asked.low, asked.high)
+    memory = map_of(window, asked.limits)
 
     def work(first: int, end: int) -> None:
         found = np.empty((end - first, window.shape[1]), np.uint32)
