@@ -30,7 +30,7 @@ struct Map {
     std::optional<clearmap::Path> cells(const ob::State* from, const ob::State* to) const { return frame.staircase({point(from), point(to)}); }
     bool clear(const ob::State* from, const ob::State* to) const {
         auto path = cells(from, to);
-        return path && path->size() <= 1000 && !pinned.clear_of(needed, *path);
+        return path && path->size() <= 1000 && pinned.is_clear(needed, *path);
     }
     double clearance(const ob::State* from, const ob::State* to) const {
         auto path = cells(from, to);

@@ -49,7 +49,7 @@ struct World {
     }
     bool clear(const ob::State* from, const ob::State* to) const {
         auto path = cells(from, to);
-        return path && path->size() <= 1000 && !map.clear_of(needed, *path);
+        return path && path->size() <= 1000 && map.is_clear(needed, *path);
     }
     double clearance(const ob::State* state) const {
         return field.metres(frame, point(state).x, point(state).y);

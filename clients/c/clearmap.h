@@ -46,6 +46,18 @@
 extern "C" {
 #endif
 
+/*
+ * The compiler warns where a status isn't looked at. After a refused call the answer is what was
+ * there before it, which may be another path's "clear".
+ */
+#if defined __cplusplus && __cplusplus >= 201703L
+#define CLEARMAP_CHECKED [[nodiscard]]
+#elif defined __GNUC__
+#define CLEARMAP_CHECKED __attribute__((warn_unused_result))
+#else
+#define CLEARMAP_CHECKED
+#endif
+
 #define CLEARMAP_VERSION_MAJOR 0
 #define CLEARMAP_VERSION_MINOR 2
 #define CLEARMAP_VERSION_PATCH 0
@@ -160,6 +172,7 @@ typedef struct clearmap_bits {
  * words_length is at least (width + 63) / 64 * height; the rest stays as it is.
  * Status: SIZE, STRIDE, LENGTH, ROOM, RANGE.
  */
+CLEARMAP_CHECKED
 uint32_t clearmap_pack(const uint8_t *bytes, size_t bytes_length, const clearmap_bytes *map,
                        uint64_t *words, size_t words_length, clearmap_bits *bits);
 
@@ -169,6 +182,7 @@ uint32_t clearmap_pack(const uint8_t *bytes, size_t bytes_length, const clearmap
  * stays as it is.
  * Status: SIZE, STRIDE, LENGTH, ROOM.
  */
+CLEARMAP_CHECKED
 uint32_t clearmap_unpack(const uint64_t *words, size_t words_length, const clearmap_bits *map,
                          uint8_t free, uint8_t obstacle, uint8_t *bytes, size_t bytes_length);
 
@@ -179,20 +193,24 @@ uint32_t clearmap_unpack(const uint64_t *words, size_t words_length, const clear
  * at least (y1 - y0) * width; the rest stays as it is.
  * Status: SIZE, STRIDE, LENGTH, METRIC, EDGE, OUTSIDE, ROOM, RANGE, MEMORY.
  */
+CLEARMAP_CHECKED
 uint32_t clearmap_bytes_distances(const uint8_t *bytes, size_t bytes_length,
                                   const clearmap_bytes *map, uint32_t metric, uint32_t edge,
                                   uint32_t y0, uint32_t y1, uint32_t *distances,
                                   size_t distances_length);
+CLEARMAP_CHECKED
 uint32_t clearmap_bits_distances(const uint64_t *words, size_t words_length,
                                  const clearmap_bits *map, uint32_t metric, uint32_t edge,
                                  uint32_t y0, uint32_t y1, uint32_t *distances,
                                  size_t distances_length);
 
 /* The same, with the nearest obstacle of each cell. */
+CLEARMAP_CHECKED
 uint32_t clearmap_bytes_nearest(const uint8_t *bytes, size_t bytes_length,
                                 const clearmap_bytes *map, uint32_t metric, uint32_t edge,
                                 uint32_t y0, uint32_t y1, clearmap_near *nears,
                                 size_t nears_length);
+CLEARMAP_CHECKED
 uint32_t clearmap_bits_nearest(const uint64_t *words, size_t words_length,
                                const clearmap_bits *map, uint32_t metric, uint32_t edge,
                                uint32_t y0, uint32_t y1, clearmap_near *nears,
@@ -205,9 +223,11 @@ uint32_t clearmap_bits_nearest(const uint64_t *words, size_t words_length,
  * Writes the nearest obstacle of cell (x, y).
  * Status: SIZE, STRIDE, LENGTH, METRIC, EDGE, OUTSIDE, RANGE.
  */
+CLEARMAP_CHECKED
 uint32_t clearmap_bytes_at(const uint8_t *bytes, size_t bytes_length, const clearmap_bytes *map,
                            uint32_t metric, uint32_t edge, uint32_t x, uint32_t y,
                            clearmap_near *near);
+CLEARMAP_CHECKED
 uint32_t clearmap_bits_at(const uint64_t *words, size_t words_length, const clearmap_bits *map,
                           uint32_t metric, uint32_t edge, uint32_t x, uint32_t y,
                           clearmap_near *near);
@@ -217,9 +237,11 @@ uint32_t clearmap_bits_at(const uint64_t *words, size_t words_length, const clea
  * row-major order, and its nearest obstacle; none if the map has no obstacle.
  * Status: SIZE, STRIDE, LENGTH, METRIC, EDGE, OUTSIDE, RANGE.
  */
+CLEARMAP_CHECKED
 uint32_t clearmap_bytes_rect(const uint8_t *bytes, size_t bytes_length, const clearmap_bytes *map,
                              uint32_t metric, uint32_t edge, uint32_t x0, uint32_t y0, uint32_t x1,
                              uint32_t y1, clearmap_found *found);
+CLEARMAP_CHECKED
 uint32_t clearmap_bits_rect(const uint64_t *words, size_t words_length, const clearmap_bits *map,
                             uint32_t metric, uint32_t edge, uint32_t x0, uint32_t y0, uint32_t x1,
                             uint32_t y1, clearmap_found *found);
@@ -230,9 +252,11 @@ uint32_t clearmap_bits_rect(const uint64_t *words, size_t words_length, const cl
  * before it; its cells are the first point, and then those after each point up to the next.
  * Status: SIZE, STRIDE, LENGTH, METRIC, EDGE, POINTS, OUTSIDE, CROOKED, RANGE.
  */
+CLEARMAP_CHECKED
 uint32_t clearmap_bytes_path(const uint8_t *bytes, size_t bytes_length, const clearmap_bytes *map,
                              uint32_t metric, uint32_t edge, const clearmap_cell *points,
                              size_t points_length, clearmap_found *found);
+CLEARMAP_CHECKED
 uint32_t clearmap_bits_path(const uint64_t *words, size_t words_length, const clearmap_bits *map,
                             uint32_t metric, uint32_t edge, const clearmap_cell *points,
                             size_t points_length, clearmap_found *found);
@@ -240,12 +264,19 @@ uint32_t clearmap_bits_path(const uint64_t *words, size_t words_length, const cl
 /*
  * Writes the first cell along a path whose distance is below d, in the unit of the metric, and its
  * nearest obstacle; none if the path is clear.
+ *
+ *     status = clearmap_bits_clear_of(words, length, &map, CLEARMAP_EUCLID2, CLEARMAP_OPEN, points,
+ *                                     count, d, &found);
+ *     is_clear = status == CLEARMAP_DONE && found.near.dist == CLEARMAP_NO_OBSTACLE;
+ *
  * Status: that of a path.
  */
+CLEARMAP_CHECKED
 uint32_t clearmap_bytes_clear_of(const uint8_t *bytes, size_t bytes_length,
                                  const clearmap_bytes *map, uint32_t metric, uint32_t edge,
                                  const clearmap_cell *points, size_t points_length, uint32_t d,
                                  clearmap_found *found);
+CLEARMAP_CHECKED
 uint32_t clearmap_bits_clear_of(const uint64_t *words, size_t words_length,
                                 const clearmap_bits *map, uint32_t metric, uint32_t edge,
                                 const clearmap_cell *points, size_t points_length, uint32_t d,

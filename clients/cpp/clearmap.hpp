@@ -683,6 +683,24 @@ private:
 template <class... Numbers>
 using IfReal = std::enable_if_t<(std::is_floating_point<Numbers>::value || ...)>;
 
+/// For distances that are integers, and those that aren't of 32 bits, which might silently lose
+/// some.
+template <class Number>
+using IfInteger = std::enable_if_t<std::is_integral<Number>::value>;
+template <class Number>
+using IfOtherInteger = std::enable_if_t<std::is_integral<Number>::value &&
+                                        !std::is_same<Number, std::uint32_t>::value>;
+
+/// A distance in 32 bits. Throws std::invalid_argument for one that has none there.
+template <class Integer>
+std::uint32_t in_32_bits(Integer distance) {
+    const bool is_negative = std::is_signed<Integer>::value && distance < Integer{};
+    if (is_negative || static_cast<std::uintmax_t>(distance) > UINT32_MAX)
+        throw std::invalid_argument("a distance is 0 to 4294967295, and not " +
+                                    std::to_string(distance));
+    return static_cast<std::uint32_t>(distance);
+}
+
 }  // namespace detail
 
 // ---- queries
@@ -705,8 +723,12 @@ public:
         return add(Kind::clear, {}, "CLEAROF", m,
                    ' ' + std::to_string(distance) + detail::points(p));
     }
+    template <class Integer, class = detail::IfOtherInteger<Integer>>
+    Queries& clear_of(Integer distance, const Path& p, Metric m = Metric::euclid2) {
+        return clear_of(detail::in_32_bits(distance), p, m);
+    }
     /// A distance is an integer: round a fraction up, or use Frame::clear_distance.
-    template <class Real, class = detail::IfReal<Real>>
+    template <class Real, class = detail::IfReal<Real>, class = void>
     Queries& clear_of(Real distance, const Path& p, Metric m = Metric::euclid2) = delete;
 
 private:
@@ -785,16 +807,29 @@ public:
         return one(Queries().path(p, m));
     }
 
-    /// None if each cell of the path has at least this distance, otherwise the first that hasn't.
-    /// With euclid2 it is a square.
-    std::optional<Tightest> clear_of(std::uint32_t distance, const Path& p,
-                                     Metric m = Metric::euclid2) {
+    /// None if each cell of the path has at least this distance, otherwise the first that hasn't:
+    /// whether the path is clear says `is_clear`. With euclid2 the distance is a square.
+    [[nodiscard]] std::optional<Tightest> clear_of(std::uint32_t distance, const Path& p,
+                                                   Metric m = Metric::euclid2) {
         return one(Queries().clear_of(distance, p, m));
     }
+    template <class Integer, class = detail::IfOtherInteger<Integer>>
+    [[nodiscard]] std::optional<Tightest> clear_of(Integer distance, const Path& p,
+                                                   Metric m = Metric::euclid2) {
+        return clear_of(detail::in_32_bits(distance), p, m);
+    }
     /// A distance is an integer: round a fraction up, or use Frame::clear_distance.
-    template <class Real, class = detail::IfReal<Real>>
+    template <class Real, class = detail::IfReal<Real>, class = void>
     std::optional<Tightest> clear_of(Real distance, const Path& p,
                                      Metric m = Metric::euclid2) = delete;
+
+    /// Whether each cell of the path has at least this distance.
+    template <class Integer, class = detail::IfInteger<Integer>>
+    [[nodiscard]] bool is_clear(Integer distance, const Path& p, Metric m = Metric::euclid2) {
+        return !clear_of(distance, p, m);
+    }
+    template <class Real, class = detail::IfReal<Real>, class = void>
+    bool is_clear(Real distance, const Path& p, Metric m = Metric::euclid2) = delete;
 
     /// The Euclidean distance of a path's tightest cell to its nearest obstacle, in cells from
     /// centre to centre; infinite if the map has none. The path may have any number of points: one
@@ -819,7 +854,7 @@ public:
 
     /// Whether a cell is on the map and free, and its Euclidean distance to the nearest obstacle in
     /// cells: exact but for the root's rounding.
-    bool is_valid(int x, int y, double& clearance) {
+    [[nodiscard]] bool is_valid(int x, int y, double& clearance) {
         clearance = clearances({{x, y}})[0];
         return clearance > 0;
     }

@@ -58,9 +58,10 @@ public:
     /// The distance in cells, the Euclidean one for euclid2; infinite if the map has no obstacle.
     double clearance(Cell c) const noexcept { return detail::in_cells(distance(c), metric()); }
 
-    /// The same in metres for a point in metres: 0 for one outside. The frame has the field's size.
-    double metres(const Frame& frame, double x, double y) const noexcept {
-        assert(frame.size() == size());
+    /// The same in metres for a point in metres: 0 for one outside. Throws std::invalid_argument if
+    /// the frame's size differs from the field's.
+    double metres(const Frame& frame, double x, double y) const {
+        detail::check_size(frame, size());
         auto cell = frame.cell(x, y);
         return cell ? frame.metres(clearance(*cell)) : 0;
     }
@@ -256,9 +257,10 @@ private:
     clearmap_near query(Cell c) const noexcept {
         clearmap_near found{};
         const clearmap_bits bits = map_.bits();
-        clearmap_bits_at(map_.words().data(), map_.words().size(), &bits,
-                         detail::numbered(metric()), detail::numbered(map_.edge()),
-                         detail::numbered(c.x), detail::numbered(c.y), &found);
+        [[maybe_unused]] const std::uint32_t status = clearmap_bits_at(
+            map_.words().data(), map_.words().size(), &bits, detail::numbered(metric()),
+            detail::numbered(map_.edge()), detail::numbered(c.x), detail::numbered(c.y), &found);
+        assert(status == CLEARMAP_DONE);
         return found;
     }
 

@@ -41,10 +41,10 @@ public:
 
     /// Whether the robot is on an obstacle at a pose in cells of a map, or of a field's map. Throws
     /// std::invalid_argument if a number isn't finite, and for a map that was moved from.
-    bool hits(const Map& map, double x, double y, double theta) const {
+    [[nodiscard]] bool hits(const Map& map, double x, double y, double theta) const {
         return asked(map, {x, y, theta, 1});
     }
-    bool hits(const Field& field, double x, double y, double theta) const {
+    [[nodiscard]] bool hits(const Field& field, double x, double y, double theta) const {
         return asked(field, {x, y, theta, 1});
     }
 
@@ -52,9 +52,9 @@ public:
     /// std::invalid_argument if the frame's size differs from the map's, or its resolution from the
     /// points'.
     template <class Area>
-    bool hits(const Area& area, const Frame& frame, double x, double y, double theta) const {
-        if (!(frame.size() == area.size()))
-            throw std::invalid_argument("the frame has another size than the map");
+    [[nodiscard]] bool hits(const Area& area, const Frame& frame, double x, double y,
+                            double theta) const {
+        detail::check_size(frame, area.size());
         if (resolution_ && *resolution_ != frame.resolution)
             throw std::invalid_argument("the frame has another resolution than the footprint");
         return asked(area, {(x - frame.origin_x) / frame.resolution,
@@ -63,7 +63,7 @@ public:
 
     /// Whether it is on none.
     template <class Area, class... Pose>
-    bool is_clear(const Area& area, const Pose&... pose) const {
+    [[nodiscard]] bool is_clear(const Area& area, const Pose&... pose) const {
         return !hits(area, pose...);
     }
 

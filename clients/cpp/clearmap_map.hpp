@@ -7,7 +7,7 @@
 //     auto map = clearmap::Map::of_bytes(costmap, {640, 480}, {253, 254});
 //     double cells;
 //     if (map.is_valid(3, 4, cells)) ..                // as OMPL's isValid(state, dist)
-//     if (!map.clear_of(9, {{0, 0}, {30, 0}})) ..      // each cell keeps 3 cells or more
+//     if (map.is_clear(9, {{0, 0}, {30, 0}})) ..       // each cell keeps 3 cells or more
 //     clearmap::Field field(map);                      // all distances, made by several threads
 //     double nearest = field.clearance({3, 4});        // a look-up
 //     field.paint(8, 0, 16, 8);                        // the field's own map, and its distances
@@ -77,6 +77,16 @@ static_assert(numbered(Metric::euclid2) == CLEARMAP_EUCLID2 &&
               numbered(Metric::city) == CLEARMAP_CITY &&
               numbered(Metric::chess) == CLEARMAP_CHESS && numbered(Edge::open) == CLEARMAP_OPEN &&
               numbered(Edge::wall) == CLEARMAP_WALL);
+
+/// Whether a type is one of cells in bytes: void is none, as an array of any type converts to it.
+template <class Type>
+inline constexpr bool is_byte = sizeof(std::conditional_t<std::is_void_v<Type>, int, Type>) == 1;
+
+/// Throws unless a frame has the size of a map.
+inline void check_size(const Frame& frame, Size size) {
+    if (!(frame.size() == size))
+        throw std::invalid_argument("the frame has another size than the map");
+}
 
 inline std::optional<Near> answer(const clearmap_near& near) {
     if (near.dist == CLEARMAP_NO_OBSTACLE) return std::nullopt;
@@ -257,7 +267,8 @@ public:
     template <class Bytes, class Element = decltype(*std::data(std::declval<const Bytes&>()))>
     static Map of_bytes(const Bytes& cells, Size size, Range obstacles, Edge edge = Edge::open,
                         Rows rows = Rows::downwards) {
-        static_assert(sizeof(Element) == 1, "a map is bytes: its elements have the size 1");
+        static_assert(detail::is_byte<std::remove_reference_t<Element>>,
+                      "a map is bytes: its elements have the size 1");
         Map map(size, edge);
         std::size_t width = map.width(), length = std::size(cells);
         if (length > width * static_cast<std::size_t>(size.height))
@@ -268,8 +279,10 @@ public:
 
     /// The same in a larger array: `stride` bytes from one row to the next, and `length` bytes from
     /// `cells` to the end of the array.
-    static Map of_bytes(const void* cells, std::size_t length, std::size_t stride, Size size,
+    template <class Byte>
+    static Map of_bytes(const Byte* cells, std::size_t length, std::size_t stride, Size size,
                         Range obstacles, Edge edge = Edge::open, Rows rows = Rows::downwards) {
+        static_assert(detail::is_byte<Byte>, "a map is bytes: its elements have the size 1");
         Map map(size, edge);
         map.pack(cells, length, stride, obstacles, rows);
         return map;
@@ -329,19 +342,33 @@ public:
         return tightest(p.data(), p.size(), m);
     }
 
-    /// None if each cell of the path has at least this distance, otherwise the first that hasn't.
-    /// With euclid2 it is a square.
-    std::optional<Tightest> clear_of(std::uint32_t distance, const Path& p,
-                                     Metric m = Metric::euclid2) const {
+    /// None if each cell of the path has at least this distance, otherwise the first that hasn't:
+    /// whether the path is clear says `is_clear`. With euclid2 the distance is a square.
+    [[nodiscard]] std::optional<Tightest> clear_of(std::uint32_t distance, const Path& p,
+                                                   Metric m = Metric::euclid2) const {
         const detail::Points points(p.data(), p.size());
         clearmap_found found{};
         ask(clearmap_bits_clear_of, m, points.cells, points.length, distance, &found);
         return detail::answer(found);
     }
+    template <class Integer, class = detail::IfOtherInteger<Integer>>
+    [[nodiscard]] std::optional<Tightest> clear_of(Integer distance, const Path& p,
+                                                   Metric m = Metric::euclid2) const {
+        return clear_of(detail::in_32_bits(distance), p, m);
+    }
     /// A distance is an integer: round a fraction up, or use Frame::clear_distance.
-    template <class Real, class = detail::IfReal<Real>>
+    template <class Real, class = detail::IfReal<Real>, class = void>
     std::optional<Tightest> clear_of(Real distance, const Path& p,
                                      Metric m = Metric::euclid2) const = delete;
+
+    /// Whether each cell of the path has at least this distance.
+    template <class Integer, class = detail::IfInteger<Integer>>
+    [[nodiscard]] bool is_clear(Integer distance, const Path& p,
+                                Metric m = Metric::euclid2) const {
+        return !clear_of(distance, p, m);
+    }
+    template <class Real, class = detail::IfReal<Real>, class = void>
+    bool is_clear(Real distance, const Path& p, Metric m = Metric::euclid2) const = delete;
 
     /// The Euclidean distance of a path's tightest cell to its nearest obstacle, in cells from
     /// centre to centre; infinite if the map has none. The path has at least one point.
@@ -359,7 +386,7 @@ public:
 
     /// Whether a cell is on the map and free, and its Euclidean distance to the nearest obstacle in
     /// cells: 0 for a cell that isn't on the map, infinite if the map has none.
-    bool is_valid(int x, int y, double& clearance) const {
+    [[nodiscard]] bool is_valid(int x, int y, double& clearance) const {
         clearance = 0;
         if (!inside(x, y)) return false;
         auto near = at({x, y});

@@ -36,9 +36,10 @@ public:
         return free > 0 ? free : -blocked_.clearance(c);
     }
 
-    /// The same in metres for a point in metres: 0 for one outside. The frame has the field's size.
-    double metres(const Frame& frame, double x, double y) const noexcept {
-        assert(frame.size() == size());
+    /// The same in metres for a point in metres: 0 for one outside. Throws std::invalid_argument if
+    /// the frame's size differs from the field's.
+    double metres(const Frame& frame, double x, double y) const {
+        detail::check_size(frame, size());
         auto cell = frame.cell(x, y);
         return cell ? frame.metres(clearance(*cell)) : 0;
     }

@@ -16,6 +16,11 @@ static void queries(std::uint16_t port) {
     CHECK(map.path(corner, Metric::city)->cell == (Cell{2, 0}));
     CHECK(map.clear_of(2, corner, Metric::city)->distance == 1);
     CHECK(!map.clear_of(1, corner, Metric::chess));
+    CHECK(map.is_clear(1, corner, Metric::chess) && !map.is_clear(2L, corner, Metric::city));
+    for (long long wrong : {-1LL, 1LL << 32}) {  // no 32 bits have it: it isn't cut
+        CHECK(throws<std::invalid_argument>([&] { (void)map.is_clear(wrong, corner); }, "and not"));
+        CHECK(throws<std::invalid_argument>([&] { Queries().clear_of(wrong, corner); }, "and not"));
+    }
     CHECK(map.clearance({{5, 1}, {5, 3}}) == 3.0);
     Path back_and_forth;
     for (int i = 0; i < 2500; ++i) back_and_forth.push_back({5, i % 2 == 0 ? 0 : 1});
@@ -170,7 +175,7 @@ static void failures() {
         Fake fake({"OK 0\n", answer}, false);
         Client client(fake.port, std::chrono::seconds(2));
         Pinned map = client.pin();
-        CHECK(throws<WrongAnswer>([&] { map.clear_of(1, {{0, 0}}); }));
+        CHECK(throws<WrongAnswer>([&] { (void)map.clear_of(1, {{0, 0}}); }));
         CHECK(closed(client));
     }
     for (const char* answer : {"OK -1 2 1\n", "OK 1 --2 1\n", "OK 1 2 -\n", "OK 1 -\n", "OK 1 2 2147483648\n", "OK 1 -2 1 0\n", "OK 1 2\n", "NONE 1 2\n"}) {

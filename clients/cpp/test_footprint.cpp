@@ -271,23 +271,23 @@ static void invalid() {
     Map map({20, 10});
     const Footprint robot(square), metres(square, 0.5);
     for (double wrong : {none, infinite, -infinite}) {
-        CHECK(throws<std::invalid_argument>([&] { robot.hits(map, wrong, 0, 0); }, "finite"));
-        CHECK(throws<std::invalid_argument>([&] { robot.hits(map, 0, wrong, 0); }, "finite"));
-        CHECK(throws<std::invalid_argument>([&] { robot.hits(map, 0, 0, wrong); }, "finite"));
+        CHECK(throws<std::invalid_argument>([&] { (void)robot.hits(map, wrong, 0, 0); }, "finite"));
+        CHECK(throws<std::invalid_argument>([&] { (void)robot.hits(map, 0, wrong, 0); }, "finite"));
+        CHECK(throws<std::invalid_argument>([&] { (void)robot.hits(map, 0, 0, wrong); }, "finite"));
     }
     CHECK(throws<std::invalid_argument>(
         [&] {
-            robot.hits(map, Frame{20, 11, 1, 0, 0}, 0, 0, 0);
+            (void)robot.hits(map, Frame{20, 11, 1, 0, 0}, 0, 0, 0);
         },
         "another size"));
     CHECK(throws<std::invalid_argument>(
         [&] {
-            metres.hits(map, Frame{20, 10, 0.05, 0, 0}, 0, 0, 0);
+            (void)metres.hits(map, Frame{20, 10, 0.05, 0, 0}, 0, 0, 0);
         },
         "another resolution"));
     CHECK(!metres.hits(map, Frame{20, 10, 0.5, 0, 0}, 3, 3, 0));
     const Map moved = std::move(map);
-    CHECK(throws<std::invalid_argument>([&] { robot.hits(map, 0, 0, 0); },
+    CHECK(throws<std::invalid_argument>([&] { (void)robot.hits(map, 0, 0, 0); },
                                         clearmap_status_text(CLEARMAP_SIZE)));
     CHECK(robot.is_clear(moved, 3, 3, 0) && robot.is_clear(moved, -1e300, 1e300, 1e300));
     CHECK(robot.hits(Map({20, 10}, Edge::wall), -1e300, 1e300, 1e300));

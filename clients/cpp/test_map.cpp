@@ -44,12 +44,9 @@ static bool done_with(long requests, Call call) {
 
 static_assert(std::is_nothrow_move_constructible_v<Map> && std::is_nothrow_move_assignable_v<Map>);
 static_assert(std::is_nothrow_move_constructible_v<Field> && !std::is_copy_constructible_v<Field>);
-static_assert(noexcept(std::declval<const Field&>().distance({})) && noexcept(
-    std::declval<const Field&>().obstacle(
-        {})) && noexcept(std::declval<const Field&>()
-                             .clearance({})) && noexcept(std::declval<const Field&>()
-                                                             .metres(std::declval<const Frame&>(),
-                                                                     0, 0)));
+static_assert(noexcept(std::declval<const Field&>().distance({})) &&
+              noexcept(std::declval<const Field&>().obstacle({})) &&
+              noexcept(std::declval<const Field&>().clearance({})));
 
 /// Whether a call takes whole numbers, and no others.
 template <class Call>
@@ -61,7 +58,9 @@ constexpr auto clear = [](auto& map, auto x) -> decltype(map.clear(x, 0, 1, 1)) 
 constexpr auto rect = [](auto& map, auto x) -> decltype(map.rect(x, 0, 1, 1)) { return {}; };
 constexpr auto clear_of = [](auto& map, auto d) -> decltype(map.clear_of(d, {})) { return {}; };
 static_assert(takes_whole(paint) && takes_whole(clear) && takes_whole(rect));
-static_assert(takes_whole(clear_of));
+constexpr auto is_clear = [](auto& map, auto d) -> decltype(map.is_clear(d, {})) { return {}; };
+static_assert(takes_whole(clear_of) && takes_whole(is_clear));
+static_assert(std::is_same_v<bool, decltype(std::declval<const Map&>().is_clear(1, {}))>);
 
 // ---- the model
 
@@ -223,6 +222,7 @@ static void ask_some(const Map& map, const Model& model, const std::vector<Cell>
     CHECK(same(map.path(path, m), first(obstacles, along, m)));
     auto d = static_cast<std::uint32_t>(below(30));
     CHECK(same(map.clear_of(d, path, m), first(obstacles, along, m, d)));
+    CHECK(map.is_clear(d, path, m) == !first(obstacles, along, m, d));
     auto least = first(obstacles, along, Metric::euclid2);
     CHECK(map.clearance(path) ==
           straight(least ? std::optional<Near>{{least->distance, {}}} : std::nullopt));
@@ -390,7 +390,7 @@ static void invalid_queries() {
         CHECK(refused_as<Outside>(CLEARMAP_OUTSIDE, [&] { map.at(c); }));
         CHECK(refused_as<Outside>(CLEARMAP_OUTSIDE, [&] { map.is_obstacle(c); }));
         CHECK(refused_as<Outside>(CLEARMAP_OUTSIDE, [&] { map.path({{0, 0}, c}); }));
-        CHECK(refused_as<Outside>(CLEARMAP_OUTSIDE, [&] { map.clear_of(1, {c}); }));
+        CHECK(refused_as<Outside>(CLEARMAP_OUTSIDE, [&] { (void)map.clear_of(1, {c}); }));
         CHECK(refused_as<Outside>(CLEARMAP_OUTSIDE, [&] { Field(map).at(c); }));
         double cells = -1;
         CHECK(!map.is_valid(c.x, c.y, cells) && cells == 0);
@@ -408,7 +408,7 @@ static void invalid_queries() {
     CHECK(refused_as<Invalid>(CLEARMAP_POINTS, [&] { map.clearance({}); }));
     CHECK(refused_as<Invalid>(CLEARMAP_POINTS, [&] { map.path(Path(1001, {1, 1})); }));
     CHECK(map.path(Path(1000, {1, 1}))->distance == 0);
-    CHECK(refused_as<Invalid>(CLEARMAP_CROOKED, [&] { map.clear_of(1, {{0, 0}, {1, 1}}); }));
+    CHECK(refused_as<Invalid>(CLEARMAP_CROOKED, [&] { (void)map.clear_of(1, {{0, 0}, {1, 1}}); }));
     auto none = static_cast<Metric>(3);
     CHECK(refused_as<Invalid>(CLEARMAP_METRIC, [&] { map.at({0, 0}, none); }));
     CHECK(refused_as<Invalid>(CLEARMAP_METRIC, [&] { map.path(Path(1001), none); }));
@@ -460,6 +460,27 @@ static void moved() {
     CHECK(other.metres(frame, 48.75, -1.75) == 0.0);  // the obstacle, at the lower right
     CHECK(other.metres(frame, -0.75, -1.75) == 99 * 0.5);
     CHECK(other.metres(frame, -1.25, -1.75) == 0.0);  // outside
+    for (const Frame& wrong : {Frame{101, 70, 0.5, -1, -2}, Frame{100, 700, 0.5, -1, -2}})
+        CHECK(throws<std::invalid_argument>([&] { other.metres(wrong, 0, 0); }, "another size"));
+}
+
+/// A distance of another integer isn't cut to 32 bits: 2^32 would be 0, by which each path is
+/// clear, and -1 more than any distance.
+static void distances_of_64_bits() {
+    Map map({3, 1});
+    map.paint(2, 0, 3, 1);
+    const Path path = {{0, 0}, {1, 0}};
+    CHECK(map.is_clear(std::int64_t{1}, path) && !map.is_clear(std::uint64_t{2}, path));
+    CHECK(map.clear_of(std::size_t{4294967295}, path)->cell == (Cell{0, 0}));
+    CHECK(map.is_clear(true, path) && map.is_clear(std::uint8_t{1}, path));
+    auto refused = [&](auto d, const std::string& text) {
+        return throws<std::invalid_argument>([&] { (void)map.clear_of(d, path); }, text) &&
+               throws<std::invalid_argument>([&] { (void)map.is_clear(d, path); }, text);
+    };
+    CHECK(refused(std::uint64_t{1} << 32, "0 to 4294967295, and not 4294967296"));
+    CHECK(refused(std::uint64_t{1} << 32 | 1, "and not 4294967297"));
+    CHECK(refused(std::int64_t{-1}, "and not -1") && refused(-1, "and not -1"));
+    CHECK(refused(short{-3}, "and not -3"));
 }
 
 /// Queries ask for no memory, and whatever else finds none throws; a thread that can't be started
@@ -471,7 +492,7 @@ static void without_memory() {
         map.at({0, 0});
         map.rect(0, 0, 200, 100);
         map.path(path);
-        map.clear_of(9, path);
+        (void)map.clear_of(9, path);
         map.clearance(path);
     }));
     CHECK(!done_with(0, [&] { Map other(map); }) && !done_with(0, [] { Map other({1, 1}); }));
@@ -631,6 +652,7 @@ int main(int count, char** words) {
     invalid_queries();
     invalid_maps();
     moved();
+    distances_of_64_bits();
     without_memory();
     largest();
     faults();

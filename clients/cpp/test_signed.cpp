@@ -128,6 +128,8 @@ static void told() {
     const Frame frame{70, 4, 0.5, -1, -1};
     CHECK(field.metres(frame, 4.25, 0.75) == -0.5 && field.metres(frame, 9.25, 0.75) == 4.5);
     CHECK(field.metres(frame, -1.5, 0) == 0);
+    const Frame wrong{70, 400, 0.5, -1, -1};
+    CHECK(throws<std::invalid_argument>([&] { field.metres(wrong, 4, 4); }, "another size"));
     CHECK(throws<std::out_of_range>(
         [&] {
             one.gradient({70, 0});

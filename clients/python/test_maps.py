@@ -43,7 +43,7 @@ def asked_at_random(chance, width, height):
         return chance.randrange(side)
 
     metric = chance.choice(METRICS)
-    name = chance.choice(("at", "rect", "path", "clear_of"))
+    name = chance.choice(("at", "rect", "path", "clear_of", "is_clear"))
     if name == "at":
         return name, (number(width), number(height), metric)
     if name == "rect":
@@ -116,6 +116,23 @@ class Maps(unittest.TestCase):
             bands = sum(1 << k for k in range(5) if grid[64 * k : 64 * k + 64].any())
             self.assertEqual(area._held.memory.layout.blank_bands, 2**64 - 1 - bands)
             np.testing.assert_array_equal(area.distances(), clearmap.distances(grid))
+
+    def test_is_clear(self):
+        """Whether nothing is too near: the opposite of the truth of what `clear_of` answers."""
+        area = clearmap.Map(np.pad([[True]], ((0, 0), (4, 0))))
+        way = [(0, 0), (2, 0)]
+        for far in (0, 1, 4, np.uint8(4)):
+            self.assertIs(area.is_clear(far, way), True)
+            self.assertIsNone(area.clear_of(far, way))
+        for near in (5, 2**32 - 1, np.int64(5)):
+            self.assertIs(area.is_clear(near, way), False)
+            self.assertEqual(area.clear_of(near, way).obstacle, (4, 0))
+        self.assertIs(area.is_clear(2, way, "city"), True)
+        self.assertIs(area.is_clear(3, way, "chess"), False)
+        for wrong in (-1, 2**32, 2**64):
+            self.assertRaises(clearmap.BadArguments, area.is_clear, wrong, way)
+        self.assertRaises(clearmap.BadPath, area.is_clear, 1, [])
+        self.assertRaises(TypeError, area.is_clear, 1.0, way)
 
     def test_a_grid_that_changes_later(self):
         grid = np.zeros((5, 6), np.uint8)

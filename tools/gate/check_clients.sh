@@ -114,11 +114,13 @@ refused() { # refused WORDS STATEMENT
 }
 check_forms() {
     compiles 'client.stamp({0, 0}, std::vector<unsigned char>(9)), client.paint(0, 0, 1L, 1u)' &&
-        compiles 'map.clear_of(2, {{0, 0}}), map.is_valid(0, 1, cells), map.rect(0, 0, 1, 1)' ||
+        compiles 'map.clear_of(2, {{0, 0}}), map.is_valid(0, 1, cells), map.rect(0, 0, 1, 1)' &&
+        compiles 'if (map.is_clear(2, {{0, 0}})) map.unpin()' ||
         { failed=1; cat "$scratch/log"; }
     refused 'an image is bytes' 'client.stamp({0, 0}, std::vector<std::uint16_t>(9))'
     refused 'no matching' 'client.stamp({0, 0}, std::vector<bool>(9))'
     refused deleted 'map.clear_of(2.5, {{0, 0}})'
+    refused deleted 'map.is_clear(2.5, {{0, 0}})'
     refused deleted 'map.is_valid(0.5, 1, cells)'
     refused deleted 'map.rect(0, 0.5, 1, 1)'
     refused deleted 'clearmap::Queries().rect(0.5, 0, 1, 1)'

@@ -37,6 +37,8 @@ try 'header' tools/lint/check_header.py
 wants gcc 'the library' && wants make 'the library' || exit "$failed"
 timeout 1100 make -s lib > "$scratch/log" 2>&1 || { tail -n 30 "$scratch/log"; exit 1; }
 
+try 'uses' tools/gate/check_uses.sh
+
 flags="-std=c11 -Wall -Wextra -Wshadow -Wconversion -Wpedantic -Werror -g -Iclients/c"
 test="clients/c/test_clearmap.c"
 

@@ -14,7 +14,7 @@ all.
     with clearmap.Client(7400, size=(40, 20)) as planner, planner.pin() as pinned:
         near = pinned.at(3, 4)                      # None if the map has no obstacle
         tight = pinned.path([(0, 0), (30, 0), (30, 9)])
-        free = pinned.clear_of(34, [(0, 0), (30, 0)]) is None
+        free = pinned.is_clear(34, [(0, 0), (30, 0)])
 
 Columns x and rows y count from 0 at the upper left, and are integers: an int, or an integer of
 numpy. A distance is in cells: `euclid2` is the square of the Euclidean one, `city` and `chess`

@@ -185,6 +185,10 @@ class Map:
         """As `Pinned.clear_of`."""
         return self._along(whole(distance), points, metric)
 
+    def is_clear(self, distance: int, points: Iterable[Cell], metric: str = EUCLID2) -> bool:
+        """As `Pinned.is_clear`."""
+        return self.clear_of(distance, points, metric) is None
+
     def _along(
         self, distance: Optional[int], points: Iterable[Cell], metric: str
     ) -> Optional[Tightest]:

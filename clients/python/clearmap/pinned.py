@@ -134,8 +134,12 @@ class Pinned:
         self, distance: int, points: Iterable[Cell], metric: str = EUCLID2
     ) -> Optional[Tightest]:
         """None if each cell of the path has at least this distance, otherwise the first that
-        hasn't. With euclid2 the distance is a square."""
+        hasn't: whether the path is clear says `is_clear`. With euclid2 the distance is a square."""
         return self._ask(requests.clear_of(distance, points, metric))
+
+    def is_clear(self, distance: int, points: Iterable[Cell], metric: str = EUCLID2) -> bool:
+        """Whether each cell of the path has at least this distance, as `clear_of` has it."""
+        return self.clear_of(distance, points, metric) is None
 
     def clearance(self, points: Sequence[Cell]) -> float:
         """The Euclidean distance of a path's tightest cell to its nearest obstacle, in cells from

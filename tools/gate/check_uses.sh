@@ -1,0 +1,90 @@
+#!/bin/sh
+# Tries which uses of the library's headers compile, and which are refused with a message: bytes of
+# another size, distances that aren't integers, and statuses and answers that nobody looks at. All
+# by each compiler that is installed, with warnings as errors.
+set -u
+cd "$(dirname "$0")/../.." || exit 1
+scratch=$(mktemp -d)
+trap 'rm -rf "$scratch"' EXIT
+trap 'exit 1' INT TERM
+failed=0 tried=0
+
+# Each statement stands in a function of these arguments, of which some aren't used.
+c_program() { # c_program STATEMENT
+    echo '#include "clearmap.h"'
+    echo 'uint32_t use(const uint64_t *words, const clearmap_bits *map, clearmap_near *near);'
+    echo 'uint32_t use(const uint64_t *words, const clearmap_bits *map, clearmap_near *near) {'
+    echo "(void)words, (void)map, (void)near; $1; return 0; }"
+}
+cpp_program() { # cpp_program STATEMENT
+    echo '#include "clearmap_footprint.hpp"'
+    echo 'using namespace clearmap;'
+    echo 'void use(Map& map, const Path& path, const int* ints, const float* floats,'
+    echo '         const std::byte* bytes, const void* nothing, const Footprint& robot);'
+    echo 'void use(Map& map, const Path& path, const int* ints, const float* floats,'
+    echo '         const std::byte* bytes, const void* nothing, const Footprint& robot) {'
+    echo "(void)map, (void)path, (void)ints, (void)floats, (void)bytes, (void)nothing;"
+    echo "(void)robot; $1; }"
+}
+
+compiles() { # compiles LANGUAGE STATEMENT
+    case $1 in
+        c) c_program "$2" | LC_ALL=C "$cc" -std=c11 -Wall -Wextra -Wconversion -Werror \
+            -Iclients/c -c -o /dev/null -x c - ;;
+        cpp) cpp_program "$2" | LC_ALL=C "$cxx" -std=c++17 -Wall -Wextra -Wconversion -Werror \
+            -fsyntax-only -Iclients/c -Iclients/cpp -x c++ - ;;
+    esac 2> "$scratch/log"
+}
+taken() { # taken LANGUAGE STATEMENT
+    tried=$((tried + 1))
+    compiles "$1" "$2" || { failed=1; echo "refused: $2"; head -n 20 "$scratch/log"; }
+}
+refused() { # refused LANGUAGE WORDS STATEMENT
+    tried=$((tried + 1))
+    if compiles "$1" "$3"; then
+        failed=1
+        echo "this compiles: $3"
+    elif ! grep -qE "$2" "$scratch/log"; then
+        failed=1
+        echo "refused for another reason: $3"
+        head -n 20 "$scratch/log"
+    fi
+}
+
+check() { # check: all uses, by the compilers $cc and $cxx
+    at='clearmap_bits_at(words, 1, map, CLEARMAP_EUCLID2, CLEARMAP_OPEN, 0, 0, near)'
+    taken c "return $at"
+    taken c "if ($at != CLEARMAP_DONE) return 1"
+    refused c 'unused-result' "$at"
+
+    taken cpp 'Map::of_bytes(bytes, 12, 4, {4, 3}, {1, 1})'
+    taken cpp 'Map::of_bytes(std::vector<signed char>(12), {4, 3}, {1, 1})'
+    for cells in ints floats nothing; do
+        refused cpp 'its elements have the size 1' "Map::of_bytes($cells, 12, 4, {4, 3}, {1, 1})"
+    done
+    refused cpp 'its elements have the size 1' 'Map::of_bytes(std::vector<int>(12), {4, 3}, {1, 1})'
+
+    taken cpp 'if (map.is_clear(9, path) && map.is_clear(std::uint64_t{9}, path)) map.clear(0, 0, 1, 1)'
+    taken cpp 'if (auto near = map.clear_of(9, path)) map.paint(0, 0, near->cell.x, 1)'
+    refused cpp 'deleted' 'if (map.is_clear(2.5, path)) map.clear(0, 0, 1, 1)'
+    refused cpp 'deleted' 'if (map.clear_of(2.5f, path)) map.clear(0, 0, 1, 1)'
+    refused cpp 'unused|ignoring' 'map.is_clear(9, path)'
+    refused cpp 'unused|ignoring' 'map.clear_of(9, path)'
+    refused cpp 'unused|ignoring' 'map.clear_of(std::size_t{9}, path)'
+    refused cpp 'unused|ignoring' 'robot.hits(map, 1, 1, 0)'
+    refused cpp 'unused|ignoring' 'robot.is_clear(map, 1, 1, 0)'
+    refused cpp 'unused|ignoring' 'double cells; map.is_valid(1, 1, cells)'
+    refused cpp 'unused|ignoring' "const std::uint64_t* words{}; const clearmap_bits bits{}; \
+        clearmap_near near{}; clearmap_bits_at(words, 1, &bits, 0, 0, 0, 0, &near)"
+}
+
+for pair in gcc:g++ clang:clang++; do
+    cc=${pair%:*} cxx=${pair#*:}
+    if command -v "$cc" > /dev/null && command -v "$cxx" > /dev/null; then
+        check
+    else
+        echo "uses by $cc and $cxx left out: there is none of the two"
+    fi
+done
+echo "uses of the headers: $tried tried"
+exit "$failed"
