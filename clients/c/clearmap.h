@@ -122,7 +122,8 @@ typedef struct clearmap_cell {
  * The nearest obstacle of a cell: its distance, its column and its row. In the frame around a map
  * either may be -1, or the number of columns or rows. Of several at the least distance it is the
  * one of the least column; of those the one in the fewest rows away, and of two such the upper.
- * Where there is no obstacle: CLEARMAP_NO_OBSTACLE, and CLEARMAP_NOWHERE for both x and y.
+ * Where there is no obstacle: CLEARMAP_NO_OBSTACLE, and CLEARMAP_NOWHERE for both x and y. Neither
+ * -1 nor -2 is an index of an array: look at dist, and with a wall at both, before x and y are one.
  */
 typedef struct clearmap_near {
     uint32_t dist;

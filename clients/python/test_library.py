@@ -156,6 +156,41 @@ class Searches(unittest.TestCase):
             if dtype == bool:
                 np.testing.assert_array_equal(clearmap.distances(lies), squares_of(array))
 
+    def test_indices(self):
+        """Nearest obstacles as numpy's indices, row first: those of `nearest=True` turned round."""
+        numbers = np.random.default_rng(6)
+        for turn in range(max(ARRAYS // 3, 20)):
+            grid = random_obstacles(numbers)
+            grid.flat[numbers.integers(grid.size)] = True
+            metric, threads = METRICS[turn % 3], int(numbers.integers(1, 4))
+            told, spots = clearmap.distances(grid, metric, nearest=True)
+            for same, indices in (
+                clearmap.distances(grid, metric, nearest="indices"),
+                clearmap.Map(grid).distances(metric, "indices", threads),
+            ):
+                self.assertEqual((indices.dtype, indices.shape), (np.int32, (2, *grid.shape)))
+                np.testing.assert_array_equal(same, told)
+                np.testing.assert_array_equal(indices[0], spots[:, :, 1])
+                np.testing.assert_array_equal(indices[1], spots[:, :, 0])
+                self.assertTrue(grid[tuple(indices)].all())
+
+    def test_what_has_no_indices(self):
+        """-1 and -2 would count from the end."""
+        grid = np.zeros((3, 9), bool)
+        with self.assertRaisesRegex(ValueError, "no obstacle: there is no index"):
+            clearmap.distances(grid, nearest="indices")
+        for spot, cell in ((4, "column 0 and row 0"), (0, "column 2 and row 0")):
+            grid[:], grid[:, spot] = False, True
+            with self.assertRaisesRegex(ValueError, f"of {cell} is on the frame"):
+                clearmap.distances(grid, edge="wall", nearest="indices")
+        full = np.ones((3, 9), bool)
+        np.testing.assert_array_equal(
+            clearmap.distances(full, edge="wall", nearest="indices")[1], np.indices((3, 9))
+        )
+        for wrong in ("index", None, 2, "True"):
+            with self.assertRaisesRegex(ValueError, "True, False or 'indices'"):
+                clearmap.distances(grid, nearest=wrong)
+
     def test_bounds_of_dtypes(self):
         for dtype in "bBhHiIlLqQ":
             least, most = np.iinfo(dtype).min, np.iinfo(dtype).max

@@ -32,7 +32,7 @@ if TYPE_CHECKING:
     import numpy as np
     from numpy.typing import NDArray
 
-    from .rows import Distances, Obstacles
+    from .rows import Distances, Indices, Nearest, Obstacles
     from .signed import Reals
 
 M = TypeVar("M", bound="Map")
@@ -83,6 +83,9 @@ class Map:
     """A map of this process: the cells of a grid, as `distances` takes it, in an eighth of a byte
     per cell. The grid isn't used afterwards. Queries return what those of a `Pinned` return, and
     raise what they raise.
+
+    Cells and obstacles are (column, row), where numpy's indices have the row first: cell (x, y) is
+    grid[y, x]. On the frame of a wall either is -1, or one after the last.
 
     Any threads may query, paint and clear one map at any time: a query answers for the cells as
     they are when it starts. `paint` and `clear` copy the map's bits, and wait only for each other;
@@ -249,7 +252,11 @@ class Map:
     def distances(
         self, metric: str = ..., *, nearest: Literal[True], threads: int = ...
     ) -> Tuple[Distances, Obstacles]: ...
-    def distances(self, metric: str = EUCLID2, nearest: bool = False, threads: int = 1) -> Any:
+    @overload
+    def distances(
+        self, metric: str = ..., *, nearest: Literal["indices"], threads: int = ...
+    ) -> Tuple[Distances, Indices]: ...
+    def distances(self, metric: str = EUCLID2, nearest: Nearest = False, threads: int = 1) -> Any:
         """As the package's `distances`, of this map and its edge."""
         return distances_of(self._held.memory, metric, self.edge, nearest, threads)
 

@@ -38,7 +38,7 @@ from .requests import (
 
 if TYPE_CHECKING:
     from .client import Client
-    from .rows import Distances, Obstacles
+    from .rows import Distances, Indices, Nearest, Obstacles
 
 BATCH = 64  # requests that are sent before their replies are read
 
@@ -212,10 +212,19 @@ class Pinned:
         threads: int = ...,
         edge: Optional[str] = ...,
     ) -> "Tuple[Distances, Obstacles]": ...
+    @overload
+    def distances(
+        self,
+        metric: str = ...,
+        *,
+        nearest: Literal["indices"],
+        threads: int = ...,
+        edge: Optional[str] = ...,
+    ) -> "Tuple[Distances, Indices]": ...
     def distances(
         self,
         metric: str = EUCLID2,
-        nearest: bool = False,
+        nearest: "Nearest" = False,
         threads: int = 1,
         *,
         edge: Optional[str] = None,

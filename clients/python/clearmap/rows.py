@@ -2,10 +2,10 @@
 from __future__ import annotations
 
 import ctypes
-from typing import TYPE_CHECKING, Any, Callable, Literal, Optional, Tuple, overload
+from typing import TYPE_CHECKING, Any, Callable, Literal, Optional, Tuple, Union, overload
 
 from .grids import OPEN, Memory, edge_of, map_of, number_of
-from .library import check, library, numpy
+from .library import NO_OBSTACLE, check, library, numpy
 from .limits import Limits
 from .requests import EUCLID2, whole
 
@@ -15,6 +15,10 @@ if TYPE_CHECKING:
 
     Distances = NDArray[np.uint32]
     Obstacles = NDArray[np.int16]
+    Indices = NDArray[np.int32]
+
+INDICES: Literal["indices"] = "indices"  # how to ask for nearest obstacles as numpy's indices
+Nearest = Union[bool, Literal["indices"]]
 
 
 # ---- rows, shared among threads
@@ -52,16 +56,39 @@ def near_type() -> Any:
     return numpy().dtype([("dist", "u4"), ("x", "i2"), ("y", "i2")])
 
 
-def distances_of(memory: Memory, metric: str, edge: str, nearest: bool, threads: int) -> Any:
+def distances_of(memory: Memory, metric: str, edge: str, nearest: Nearest, threads: int) -> Any:
     """What `distances` returns, for a map."""
     np = numpy()
+    if nearest not in (False, True, INDICES):
+        raise ValueError(f"nearest is {nearest!r:.80}, where True, False or 'indices' is wanted")
     numbers = number_of(metric), edge_of(edge)
     height, width = memory.layout.height, memory.layout.width
     out = np.empty((height, width), near_type() if nearest else np.uint32)
     in_bands(height, threads, lambda y0, y1: fill(memory, *numbers, y0, y1, out[y0:y1]))
     if not nearest:
         return out
+    if nearest == INDICES:
+        return out["dist"], _indices_of(out)
     return out["dist"], out.view(np.int16).reshape(height, width, 4)[:, :, 2:]
+
+
+def _indices_of(nears: Any) -> Any:
+    """Rows and columns of nearest obstacles that are all cells of the map. ValueError for others:
+    numpy would count -1 and -2 from the end."""
+    np = numpy()
+    indices = np.empty((2, *nears.shape), np.int32)
+    indices[0], indices[1] = nears["y"], nears["x"]
+    if nears["dist"][0, 0] == NO_OBSTACLE:
+        raise ValueError("the map has no obstacle: there is no index of one")
+    height, width = nears.shape
+    away = (indices < 0).any(axis=0) | (indices[0] >= height) | (indices[1] >= width)
+    if away.any():
+        y, x = np.argwhere(away)[0].tolist()
+        raise ValueError(
+            f"the nearest obstacle of column {x} and row {y} is on the frame of a wall, where no "
+            "cell has an index: ask with nearest=True"
+        )
+    return indices
 
 
 @overload
@@ -88,11 +115,23 @@ def distances(
     high: Optional[float] = ...,
     unknown: Optional[float] = ...,
 ) -> Tuple[Distances, Obstacles]: ...
+@overload
+def distances(
+    grid: object,
+    metric: str = ...,
+    edge: str = ...,
+    *,
+    nearest: Literal["indices"],
+    threads: int = ...,
+    low: Optional[float] = ...,
+    high: Optional[float] = ...,
+    unknown: Optional[float] = ...,
+) -> Tuple[Distances, Indices]: ...
 def distances(
     grid: object,
     metric: str = EUCLID2,
     edge: str = OPEN,
-    nearest: bool = False,
+    nearest: Nearest = False,
     threads: int = 1,
     *,
     low: Optional[float] = None,
@@ -116,6 +155,11 @@ def distances(
     of the nearest obstacle of cell (x, y); on the frame of a wall either is -1, or one after the
     last; NOWHERE, twice, if there is none. Ties go to the least column; among those to the fewest
     rows away, and of two such to the upper one.
+
+    These are no indices of numpy, which have the row first, and for which -1 and -2 count from the
+    end. `nearest="indices"` gives (distances, indices) with indices as scipy's: of the shape (2,
+    rows, columns) and the dtype int32, so that grid[tuple(indices)] is each cell's nearest
+    obstacle. It is a ValueError if there is none, or if one is on the frame.
 
     `threads` share the rows. A grid of bool, uint8 or int8 whose rows lie one after another, even
     with gaps between them, is read in place: nobody may write it meanwhile. int8 limits from below
