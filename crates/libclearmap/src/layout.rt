@@ -14,7 +14,7 @@ pub struct ClearmapBytes {
     pub stride: usize,
     /// The least byte that marks an obstacle.
     pub low: u8,
-    /// The greatest byte that marks an obstacle.
+    /// The greatest byte that marks an obstacle: `low` or more.
     pub high: u8,
 }
 

@@ -1,5 +1,5 @@
-//! The statuses of calls. The first that applies is returned, in the order of their numbers, but
-//! that `MEMORY` comes after `RANGE`.
+//! The statuses of calls, in the order in which they are checked: the first that applies is
+//! returned.
 
 ghost use Rattle.std.specs.Prelude.{◌≡◌, ◌≤◌};
 ghost use Rattle.libclearmap.specs.Layouts.{IsShape};
@@ -40,11 +40,11 @@ pub const CROOKED: u32 = 8;
 /// The output has too little capacity.
 pub const ROOM: u32 = 9;
 
-/// The C library had no memory for the call.
-pub const MEMORY: u32 = 10;
-
 /// No byte marks an obstacle: the least that does is above the greatest.
 pub const RANGE: u32 = 11;
+
+/// The C library had no memory for the call.
+pub const MEMORY: u32 = 10;
 
 /// The largest stride.
 const MOST_STRIDE: usize = 0xffff_ffff;
