@@ -59,11 +59,11 @@ extern "C" {
 #endif
 
 #define CLEARMAP_VERSION_MAJOR 0
-#define CLEARMAP_VERSION_MINOR 2
+#define CLEARMAP_VERSION_MINOR 3
 #define CLEARMAP_VERSION_PATCH 0
-#define CLEARMAP_VERSION "0.2.0"
+#define CLEARMAP_VERSION "0.3.0"
 
-/* The version of the library that is linked, as "0.2.0". It is constant, and never null. */
+/* The version of the library that is linked, as "0.3.0". It is constant, and never null. */
 const char *clearmap_version(void);
 
 /* ---- Statuses -------------------------------------------------------------------------------- */

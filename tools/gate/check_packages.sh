@@ -34,7 +34,7 @@ sed -n '/^```cpp$/,/^```$/{/^```/d;p}' docs/use/LIBRARY.md > "$scratch/plan.cpp"
 cat > "$scratch/CMakeLists.txt" << 'PROJECT'
 cmake_minimum_required(VERSION 3.16)
 project(plan CXX)
-find_package(clearmap 0.2 REQUIRED)
+find_package(clearmap 0.3 REQUIRED)
 add_executable(plan plan.cpp)
 target_link_libraries(plan clearmap::clearmap)
 PROJECT

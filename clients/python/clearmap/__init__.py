@@ -73,7 +73,7 @@ from .tables import Entry, read_distances
 from .tiles import FARTHER, capped_distances
 from .transforms import distance_transform_cdt, distance_transform_edt
 
-__version__ = "0.2.0"
+__version__ = "0.3.0"
 __all__ = [
     "Client",
     "Pinned",

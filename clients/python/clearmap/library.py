@@ -10,7 +10,7 @@ from typing import Any, Dict, List, Optional
 from .errors import ClearmapError
 
 FILE = "libclearmap.so.1"
-VERSION = "0.2."  # the start of the versions of the library that have the calls below
+VERSION = "0.3."  # the start of the versions of the library that have the calls below
 NO_OBSTACLE = 0xFFFF_FFFF  # the distance where there is no obstacle at all
 NOWHERE = -2  # the column and the row of no obstacle
 
