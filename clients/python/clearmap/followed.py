@@ -18,10 +18,6 @@ class FixedMap(Map):
     def _draw(self, name: str, *corners: int) -> NoReturn:
         raise TypeError(FIXED)
 
-    def copy(self) -> Map:
-        """A map of the same cells and edge that may be painted and cleared."""
-        return Map._of(self._held.memory, self.edge)
-
 
 @dataclass(frozen=True, eq=False)
 class Version:

@@ -4,7 +4,6 @@ from __future__ import annotations
 import ctypes
 import functools
 import math
-import threading
 from array import array
 from typing import (
     TYPE_CHECKING,
@@ -19,7 +18,7 @@ from typing import (
     overload,
 )
 
-from . import requests
+from . import carried, requests
 from .errors import BadArguments, BadPath, Crooked, OutOfRange, Refused, Size
 from .grids import EDGES, OPEN, Memory, edge_of, map_of, number_of
 from .library import CROOKED, NO_OBSTACLE, Bits, CFound, CNear, check, library, numpy
@@ -27,6 +26,7 @@ from .limits import Limits
 from .requests import EUCLID2, LARGEST_SIDE, LONGEST_PATH, Cell, Near, Request, Tightest, whole
 from .rows import distances_of
 from .signed import NO_BANDS, gradients_of, signed_of
+from .turns import Turn
 
 if TYPE_CHECKING:
     import numpy as np
@@ -89,7 +89,11 @@ class Map:
 
     Any threads may query, paint and clear one map at any time: a query answers for the cells as
     they are when it starts. `paint` and `clear` copy the map's bits, and wait only for each other;
-    a signal's handler may call neither.
+    a signal's handler may call neither. A child that is forked meanwhile has the cells from before
+    or after the change, and its own turn.
+
+    A map can be copied and pickled, and two are equal if their sizes, edges and obstacles are. It
+    has no hash, since it may change.
     """
 
     def __init__(
@@ -105,7 +109,7 @@ class Map:
 
     def _begin(self, memory: Memory, edge: str) -> None:
         """Holds a map in bits that nobody writes any more."""
-        self._edge, self._lock = edge_of(edge), threading.Lock()
+        self._edge, self._turn = edge_of(edge), Turn()
         self._held = Held(memory, self._edge)
         self._size = self._held.size
 
@@ -115,6 +119,26 @@ class Map:
         made = cls.__new__(cls)
         made._begin(memory, edge)
         return made
+
+    def copy(self) -> Map:
+        """A map of the same cells and edge, which may be painted and cleared."""
+        return Map._of(self._held.memory, self.edge)  # cells that nobody writes
+
+    def __copy__(self: M) -> M:
+        return type(self)._of(self._held.memory, self.edge)
+
+    def __deepcopy__(self: M, memo: object) -> M:
+        return type(self)._of(self._held.memory, self.edge)
+
+    def __reduce__(self) -> Tuple[Any, ...]:
+        """A map is pickled with the cells as they are now."""
+        return carried.rebuilt, carried.parts(self)
+
+    def __eq__(self, other: object) -> bool:
+        """Whether sizes, edges and obstacles are the same."""
+        return carried.are_same(self, other) if isinstance(other, Map) else NotImplemented
+
+    __hash__ = None  # type: ignore[assignment]  # what may be painted has none
 
     @property
     def size(self) -> Size:
@@ -292,7 +316,7 @@ class Map:
         """Replaces the cells, which queries may still read, by a changed copy."""
         x0, y0, x1, y1 = self._corners(name, *corners)
         first, mask = _mask(x0, x1)
-        with self._lock:
+        with self._turn.lock():
             _, cells, length, old = self._held.memory
             cells, blank = cells.copy(), int(old.blank_bands)
             part = cells[y0:y1, first : first + len(mask)]

@@ -51,6 +51,16 @@ def fill(memory: Memory, metric: int, edge: int, y0: int, y1: int, out: Any) -> 
     check(call(*where, metric, edge, y0, y1, out.ctypes.data, out.size))
 
 
+def shared(memory: Memory, threads: int) -> Memory:
+    """A map that several threads read: one in place is packed first, so that all read the cells as
+    they are at one time."""
+    if memory.kind == "bits" or whole(threads) < 2:
+        return memory
+    from .maps import packed  # which has calls of this module
+
+    return packed(memory)
+
+
 def near_type() -> Any:
     """clearmap_near, as numpy has it."""
     return numpy().dtype([("dist", "u4"), ("x", "i2"), ("y", "i2")])
@@ -62,6 +72,7 @@ def distances_of(memory: Memory, metric: str, edge: str, nearest: Nearest, threa
     if nearest not in (False, True, INDICES):
         raise ValueError(f"nearest is {nearest!r:.80}, where True, False or 'indices' is wanted")
     numbers = number_of(metric), edge_of(edge)
+    memory = shared(memory, threads)
     height, width = memory.layout.height, memory.layout.width
     out = np.empty((height, width), near_type() if nearest else np.uint32)
     in_bands(height, threads, lambda y0, y1: fill(memory, *numbers, y0, y1, out[y0:y1]))
@@ -161,8 +172,9 @@ def distances(
     rows, columns) and the dtype int32, so that grid[tuple(indices)] is each cell's nearest
     obstacle. It is a ValueError if there is none, or if one is on the frame.
 
-    `threads` share the rows. A grid of bool, uint8 or int8 whose rows lie one after another, even
-    with gaps between them, is read in place: nobody may write it meanwhile. int8 limits from below
+    `threads` share the rows, of a copy of the map in bits. Without them a grid of bool, uint8 or
+    int8 whose rows lie one after another, even with gaps between them, is read in place: nobody may
+    write it meanwhile. int8 limits from below
     0 to 0 or more cost a copy of one byte per cell, as do other dtypes and orders, and `unknown`
     unless it is next to the limits.
 

@@ -8,7 +8,7 @@ from .grids import OPEN, edge_of, flat_array, map_of, number_of
 from .library import NO_OBSTACLE, numpy
 from .limits import Limits
 from .requests import EUCLID2, LARGEST_SIDE, whole
-from .rows import fill, in_bands
+from .rows import fill, in_bands, shared
 
 if TYPE_CHECKING:
     from .rows import Distances
@@ -97,7 +97,7 @@ def _work_tile(
     x0, y0, x1, y1 = tile
     left, top = max(x0 - asked.reach, 0), max(y0 - asked.reach, 0)
     window = array[top : y1 + asked.reach, left : x1 + asked.reach]
-    memory = map_of(window, asked.limits)
+    memory = shared(map_of(window, asked.limits), threads)
 
     def work(first: int, end: int) -> None:
         found = np.empty((end - first, window.shape[1]), np.uint32)

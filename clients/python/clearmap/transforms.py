@@ -7,7 +7,7 @@ from typing import Any, Callable, Iterator, List, NamedTuple, Optional, Sequence
 from .grids import OPEN, edge_of, number_of, zeros_of
 from .library import NO_OBSTACLE, numpy
 from .requests import CHESS, CITY, EUCLID2
-from .rows import fill, in_bands, near_type
+from .rows import fill, in_bands, near_type, shared
 
 CHAMFERS = {"chessboard": CHESS, "taxicab": CITY, "cityblock": CITY, "manhattan": CITY}
 PIECE = 1 << 15  # cells that are converted at once, by arrays that the processor's cache holds
@@ -101,7 +101,7 @@ def _transformed(
     if not any(wanted):
         raise ValueError("at least one of return_distances and return_indices must be True")
     np = numpy()
-    memory = zeros_of(grid)
+    memory = shared(zeros_of(grid), threads)
     shape = memory.layout.height, memory.layout.width
     found = np.empty(shape, dtype) if wanted.distances else None
     indices = np.empty((2, *shape), np.int32) if wanted.indices else None
