@@ -5,11 +5,16 @@ NPY_PROMOTION_STATE=weak in the environment gives numpy 1 the rules of numpy 2, 
 few bits stays one in a sum with an int: the gate runs these tests by both. They need the library.
 """
 import math
+import os
+import threading
+import time
 import unittest
+from unittest import mock
 
 import numpy as np
 
 import clearmap
+from fakes import Fake
 
 CALLS = (
     clearmap.Map,
@@ -42,6 +47,27 @@ class Cells(unittest.TestCase):
             painted = clearmap.Map(area.grid())
             painted.paint(kind(0), kind(0), kind(9), kind(3))
             self.assertEqual(painted.grid(kind(1), kind(4)).sum(), 18, kind)
+
+
+class TimeOuts(unittest.TestCase):
+    """A clock's time and a number of few bits have a sum of few bits: they are made floats."""
+
+    def test_a_client(self):
+        with Fake(b"OK 0\n") as fake:
+            with clearmap.Client(fake.port, timeout=np.float16(5)) as client:
+                self.assertIs(type(client._connection._timeout), float)
+                self.assertEqual(client.pin().version, 0)
+
+    def test_a_follower(self):
+        follower = clearmap.Follower.__new__(clearmap.Follower)  # one without a thread
+        follower._process, follower._what, follower._version = os.getpid(), "it", None
+        follower._error, follower._ended = None, threading.Event()
+        follower._changed = threading.Condition()
+        with mock.patch("threading._time", lambda: 1e5 + time.monotonic()):
+            for seconds in (np.float16(0.05), np.float32(0.05), 0.05, np.uint8(0)):
+                begun = time.monotonic()
+                self.assertRaises(clearmap.NoVersion, follower.wait, timeout=seconds)
+                self.assertLess(time.monotonic() - begun, 5)
 
 
 def obstacles(grid, **words):

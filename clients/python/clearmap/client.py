@@ -53,7 +53,8 @@ class Client:
     ) -> None:
         if timeout is not None and not timeout > 0:
             raise ValueError(f"a time-out of {timeout} s, where more than 0 or None is wanted")
-        self._address, self._timeout = (host, port), timeout
+        self._address = host, port
+        self._timeout = None if timeout is None else float(timeout)
         self._checkpoints, self._reconnect = checkpoints, reconnect
         self._size = None if size is None else size_of(size)
         self._lock = threading.RLock()

@@ -42,7 +42,7 @@ class Follower:
             raise ValueError(f"a time-out of {timeout} s, where more than 0 is wanted")
         self._what = f"'{name}' at {place_of(url)}"
         self._fetcher = Fetcher(
-            connected(url, timeout), name, None if size is None else size_of(size)
+            connected(url, float(timeout)), name, None if size is None else size_of(size)
         )
         self._version: Optional[Version] = None
         self._newest_at = -math.inf  # when the version was last known to be the server's newest
@@ -90,8 +90,9 @@ class Follower:
         """The newest version, once there is one, or one that is newer than this. NoVersion if none
         comes within the time-out, or the follower is closed."""
         self._check_process()
+        most = None if timeout is None else float(timeout)  # few bits hold no time of a clock
         with self._changed:
-            self._changed.wait_for(lambda: self._is_newer(newer_than) or self._is_over(), timeout)
+            self._changed.wait_for(lambda: self._is_newer(newer_than) or self._is_over(), most)
             if not self._is_newer(newer_than):
                 raise NoVersion(self._none(newer_than))
             return self.version
