@@ -4,7 +4,7 @@
 // includes, are not (test_map.cpp and test_field.cpp try them). Robots of any convex shape are in
 // clearmap_footprint.hpp, and signed distances in clearmap_signed.hpp.
 //
-//     auto map = clearmap::Map::of_bytes(costmap, {640, 480}, {253, 254});
+//     auto map = clearmap::Map::of_bytes(costmap, {640, 480}, {253, 254});  // unknown: to 255
 //     double cells;
 //     if (map.is_valid(3, 4, cells)) ..                // as OMPL's isValid(state, dist)
 //     if (map.is_clear(9, {{0, 0}, {30, 0}})) ..       // each cell keeps 3 cells or more

@@ -136,7 +136,9 @@ class Map:
 
     def __eq__(self, other: object) -> bool:
         """Whether sizes, edges and obstacles are the same."""
-        return carried.are_same(self, other) if isinstance(other, Map) else NotImplemented
+        if not isinstance(other, Map):
+            return NotImplemented
+        return carried.are_same(self, other)
 
     __hash__ = None  # type: ignore[assignment]  # what may be painted has none
 
