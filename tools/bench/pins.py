@@ -19,7 +19,7 @@ import sys
 import tempfile
 
 from bench import SEED, floor_plan
-from program import HERE, STORE_NAME, build
+from program import HERE, STORE_NAME, add_unproved, build
 
 
 def build_lmdb(folder):
@@ -57,10 +57,11 @@ def main():
     parser = argparse.ArgumentParser(description=__doc__.splitlines()[0])
     parser.add_argument("--rounds", type=int, default=3)
     parser.add_argument("--seconds", type=int, default=2)
+    add_unproved(parser)
     given = parser.parse_args()
     with tempfile.TemporaryDirectory() as work:
         uses = ["session", "shelf", "map_core", "pbm", "bits", "metric"]
-        own = build(work, (HERE / "pins" / "main.rt.in").read_text(), uses, answers=STORE_NAME)
+        own = build(work, (HERE / "pins" / "main.rt.in").read_text(), uses, answers=STORE_NAME, proved=not given.unproved)
         plan = pathlib.Path(work) / "plan.pbm"
         floor_plan(4096, random.Random(SEED)).write(plan)
         peer = build_lmdb(work)

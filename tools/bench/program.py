@@ -34,9 +34,19 @@ def without_edge(text):
     return text.replace("edge, ", "").replace("Edge, ", "").replace("walled = ", "let _ = ").replace("let mut let _", "let _")
 
 
-def build(folder, text, uses, root=ROOT, answers=None):
+def unproved(measure):
+    """A script that runs the sources in a crate's folder as they stand: for answers, not for times.
+    """
+    script = measure / "out" / "measure"
+    script.parent.mkdir(exist_ok=True)
+    script.write_text(f"#!/bin/sh\ncd '{measure.resolve()}' && exec rt try --seconds 1000 -- \"$@\"\n")
+    script.chmod(0o755)
+    return script
+
+
+def build(folder, text, uses, root=ROOT, answers=None, proved=True):
     """Proves and builds this text, over the crates that it uses, as a program named `measure` in
-    this folder.
+    this folder; or, if it isn't to be proved, makes a script that runs it.
 
     The crates are those of the clone at `root`; `answers` are the program's own, where it has any.
     """
@@ -62,6 +72,8 @@ def build(folder, text, uses, root=ROOT, answers=None):
     edged = (root / "crates" / "metric" / "src" / "edge.rt").exists()
     (measure / "src" / "main.rt").write_text(text if edged else without_edge(text))
     (folder / "crates.txt").write_text("\n".join([*kept, f"measure: {' '.join(uses)}"]) + "\n")
+    if not proved:
+        return unproved(measure)
     built = subprocess.run(["rt", "run"], cwd=measure, capture_output=True, text=True)
     program = measure / "out" / "measure"
     if not program.exists():
@@ -69,6 +81,12 @@ def build(folder, text, uses, root=ROOT, answers=None):
     return program
 
 
-def build_over_sessions(folder, source):
+def build_over_sessions(folder, source, proved=True):
     """A program over a store's sessions, whose one answer names the store that it makes."""
-    return build(folder, source.read_text(), ["session", "shelf", "map_core", "bits", "metric"], answers=STORE_NAME)
+    uses = ["session", "shelf", "map_core", "bits", "metric"]
+    return build(folder, source.read_text(), uses, answers=STORE_NAME, proved=proved)
+
+
+def add_unproved(parser):
+    """The flag of a script whose program is proved, for a run that compares answers only."""
+    parser.add_argument("--unproved", action="store_true", help="run it without a proof, slowly: its answers alone count")

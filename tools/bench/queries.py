@@ -23,11 +23,12 @@ import tempfile
 import time
 
 import bench
-from program import HERE, build
+from program import HERE, add_unproved, build
 from twin import build_twin
 
 SIDE = 4096
 LEAST_SIDE = 1000  # cells; a path has as many
+USES = ["clearance", "pbm", "bits", "metric"]
 
 
 def figures(program, source):
@@ -74,10 +75,10 @@ def side_of(word):
     return side
 
 
-def print_queries(sources, rounds, work):
+def print_queries(sources, rounds, work, proved):
     """The table of the queries, a row as soon as it is measured."""
     text = (HERE / "queries" / "main.rt.in").read_text()
-    program, twin = build(work, text, ["clearance", "pbm", "bits", "metric"]), build_twin(work)
+    program, twin = build(work, text, USES, proved=proved), build_twin(work)
     heads = ("`read_image`, us", "`at`, ns", "`least_in`, ns", "`along`, ns", "`clear_of`, ns", "walk, us", "`write_raw`, us", "`write_plain`, us")
     print("| Map | " + " | ".join(heads) + " |\n|" + "---|" * (len(heads) + 1))
     for name, source in sources:
@@ -115,18 +116,21 @@ def main():
     parser.add_argument("--side", type=side_of, default=SIDE, help="columns and rows of each map")
     parser.add_argument("--program", type=pathlib.Path, help="the built clearmap, for `dist --query` whole")
     parser.add_argument("--no-queries", action="store_true", help="only `dist --query` whole")
+    parser.add_argument("--maps", type=int, default=len(bench.MAPS), help="how many of the maps")
+    add_unproved(parser)
     given = parser.parse_args()
     memory = "/dev/shm" if os.path.isdir("/dev/shm") else None
     with tempfile.TemporaryDirectory(dir=memory) as maps, tempfile.TemporaryDirectory() as work:
         sources = []
-        for name, make in bench.MAPS:
+        for name, make in bench.MAPS[: given.maps]:
             source = pathlib.Path(maps) / (re.sub(r"\W+", "_", name) + ".pbm")
             make(given.side, random.Random(bench.SEED)).write(source)
             sources.append((name, source))
         if not given.no_queries:
-            print_queries(sources, given.rounds, work)
+            print_queries(sources, given.rounds, work, not given.unproved)
         if given.program:
-            print_whole(given.program, dict(sources)["20 % at random"], given.side)
+            source = dict(sources).get("20 % at random", sources[-1][1])
+            print_whole(given.program, source, given.side)
 
 
 if __name__ == "__main__":

@@ -28,7 +28,7 @@ import tempfile
 
 import bench
 from hard_maps import HARD
-from program import HERE, ROOT, build
+from program import HERE, ROOT, add_unproved, build
 
 USES = ["field", "pbm", "bits", "metric"]
 METRICS = ("euclid2", "city", "chess")
@@ -201,10 +201,11 @@ def main():
     parser.add_argument("--wall", action="store_true", help="the border as a wall, next to an open one, without OpenCV")
     parser.add_argument("--hard", action="store_true", help="hard maps besides, without OpenCV")
     parser.add_argument("--huge-pages", action="store_true", help="ask for huge pages in all programs that are measured")
+    add_unproved(parser)
     given = parser.parse_args()
     with tempfile.TemporaryDirectory() as work:
         work = pathlib.Path(work)
-        program = build(work / "now", program_text(ROOT), USES)
+        program = build(work / "now", program_text(ROOT), USES, proved=not given.unproved)
         before = build(work / "before", program_text(given.before), USES, given.before) if given.before else None
         if given.huge_pages:
             bench.ask_for_huge_pages()

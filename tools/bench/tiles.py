@@ -12,7 +12,7 @@ import subprocess
 import sys
 import tempfile
 
-from program import HERE, build_over_sessions
+from program import HERE, add_unproved, build_over_sessions
 
 SIDES = (512, 4096)
 KINDS = ("paint", "stamp", "publish", "collect")
@@ -32,9 +32,10 @@ def run(program, side):
 def main():
     parser = argparse.ArgumentParser(description=__doc__.splitlines()[0])
     parser.add_argument("--rounds", type=int, default=3)
+    add_unproved(parser)
     given = parser.parse_args()
     with tempfile.TemporaryDirectory() as work:
-        program = build_over_sessions(work, HERE / "tiles" / "main.rt.in")
+        program = build_over_sessions(work, HERE / "tiles" / "main.rt.in", not given.unproved)
         least = {side: {} for side in SIDES}
         for _ in range(given.rounds):
             for side in SIDES:
