@@ -29,7 +29,8 @@ import tempfile
 import time
 
 HERE = pathlib.Path(__file__).resolve().parent
-PROGRAM = HERE.parent.parent / "crates" / "clearmap" / "out" / "clearmap"
+BUILT = HERE.parent.parent / "crates" / "clearmap" / "out" / "clearmap"
+PROGRAM = pathlib.Path(os.environ.get("CLEARMAP") or BUILT)
 PYTHON = "/usr/bin/python3"
 SCIPY_DIST = str(HERE / "scipy_dist.py")
 CHECK = str(HERE / "check.py")
