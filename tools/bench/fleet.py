@@ -131,12 +131,13 @@ def main():
     words = argparse.ArgumentParser(description=__doc__.splitlines()[0])
     words.add_argument("--followers", type=int, default=200)
     words.add_argument("--rounds", type=int, default=10)
+    words.add_argument("--sides", type=int, nargs="+", default=[1024, 4096], help="256 and more")
     options = words.parse_args()
     print(f"| map | copy, ms | first follower, ms | last of {options.followers}, ms | the most | "
           "bytes of a paint | the most |")  # fmt: skip
     print("|---|---|---|---|---|---|---|")
     source = random.Random(2)
-    for side in (1024, 4096):
+    for side in options.sides:
         image = floor(side)
         times = latencies(image, options.followers, options.rounds)
         copy, first, last = ([1000 * row[k] for row in times] for k in range(3))
@@ -146,10 +147,11 @@ def main():
                max(last), statistics.median(counts), max(counts))  # fmt: skip
         told = " | ".join(f"{number:,.0f}" for number in row)
         print(f"| floor plan, {side} a side ({whole:,} bytes at first) | {told} |", flush=True)
-    corners = [(256 * k - 4, 192 * k - 4) for k in range(1, 8)]
-    whole, counts = received(room(4096, 4096, share=0.5), corners)
+    side = max(options.sides)
+    corners = [(256 * k - 4, 192 * k - 4) for k in range(1, 8) if 256 * k + 4 <= side]
+    whole, counts = received(room(side, side, share=0.5), corners)
     told = f"{statistics.median(counts):,.0f} | {max(counts):,}"
-    print(f"| half of the cells, 4096 a side, corners of tiles ({whole:,} bytes at first) | - | - "
+    print(f"| half of the cells, {side} a side, corners of tiles ({whole:,} bytes at first) | - | - "
           f"| - | - | {told} |")  # fmt: skip
 
 
