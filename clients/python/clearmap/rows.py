@@ -174,9 +174,8 @@ def distances(
 
     `threads` share the rows, of a copy of the map in bits. Without them a grid of bool, uint8 or
     int8 whose rows lie one after another, even with gaps between them, is read in place: nobody may
-    write it meanwhile. int8 limits from below
-    0 to 0 or more cost a copy of one byte per cell, as do other dtypes and orders, and `unknown`
-    unless it is next to the limits.
+    write it meanwhile. int8 limits from below 0 to 0 or more cost a copy of one byte per cell, as
+    do other dtypes and orders, and `unknown` unless it is next to the limits.
 
     ValueError and TypeError for anything but a grid, and MemoryError.
     """
