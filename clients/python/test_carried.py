@@ -21,7 +21,7 @@ import clearmap
 from clearmap import rows, tiles, transforms
 from clearmap.grids import Memory
 from clearmap.library import Bits
-from clearmap.signed import ALL_BANDS
+from clearmap.signed import NO_BANDS
 
 ARRAYS = int(os.environ.get("ARRAYS", "150"))
 EDGES = ("open", "wall")
@@ -90,7 +90,7 @@ class Copies(unittest.TestCase):
         """They are no cells: maps that differ there are equal."""
         words = np.array([[0b101], [0]], np.uint64)
         one, other = (
-            clearmap.Map._of(Memory("bits", cells, 2, Bits(3, 2, 1, ALL_BANDS)), "open")
+            clearmap.Map._of(Memory("bits", cells, 2, Bits(3, 2, 1, NO_BANDS)), "open")
             for cells in (words, words | np.uint64(1 << 3))
         )
         self.assertEqual(one, other)
