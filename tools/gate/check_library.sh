@@ -161,7 +161,8 @@ says() { # says WHAT WORDS PROGRAM ..: runs a program of the page, which says so
     try "$what" env LD_LIBRARY_PATH="$prefix/lib" "$@"
     [ "$(cat "$scratch/log")" = "$words" ] || { failed=1; echo "$what should say: $words"; }
 }
-c_says='clearance 0.250 m, nearest (7, 4)'
+python_says='clearance 0.250 m, nearest (7, 4)'
+c_says="$python_says; the path is clear"
 cpp_says='the path is clear: 0.751665 m at its tightest; 1.5 m at (2, 2)'
 
 if wants pkg-config "the page's programs by pkg-config"; then
@@ -184,7 +185,7 @@ mkdir -p "$prefix/share/clearmap/python"
 cp -r clients/python/clearmap "$prefix/share/clearmap/python/"
 if [ -n "$arrays" ]; then
     export PYTHONPATH="$prefix/share/clearmap/python"
-    says 'page by Python' "$c_says" "$arrays" "$scratch/page.py"
+    says 'page by Python' "$python_says" "$arrays" "$scratch/page.py"
     try 'its library' "$arrays" -c 'import clearmap.library as it; it.library(); print(it._found())'
     [ "$(cat "$scratch/log")" = "$prefix/lib/libclearmap.so.1" ] || failed=1
     unset PYTHONPATH
