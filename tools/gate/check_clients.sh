@@ -30,7 +30,7 @@ for test in clients/python/test_clearmap.py clients/python/test_in_step.py \
 done
 
 # What works in process: with the built library, or the one that CLEARMAP_LIBRARY names.
-library=${CLEARMAP_LIBRARY:-crates/libclearmap/out/libclearmap.so.0}
+library=${CLEARMAP_LIBRARY:-crates/libclearmap/out/libclearmap.so.1}
 arrays=$(tools/python_with numpy)
 if [ -n "$arrays" ] && [ -e "$library" ]; then
     for test in clients/python/test_library.py clients/python/test_maps.py \

@@ -56,7 +56,7 @@ judged
 expect 'the served terminal' "$(cat "$room/served")" "$(cat "$room/wanted")"
 
 python=$(tools/python_with numpy)
-if [ -n "$python" ] && [ -e crates/libclearmap/out/libclearmap.so.0 ]; then
+if [ -n "$python" ] && [ -e crates/libclearmap/out/libclearmap.so.1 ]; then
     sed -n 's/^ *\(.*[^ ]\) *# Python: \(.*\)$/import clearmap; assert \1.tolist() == \2/p' \
         README.md > "$room/lines.py"
     expect 'lines for Python' "$(grep -c assert "$room/lines.py")" 1

@@ -23,7 +23,7 @@ tried "${images:-python3}" tools/ros/test_clearmap_ros.py
 tried python3 tools/ros/test_clearmap_grid.py
 
 # Costmaps, with the built library or the one that CLEARMAP_LIBRARY names.
-library=${CLEARMAP_LIBRARY:-crates/libclearmap/out/libclearmap.so.0}
+library=${CLEARMAP_LIBRARY:-crates/libclearmap/out/libclearmap.so.1}
 arrays=$(tools/python_with numpy, PIL.Image)
 if [ -n "$arrays" ] && [ -e "$library" ]; then
     for test in costmap follow ros2_node; do
