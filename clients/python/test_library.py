@@ -63,6 +63,14 @@ def searched(obstacles, metric, edge):
     return told, where
 
 
+def ends_of(dtype):
+    """The least and the greatest number of a dtype."""
+    if dtype.kind == "b":
+        return 0, 1
+    ends = np.finfo(dtype) if dtype.kind == "f" else np.iinfo(dtype)
+    return ends.min, ends.max
+
+
 def squares_of(obstacles):
     """Squares of all cells, by a search that numpy does."""
     ys, xs = np.nonzero(obstacles)
@@ -142,7 +150,11 @@ class Searches(unittest.TestCase):
             np.testing.assert_array_equal(lies, array)
             low, high = sorted(chance.choices((-400, -100, -1, 0, 1, 7, 90, 200, 255, 999), k=2))
             whole = array.astype(float) if dtype.kind in "fb" else array.astype(object)
+            least, most = ends_of(dtype)
             for limits in ({"low": low}, {"high": high}, {"low": low, "high": high}):
+                if limits.get("low", least) > most or limits.get("high", most) < least:
+                    self.assertRaises(ValueError, clearmap.distances, lies, **limits)
+                    continue
                 obstacles = (whole >= limits.get("low", -1e9)) & (
                     whole <= limits.get("high", 1e30)
                 )
