@@ -40,7 +40,7 @@ fn ask(bitmap: &Bitmap, edge: Edge, draws: &mut Draws, kind: usize, points: &mut
     let from = draws.cell(side);
     let mut rows = bitmap;
     match kind {
-        0 => sum(nearest_spot::<Euclid2, &Bitmap>(&mut rows, edge, from).map(|near| (from, near))),
+        0 => sum(nearest_spot::<Euclid2, &Bitmap>(&mut rows, edge, from, NO_LIMIT).map(|near| (from, near))),
         1 => {
             let (x0, y0) = (from.x.min(side - 64), from.y.min(side - 64));
             sum(least_of_rect::<Euclid2, &Bitmap>(&mut rows, edge, Rect { x0, y0, x1: x0 + 64, y1: y0 + 64 }))
