@@ -85,6 +85,7 @@ def main():
     words.add_argument("--requests", type=int, default=40_000)
     words.add_argument("--rounds", type=int, default=3)
     words.add_argument("--side", type=int, default=1024)
+    words.add_argument("--idle", type=int, default=IDLE, help="clients that only hold a pin or none")
     options = words.parse_args()
     with tempfile.TemporaryDirectory() as name:
         folder = pathlib.Path(name)
@@ -98,7 +99,7 @@ def main():
         print("|---|---|---|---|---|---|")
         with Served(plan.read_bytes(), "--workers", "16", connections=1_000_000) as server, \
                 Gate(server.port, "--links", "8") as gate:  # fmt: skip
-            idle = [Line(gate.port) for _ in range(IDLE)]
+            idle = [Line(gate.port) for _ in range(options.idle)]
             for line in idle[::2]:
                 line.ask("PIN")
             asked_by = (("server", server.port, (1, 8)), ("gateway", gate.port, (1, 50)))

@@ -97,6 +97,11 @@ fn connection(port: u16, depth: usize, requests: usize, kind: &Kind, seed: u64, 
 }
 
 fn main() {
+    // A connection that fails ends the program: the others would wait for it at the barrier.
+    std::panic::set_hook(Box::new(|fault| {
+        eprintln!("{fault}");
+        std::process::exit(1);
+    }));
     let words: Vec<String> = std::env::args().collect();
     let number = |i: usize| words[i].parse::<usize>().expect("a number");
     let (port, connections, depth, requests) = (number(1) as u16, number(2), number(3), number(4));
