@@ -122,7 +122,11 @@ class Stream(asyncio.BufferedProtocol):
         if self._is_last or self._transport.is_closing():
             self._transport.close()
         elif self._ending is None:
-            self._transport.write_eof()
+            try:
+                self._transport.write_eof()
+            except OSError:  # the client is gone
+                self._transport.abort()
+                return
             self._transport.resume_reading()
             self._read_away(0)
 

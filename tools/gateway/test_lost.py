@@ -92,6 +92,21 @@ class SlowClients(unittest.TestCase):
 class LostGateway(unittest.TestCase):
     """A gateway that ends, by a signal of each kind."""
 
+    def test_clients_that_dont_wait_for_the_end(self):
+        """They send QUIT and close at once: the gateway says nothing, and others are served."""
+        with Served(post(), "--workers", "4") as server:
+            gate = Gate(server.port, "--links", "3")
+            lines = [Line(gate.port) for _ in range(100)]
+            self.assertEqual({line.ask("PIN") for line in lines}, {"OK 0"})
+            stop(gate.process.pid)
+            for line in lines:
+                line.socket.sendall(b"QUIT\n")
+                line.close()
+            gate.process.send_signal(signal.SIGCONT)
+            with Line(gate.port) as line:
+                self.assertEqual(line.ask("PIN"), "OK 0")
+            self.assertEqual(gate.end(), "")
+
     def test_ends(self):
         for number, status in ((signal.SIGTERM, 0), (signal.SIGINT, 0), (signal.SIGKILL, -9)):
             with Served(post(), "--workers", "5") as server:
