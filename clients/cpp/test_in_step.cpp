@@ -136,7 +136,7 @@ static void without_memory(std::uint16_t port, int wanted) {
         }
         ++passed;
     }
-    std::printf("  interrupted by want of memory: %d, the connection closed: %d\n", interrupted,
+    std::printf("  interrupted when out of memory: %d, the connection closed: %d\n", interrupted,
                 closed);
     CHECK(closed > 0 && closed < interrupted);
 }

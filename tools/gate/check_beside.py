@@ -24,10 +24,10 @@ def half_a_stamp(server):
     slow, painter, planner = (Line(server.port) for _ in range(3))
     body = b"P1\n2 2\n1001"
     slow.send(b"STAMP 0 0 %d\n" % len(body) + body[:5])
-    check("a paint beside half a stamp", painter.ask("PAINT 0 0 1 1\n"), "OK 1 1")
-    check("a publish beside it", painter.ask("PUBLISH\n"), "OK 2 1")
-    check("a pin beside it", planner.ask("PIN\n"), "OK 1")
-    check("a query beside it", planner.ask("AT city 3 4\n"), "OK 7 0 0")
+    check("a paint during half a stamp", painter.ask("PAINT 0 0 1 1\n"), "OK 1 1")
+    check("a publish during it", painter.ask("PUBLISH\n"), "OK 2 1")
+    check("a pin during it", planner.ask("PIN\n"), "OK 1")
+    check("a query during it", planner.ask("AT city 3 4\n"), "OK 7 0 0")
     check("the stamp, once it has come", slow.ask(body[5:]), "OK 3 1")
     for line in (slow, painter, planner):
         check("the end", line.once("QUIT\n"), b"BYE\n")

@@ -9,13 +9,14 @@ may still be taken by the search: check its crate from nothing, without its `out
 it.
 """
 import collections
+import itertools
 import pathlib
 import re
 import subprocess
 import sys
 
 TOP = pathlib.Path(__file__).resolve().parents[2]
-LEMMA = re.compile(r"(pub )?([\w◌-]+) : (.*)")
+LEMMA = re.compile(r"(pub )?([\w◌-]+) :(.*)")
 # Files of lemmas, in folders of their own too; what a function's folder has is an answer to its
 # goals.
 LEMMAS = re.compile(r"crates/(\w+)/proofs/((?:\w+/)*)(?!(?:Answers|Invariants|Proof|Given|Statement|Send)\.antt)(\w+)\.antt")
@@ -49,9 +50,7 @@ def lemmas(text):
             continue
         end = next(number for number in range(start, len(lines) + 1) if number == len(lines) or not lines[number].strip())
         statement = found[3]
-        for more in lines[start + 1 : end]:
-            if not re.match(r"\s+[→×⊎≡≤]", more):
-                break
+        for more in itertools.takewhile(lambda line: line.startswith(" "), lines[start + 1 : end]):
             statement += " " + more.strip()
         rest = [other for other in lines[:start] + lines[end:] if not other.lstrip().startswith("--") and not other.startswith("use ")]
         yield start + 1, bool(found[1]), found[2], statement, "\n".join(rest)

@@ -62,12 +62,12 @@ def lines_of(text):
     return lines
 
 
-def is_pattern(before, behind):
+def is_pattern(before, after):
     """Whether what stands between these is the pattern of an arm or a `let`."""
-    tail = TAIL.match(behind)
+    tail = TAIL.match(after)
     if not tail or GUARD.search(before.split("=>")[-1]):
         return False
-    return "=>" in behind or ("let " in before and "=" in behind)
+    return "=>" in after or ("let " in before and "=" in after)
 
 
 def is_matched(before):
@@ -95,8 +95,8 @@ def makes_memory(code, above):
     """Whether a line makes a value that says that there is no memory, though nothing before it did.
     """
     for match in [*MADE.finditer(code), *TEXT.finditer(code)]:
-        before, behind = code[: match.start()], code[match.end() :]
-        if before.rstrip().endswith(("==", "!=")) or is_pattern(before, behind):
+        before, after = code[: match.start()], code[match.end() :]
+        if before.rstrip().endswith(("==", "!=")) or is_pattern(before, after):
             continue
         if not (is_matched(before) or is_known(before) or CONVERSION.search(above)):
             return True

@@ -9,6 +9,7 @@ In proofs: a lemma without a line, a line that begins in the middle, one that ha
 that several lemmas have.
 """
 import collections
+import itertools
 import pathlib
 import re
 import subprocess
@@ -66,7 +67,7 @@ def sentences(page):
     """
     paragraph, start = "", 0
     for number, line in [*lines_of_text(page), (0, "")]:
-        is_text = line.strip() and not line.startswith(("|", "#", "<!--", "!["))
+        is_text = line.strip() and not line.lstrip().startswith(("|", "#", "<!--", "!["))
         if not is_text or re.match(r" *(-|\d+\.) ", line):
             for sentence in re.split(r"(?<=[.?!:]) ", re.sub(r"`[^`]*`", "it", paragraph)):
                 yield start, sentence
@@ -100,15 +101,21 @@ def in_proofs(path, told):
         lemma = re.match(r"(?:pub )?([\w◌-]+) : ", line)
         if not lemma or not LEMMAS.fullmatch(path):
             continue
-        said = re.match(r"-- (.*)", lines[number - 2])
+        said = comment_above(lines, number - 1)
         if not said:
             yield number, f"{lemma[1]} has no line"
             continue
-        told[said[1]].append(f"{path}:{number}")
-        if re.match(r"(and|or|but|one more|the same|as above|likewise|so|then|also)\b", said[1], re.I):
-            yield number - 1, f"begins in the middle: {said[1][:60]}"
-        elif not set(re.findall(r"[\w']+", said[1].lower())) & set(VERBS):
-            yield number - 1, f"no verb: {said[1][:60]}"
+        told[said].append(f"{path}:{number}")
+        if re.match(r"(and|or|but|one more|the same|as above|likewise|so|then|also)\b", said, re.I):
+            yield number - 1, f"begins in the middle: {said[:60]}"
+        elif not set(re.findall(r"[\w']+", said.lower())) & set(VERBS):
+            yield number - 1, f"no verb: {said[:60]}"
+
+
+def comment_above(lines, index):
+    """The comment that ends above a line, as one text."""
+    above = itertools.takewhile(lambda line: line.startswith("-- "), reversed(lines[:index]))
+    return " ".join(line[3:] for line in reversed([*above]))
 
 
 def in_code(path):

@@ -77,7 +77,7 @@ class Calls:
         if name in COMMANDS + JUDGED and max(requests, len(refused)) > 1:
             wrong.append(f"{name} met {max(requests, len(refused))} requests")
         if any(size >= least for size in refused) != told:
-            wrong.append(f"{name} met {len(refused)} refusals, and {'answered want of memory' if is_wanting else 'answered'}")
+            wrong.append(f"{name} met {len(refused)} refusals, and {'answered that it was out of memory' if is_wanting else 'answered'}")
         return wrong
 
     def missing(self):

@@ -95,7 +95,7 @@ class Runs:
 
         status, out, err = self.refuser.run([self.program, "steps"], b"".join(EVENTS), mode, number)
         if self.is_ample() and WANT in out:
-            return "want of memory where none was refused"
+            return "out of memory where nothing was refused"
         answers = out.splitlines(True)
         wanting = tuple(at for at, answer in enumerate(answers) if answer == WANT)
         if not err and (status, out) == (1, WANT):
@@ -143,7 +143,7 @@ class Runs:
 
         first, got, rest, status = self.served(words, lines, mode, number)
         if self.is_ample() and (WANT in first + got + rest or not got):
-            return "want of memory where none was refused"
+            return "out of memory where nothing was refused"
         if not first.startswith(b"LISTENING "):
             return None if (first, rest, status) == (WANT, b"", 1) else f"{first!r}, {rest!r}, status {status}"
         if (got, rest, status) == (b"", WANT, 1) or (rest == b"SERVED 1 0\n" and got in (b"", WANT) and status == 0):
@@ -161,7 +161,7 @@ class Runs:
         want = self.known("ask", lambda: self.asked(None, 0))
         status, out, err = self.asked(mode, number)
         if self.is_ample() and WANT in out:
-            return "want of memory where none was refused"
+            return "out of memory where nothing was refused"
         early = status == 1 and out.endswith(WANT) and want[1].startswith(out[: -len(WANT)])
         return None if not err and ((status, out) == want[:2] or early) else f"status {status}, {out[-120:]!r}, {err[:120]!r}"
 

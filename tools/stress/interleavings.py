@@ -65,7 +65,7 @@ def disagreement(order):
 
 def main():
     parser = argparse.ArgumentParser(description=__doc__.splitlines()[0])
-    parser.add_argument("--every", type=int, default=1, help="take each so many-th order alone (1: all)")
+    parser.add_argument("--every", type=int, default=1, help="take every N-th order alone (1: all)")
     arguments = parser.parse_args()
     chosen = list(itertools.islice(orders(), 0, None, arguments.every))
     with multiprocessing.Pool() as pool:
