@@ -1,6 +1,7 @@
 // Tests of a field that follows its map (clearmap_field.hpp): test_field MAPS, how many random
-// maps. After each change all cells are compared with those of a rebuilt field, which test_map.cpp
-// compares with a search of all obstacles. Needs the linker's --wrap=malloc.
+// maps; with 5 or more also the largest map. After each change all cells are compared with those of
+// a rebuilt field, which test_map.cpp compares with a search of all obstacles. Needs the linker's
+// --wrap=malloc.
 #include "drawing.hpp"
 #include "testing.hpp"
 
@@ -251,6 +252,6 @@ int main(int count, char** words) {
     without_memory(map, 2, [](auto& drawn) { drawn.paint(10, 80, 14, 84); });
     updates_without_memory(map);
     invalid();
-    largest();
+    if (maps >= 5) largest();
     std::printf("tests of clearmap_field.hpp: %d, all good\n", tried.load());
 }

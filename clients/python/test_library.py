@@ -521,7 +521,9 @@ class Finding(unittest.TestCase):
             self.assertEqual(told, [refused] * 7)
         self.assertEqual((near.dist, found.x, found.near.dist, bits.width), (7, 7, 0, 7))
         self.assertTrue((numbers == 7).all() and (nears == 7).all() and (words == 7).all())
-        self.assertIn(b"low is above high", calls.clearmap_status_text(refused))
+        with self.assertRaises(clearmap.ClearmapError) as raised:
+            library.check(refused)
+        self.assertIn(calls.clearmap_status_text(refused).decode(), str(raised.exception))
 
     def test_bands_that_are_left_out(self):
         """A map in bits is the same where its blank bands aren't told."""
