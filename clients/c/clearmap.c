@@ -11,7 +11,8 @@ struct tried {
     void *place;
 };
 
-static char nothing;
+/* The place of a request that is refused: nobody writes there. */
+static const char nothing;
 
 /* What malloc aligns to. The library needs no more, and is refused more. */
 enum { ALIGNED = 16 };
@@ -19,13 +20,13 @@ _Static_assert(_Alignof(max_align_t) >= ALIGNED, "malloc aligns to less");
 
 struct tried rattle_alloc(size_t size, size_t align) {
     void *place = align > ALIGNED ? NULL : malloc(size ? size : align);
-    return (struct tried){place != NULL, place ? place : &nothing};
+    return (struct tried){place != NULL, place ? place : (void *)&nothing};
 }
 
 struct tried rattle_realloc(void *old, size_t kept, size_t size, size_t align) {
     (void)kept;
     void *place = align > ALIGNED ? NULL : realloc(old, size ? size : align);
-    return (struct tried){place != NULL, place ? place : &nothing};
+    return (struct tried){place != NULL, place ? place : (void *)&nothing};
 }
 
 void rattle_dealloc(void *place) { free(place); }

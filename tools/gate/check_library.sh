@@ -1,7 +1,8 @@
 #!/bin/sh
 # Builds libclearmap where it has to, and tries it from C and C++: the header against the source,
-# what the shared library shows, the tests (also under valgrind, the sanitizers and, for ARM, qemu),
-# and the programs of docs/use/LIBRARY.md. Skips, with a message, what isn't installed here. MAPS is
+# what the shared library shows, the callers over a weak model, the memory and the names of the
+# library, the tests (also under valgrind, the sanitizers and, for ARM, qemu), and the programs of
+# docs/use/LIBRARY.md. Skips, with a message, what isn't installed here. MAPS is
 # how many random maps. The C++ test asks servers of the built program too; CLEARMAP names another
 # one. Footprints are tried on cases that the model in Python has answered.
 set -u
@@ -38,9 +39,18 @@ wants gcc 'the library' && wants make 'the library' || exit "$failed"
 timeout 1100 make -s lib > "$scratch/log" 2>&1 || { tail -n 30 "$scratch/log"; exit 1; }
 
 try 'uses' tools/gate/check_uses.sh
+tools/gate/check_weak_model.sh || failed=1
+tools/gate/check_library_promises.py || failed=1
 
 flags="-std=c11 -Wall -Wextra -Wshadow -Wconversion -Wpedantic -Werror -g -Iclients/c"
 test="clients/c/test_clearmap.c"
+
+# The heap of clearmap.c, which the library hides, for the tests alone.
+heap() { # heap COMPILER FILE
+    "$1" $flags -O2 -Dclearmap_version=heap_version -Dclearmap_status_text=heap_status_text \
+        -c clients/c/clearmap.c -o "$2" || exit 1
+}
+heap gcc "$scratch/heap.o"
 
 # The shared library shows the calls of the header, has its own name, and needs the C library alone.
 nm -D --defined-only "$library/libclearmap.so.1" | sed 's/.* //' | sort > "$scratch/shown"
@@ -54,7 +64,7 @@ grep -q 'SONAME.*\[libclearmap.so.1\]' "$scratch/dynamic" \
     || { failed=1; echo 'it needs more than the C library'; }
 
 # The tests, with the static library; each request for memory can be refused there.
-if gcc $flags -O2 $test "$library/libclearmap.a" -Wl,--wrap=malloc -lpthread \
+if gcc $flags -O2 $test "$scratch/heap.o" "$library/libclearmap.a" -Wl,--wrap=malloc -lpthread \
     -o "$scratch/test"; then
     try 'test' "$scratch/test" "${MAPS:-40}"
     wants valgrind 'valgrind' \
@@ -64,8 +74,8 @@ else
 fi
 
 # The C side's threads; the library's own code isn't compiled for the sanitizer.
-if gcc $flags -O1 -fsanitize=thread $test "$library/libclearmap.a" -Wl,--wrap=malloc -lpthread \
-    -o "$scratch/threads" 2> "$scratch/log"; then
+if gcc $flags -O1 -fsanitize=thread $test "$scratch/heap.o" "$library/libclearmap.a" \
+    -Wl,--wrap=malloc -lpthread -o "$scratch/threads" 2> "$scratch/log"; then
     try 'thread sanitizer' "$scratch/threads" 1
 else
     echo 'thread sanitizer left out: it does not link here'
@@ -74,8 +84,9 @@ fi
 # The library for ARM, with the same test. It is linked with its C library, so that qemu needs none.
 if wants aarch64-linux-gnu-gcc 'the library for ARM' && wants qemu-aarch64 'the library for ARM'; then
     try 'make lib-arm' make -s lib-arm
-    if aarch64-linux-gnu-gcc $flags -O2 -static $test "$library/aarch64/libclearmap.a" \
-        -Wl,--wrap=malloc -lpthread -o "$scratch/arm"; then
+    heap aarch64-linux-gnu-gcc "$scratch/heap_arm.o"
+    if aarch64-linux-gnu-gcc $flags -O2 -static $test "$scratch/heap_arm.o" \
+        "$library/aarch64/libclearmap.a" -Wl,--wrap=malloc -lpthread -o "$scratch/arm"; then
         try 'test on ARM' qemu-aarch64 "$scratch/arm" 5
     else
         failed=1
