@@ -13,6 +13,7 @@ LIBDIR = $(PREFIX)/lib
 PKGCONFIGDIR = $(PREFIX)/share/pkgconfig
 DESTDIR =
 INSTALL = install
+OBJCOPY = objcopy
 to = $(DESTDIR)$(PREFIX)
 program = crates/clearmap/out/clearmap
 version = $(shell sed -n 's/^version = "\(.*\)"/\1/p' clients/python/pyproject.toml)
@@ -134,9 +135,14 @@ $(archive): $(lib_sources)
 $(library)/clearmap.o: clients/c/clearmap.c clients/c/clearmap.h $(archive)
 	$(CC) $(lib_cflags) -c -o $@ clients/c/clearmap.c
 
+# One object, which shows its calls and nothing of its heap, as the shared library does: another
+# library from rt in the same program has names of its own.
 $(library)/libclearmap.a: $(archive) $(library)/clearmap.o
-	cp $(archive) $@
-	$(AR) rs $@ $(library)/clearmap.o
+	$(CC) -r -nostdlib -o $(library)/whole.o $(library)/clearmap.o \
+	    -Wl,--whole-archive $(archive) -Wl,--no-whole-archive
+	$(OBJCOPY) --wildcard --keep-global-symbol='clearmap_*' $(library)/whole.o
+	rm -f $@
+	$(AR) rcs $@ $(library)/whole.o
 
 $(library)/libclearmap.so.1: $(archive) $(library)/clearmap.o clients/c/clearmap.map
 	$(CC) -shared $(lib_links) -o $@ $(library)/clearmap.o \
@@ -145,7 +151,8 @@ $(library)/libclearmap.so.1: $(archive) $(library)/clearmap.o clients/c/clearmap
 # rt writes the archive of each processor to one place: this one is moved, and the other one is put
 # back. Wants Debian's gcc-aarch64-linux-gnu.
 lib-arm: $(arm)/liblibclearmap.a
-	$(MAKE) lib library=$(arm) CC=aarch64-linux-gnu-gcc AR=aarch64-linux-gnu-ar
+	$(MAKE) lib library=$(arm) CC=aarch64-linux-gnu-gcc AR=aarch64-linux-gnu-ar \
+	    OBJCOPY=aarch64-linux-gnu-objcopy
 
 $(arm)/liblibclearmap.a: $(lib_sources)
 	$(INSTALL) -d $(arm)
