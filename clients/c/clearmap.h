@@ -30,8 +30,8 @@
  * process that has threads.
  *
  * Memory. Only the calls `distances` and `nearest` can return CLEARMAP_MEMORY: they ask malloc for
- * a copy of the map in bits, an eighth of a byte per cell in rows of whole words, and for 160 to
- * 300 bytes per column and about 700 more, and free all of it before they return. The other calls
+ * a copy of the map in bits, an eighth of a byte per cell in rows of whole words, and for at most
+ * 280 bytes per column and 1700 more, and free all of it before they return. The other calls
  * allocate nothing. The stack grows by at most 6 KB.
  *
  * On x86-64 the library needs SSE 4.2 (x86-64-v2); nothing checks it.

@@ -165,7 +165,7 @@ static void drop(struct map *m) {
 
 int main(void) {
     static const uint32_t sides[][2] = {{1, 1},   {1, 700},  {64, 64},   {65, 130},
-                                        {700, 1}, {300, 200}, {2000, 70}, {4096, 9}};
+                                        {700, 1}, {300, 200}, {64, 4096}, {4096, 9}};
     static const size_t shares[] = {0, 1, 7, 501};
     unsigned char *stack = mmap(NULL, STACK, PROT_READ | PROT_WRITE,
                                 MAP_PRIVATE | MAP_ANONYMOUS | MAP_STACK, -1, 0);

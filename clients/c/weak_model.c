@@ -15,7 +15,7 @@
  * - It ends the program at a null pointer, at one that isn't aligned, and where what is written
  *   overlaps what is read or what else is written: "Caller's duties, which nothing checks".
  * - Tables ask malloc once, for the most that is told, also for no rows: "an eighth of a byte per
- *   cell in rows of whole words, and for 160 to 300 bytes per column and about 700 more".
+ *   cell in rows of whole words, and for at most 280 bytes per column and 1700 more".
  * - It leaves other bytes on the stack: "The stack grows by at most 6 KB."
  * - It sets errno, of which no sentence tells.
  * - Its texts have words of their own: "What a status says, in one line without its end."
@@ -243,7 +243,7 @@ static uint32_t table(struct call c, uint32_t y0, uint32_t y1, clearmap_near *ne
     if (room < (size_t)(y1 - y0) * c.width) return CLEARMAP_ROOM;
     if ((status = range_status(&c))) return status;
     size_t copy = ((size_t)c.width + 63) / 64 * 8 * c.height;
-    struct column *columns = malloc(copy + 300u * c.width + 700);
+    struct column *columns = malloc(copy + 280u * c.width + 1700);
     if (!columns) return CLEARMAP_MEMORY;
     begin(&c, answers, (size_t)(y1 - y0) * c.width * size);
     write_rows(&c, y0, y1, columns, nears, distances);

@@ -102,17 +102,17 @@ def check_calls(folder, archive):
             columns.append(check_memory(line, width, height, asked))
         else:
             check(requests_made == 0, f"{line}: {requests_made} requests for memory")
-    return f"{stack} bytes of stack, {min(columns):.0f} to {max(columns):.0f} a column"
+    (most, _) = told(r"at most (\d+) bytes per column and (\d+) more")
+    check(max(columns) > 0.9 * most, f"the most bytes a column are {max(columns):.0f}")
+    return f"{stack} bytes of stack, {max(columns):.0f} a column"
 
 
 def check_memory(line, width, height, asked):
     """The bytes for each column, beside the copy of the map and the rest that is told."""
-    least, most, rest = told(r"for (\d+) to (\d+) bytes per column and about (\d+) more")
+    most, rest = told(r"at most (\d+) bytes per column and (\d+) more")
     copy = (width + 63) // 64 * 8 * height
-    each = (asked - copy - rest) / width
-    slack = rest / 2 / width  # what "about" leaves open
-    check(least - slack <= each <= most + slack, f"{line}: {each:.0f} bytes a column")
-    return each
+    check(copy <= asked <= copy + most * width + rest, f"{line}: {asked} bytes of memory")
+    return (asked - copy - rest) / width
 
 
 # ---- Names and globals
