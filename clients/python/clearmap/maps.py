@@ -21,8 +21,10 @@ from typing import (
 from . import carried, requests
 from .errors import BadArguments, BadPath, Crooked, OutOfRange, Refused, Size
 from .grids import EDGES, OPEN, Memory, edge_of, map_of, number_of
+from .images import pbm_map
 from .library import CROOKED, NO_OBSTACLE, Bits, CFound, CNear, check, library, numpy
 from .limits import Limits
+from .occupancy import occupancy_map
 from .requests import EUCLID2, LARGEST_SIDE, LONGEST_PATH, Cell, Near, Request, Tightest, whole
 from .rows import distances_of
 from .signed import NO_BANDS, gradients_of, signed_of
@@ -119,6 +121,34 @@ class Map:
         made = cls.__new__(cls)
         made._begin(memory, edge)
         return made
+
+    @classmethod
+    def of_pbm(cls: Type[M], image: object, edge: str = OPEN) -> M:
+        """A map of a PBM image, plain or raw, in bytes or a buffer of them: black is an obstacle.
+        ValueError with the first fault by its name in docs/use/FORMATS.md, as "BadImage Truncated".
+        """
+        return cls._of(packed(pbm_map(image)), edge)
+
+    @classmethod
+    def of_occupancy(
+        cls: Type[M],
+        data: object,
+        *,
+        width: int,
+        height: int,
+        edge: str = OPEN,
+        occupied: int = 65,
+        unknown_is_free: bool = False,
+    ) -> M:
+        """A map of an occupancy grid as ROS's message has it: `data` is a list, tuple or array of
+        width times height cells, row after row, each -1 or 0 to 100. Cells from `occupied` on are
+        obstacles, and unknown ones, -1, unless they are said to be free.
+
+        Rows stay as they lie: row 0 is the first of the message, which is the lowest in the world.
+        ValueError for another number of cells, and for a cell that no message has.
+        """
+        cells = occupancy_map(data, width, height, occupied, unknown_is_free)
+        return cls._of(packed(cells), edge)
 
     def copy(self) -> Map:
         """A map of the same cells and edge, which may be painted and cleared."""

@@ -1,0 +1,39 @@
+"""An occupancy grid, as ROS's message has its cells, as a map."""
+from typing import Any
+
+from .grids import Memory, byte_map
+from .library import numpy
+from .requests import LARGEST_SIDE, whole
+
+UNKNOWN, MOST = -1, 100  # of the message: other cells are from 0 to the most
+
+
+def occupancy_map(
+    data: object, width: int, height: int, occupied: int, unknown_is_free: bool
+) -> Memory:
+    """The cells of a message as a map in bytes: obstacles are those from `occupied` on, and unless
+    they are said to be free the unknown ones."""
+    width, height, least = whole(width), whole(height), whole(occupied)
+    if not (1 <= width <= LARGEST_SIDE and 1 <= height <= LARGEST_SIDE):
+        sides = f"1 to {LARGEST_SIDE} columns and rows"
+        raise ValueError(f"a map has {sides}, and this one has {width} by {height}")
+    if not 1 <= least <= MOST:
+        raise ValueError(f"occupied is {least}, where 1 to {MOST} is wanted")
+    cells = _cells(data, width, height)
+    most = MOST if unknown_is_free else UNKNOWN & 255  # a byte, as the library reads cells
+    return byte_map(cells.astype(numpy().int8, copy=False).reshape(height, width), least, most)
+
+
+def _cells(data: object, width: int, height: int) -> Any:
+    """The cells as an array of integers that a message may have."""
+    cells = numpy().asarray(data)
+    if cells.size and cells.dtype.kind not in "iu":
+        raise TypeError(f"cells of {cells.dtype} are no occupancy grid: whole numbers are wanted")
+    if cells.shape != (width * height,):
+        shape = " by ".join(map(str, cells.shape)) or "no"
+        raise ValueError(f"{width} by {height} cells are wanted in one row, and these are {shape}")
+    if int(cells.min()) < UNKNOWN or int(cells.max()) > MOST:
+        every = enumerate(cells.tolist())
+        at, wrong = next((at, cell) for at, cell in every if not UNKNOWN <= cell <= MOST)
+        raise ValueError(f"data[{at}] is {wrong}, where {UNKNOWN} to {MOST} is wanted")
+    return cells
