@@ -54,19 +54,60 @@ namespace clearmap {
 
 // ---- what is asked and answered
 
+namespace detail {
+
+/// A column, a row or a number of them that a caller gives, an integer of any type. Throws
+/// std::out_of_range for one that no int holds: it would become another cell. A float, which would
+/// lose its fraction, doesn't compile.
+class Whole {
+public:
+    template <class Number, class Integer = decltype(+std::declval<Number>()),
+              std::enable_if_t<std::is_integral<Integer>::value, int> = 0>
+    constexpr Whole(Number number) noexcept(std::is_same<Integer, int>::value)
+        : number_(static_cast<int>(+number)) {
+        if constexpr (!std::is_same<Integer, int>::value)
+            if (!is(+number)) refuse(std::to_string(+number));
+    }
+    template <class Real, std::enable_if_t<std::is_floating_point<Real>::value, int> = 0>
+    Whole(Real number) = delete;
+
+    constexpr operator int() const noexcept { return number_; }
+
+private:
+    /// Whether it is the number that was given, of its sign too.
+    template <class Integer>
+    constexpr bool is(Integer given) const noexcept {
+        const bool is_negative = std::is_signed<Integer>::value && given < Integer{};
+        return static_cast<Integer>(number_) == given && (number_ < 0) == is_negative;
+    }
+    [[noreturn]] static void refuse(const std::string& number) {
+        throw std::out_of_range(number + " is in no map, which has 4096 columns and rows at most");
+    }
+
+    int number_;
+};
+
+}  // namespace detail
+
 /// The metric of a distance.
 enum class Metric { euclid2, city, chess };
 
 /// A column and a row, from 0 at the upper left. On the frame of a map with a wall, an obstacle
-/// lies at -1, or one cell after the last.
+/// lies at -1, or one cell after the last. As each call that takes columns and rows, it takes
+/// integers of any type, and throws std::out_of_range for one that no int holds.
 struct Cell {
     int x, y;
+    Cell() = default;
+    constexpr Cell(detail::Whole x, detail::Whole y) noexcept : x(x), y(y) {}
     friend bool operator==(Cell a, Cell b) { return a.x == b.x && a.y == b.y; }
 };
 
 /// The columns and rows of a map, each from 1 to 4096.
 struct Size {
     int width, height;
+    Size() = default;
+    constexpr Size(detail::Whole width, detail::Whole height) noexcept
+        : width(width), height(height) {}
     friend bool operator==(Size a, Size b) { return a.width == b.width && a.height == b.height; }
 };
 
@@ -691,6 +732,13 @@ template <class Number>
 using IfOtherInteger = std::enable_if_t<std::is_integral<Number>::value &&
                                         !std::is_same<Number, std::uint32_t>::value>;
 
+/// A port in 16 bits. Throws std::invalid_argument for one that has none there.
+inline std::uint16_t port_of(int port) {
+    if (port < 0 || port > 65535)
+        throw std::invalid_argument("a port is 0 to 65535, and not " + std::to_string(port));
+    return static_cast<std::uint16_t>(port);
+}
+
 /// A distance in 32 bits. Throws std::invalid_argument for one that has none there.
 template <class Integer>
 std::uint32_t in_32_bits(Integer distance) {
@@ -711,11 +759,10 @@ public:
     Queries& at(Cell c, Metric m = Metric::euclid2) {
         return add(Kind::at, c, "AT", m, detail::points({c}));
     }
-    Queries& rect(int x0, int y0, int x1, int y1, Metric m = Metric::euclid2) {
+    Queries& rect(detail::Whole x0, detail::Whole y0, detail::Whole x1, detail::Whole y1,
+                  Metric m = Metric::euclid2) {
         return add(Kind::tightest, {}, "RECT", m, detail::points({{x0, y0}, {x1, y1}}));
     }
-    template <class A, class B, class C, class D, class = detail::IfReal<A, B, C, D>>
-    Queries& rect(A x0, B y0, C x1, D y1, Metric m = Metric::euclid2) = delete;
     Queries& path(const Path& p, Metric m = Metric::euclid2) {
         return add(Kind::tightest, {}, "PATH", m, detail::points(p));
     }
@@ -794,11 +841,10 @@ public:
 
     /// The first cell, in row-major order, with the least distance in columns x0 to x1 - 1 of rows
     /// y0 to y1 - 1.
-    std::optional<Tightest> rect(int x0, int y0, int x1, int y1, Metric m = Metric::euclid2) {
+    std::optional<Tightest> rect(detail::Whole x0, detail::Whole y0, detail::Whole x1,
+                                 detail::Whole y1, Metric m = Metric::euclid2) {
         return one(Queries().rect(x0, y0, x1, y1, m));
     }
-    template <class A, class B, class C, class D, class = detail::IfReal<A, B, C, D>>
-    std::optional<Tightest> rect(A x0, B y0, C x1, D y1, Metric m = Metric::euclid2) = delete;
 
     /// The first cell along a path with the least distance. Refused as BadPath unless it has 1 to
     /// 1000 points, and as Crooked with the index of a point that is in neither the row nor the
@@ -854,13 +900,11 @@ public:
 
     /// Whether a cell is on the map and free, and its Euclidean distance to the nearest obstacle in
     /// cells: exact but for the root's rounding.
-    [[nodiscard]] bool is_valid(int x, int y, double& clearance) {
+    /// A cell is two integers: Frame::cell gives that of a point in metres.
+    [[nodiscard]] bool is_valid(detail::Whole x, detail::Whole y, double& clearance) {
         clearance = clearances({{x, y}})[0];
         return clearance > 0;
     }
-    /// A cell is two integers: Frame::cell gives that of a point in metres.
-    template <class X, class Y, class = detail::IfReal<X, Y>>
-    bool is_valid(X x, Y y, double& clearance) = delete;
 
     /// For each cell its Euclidean distance to the nearest obstacle, in cells: 0 for an obstacle
     /// and for a cell that isn't on the map, infinite if the map has none. Sends 64 cells per
@@ -957,10 +1001,10 @@ public:
     Client(Client&&) noexcept = default;
     Client& operator=(Client&&) noexcept = default;
     /// Throws WrongMap if the map doesn't have the expected size, and std::invalid_argument for an
-    /// expected size that no map has, or a time-out below 0.
-    explicit Client(std::uint16_t port, const Options& options = {})
-        : wire_(std::make_shared<detail::Wire>(port, options)) {}
-    Client(std::uint16_t port, std::chrono::milliseconds timeout,
+    /// expected size that no map has, a time-out below 0, or a port that there isn't.
+    explicit Client(detail::Whole port, const Options& options = {})
+        : wire_(std::make_shared<detail::Wire>(detail::port_of(port), options)) {}
+    Client(detail::Whole port, std::chrono::milliseconds timeout,
            FullLog full_log = FullLog::thrown)
         : Client(port, Options{std::nullopt, timeout, full_log, false}) {}
 
@@ -979,18 +1023,14 @@ public:
     /// Makes columns x0 to x1 - 1 of rows y0 to y1 - 1 of the draft obstacles. Refused as
     /// BadArguments if that is no cell or a number is below 0 or over 4096, as OutOfRange, and as
     /// any command may be: LogFull, PlacesUsed, BlocksFull and Memory.
-    Change paint(int x0, int y0, int x1, int y1) {
+    Change paint(detail::Whole x0, detail::Whole y0, detail::Whole x1, detail::Whole y1) {
         return draw("PAINT" + detail::points({{x0, y0}, {x1, y1}}));
     }
-    template <class A, class B, class C, class D, class = detail::IfReal<A, B, C, D>>
-    Change paint(A x0, B y0, C x1, D y1) = delete;
 
     /// Makes these cells free; refused as a paint is.
-    Change clear(int x0, int y0, int x1, int y1) {
+    Change clear(detail::Whole x0, detail::Whole y0, detail::Whole x1, detail::Whole y1) {
         return draw("CLEAR" + detail::points({{x0, y0}, {x1, y1}}));
     }
-    template <class A, class B, class C, class D, class = detail::IfReal<A, B, C, D>>
-    Change clear(A x0, B y0, C x1, D y1) = delete;
 
     /// Sets the cells from (x, y) on to the values of a PBM image, plain or raw, of at most
     /// 17,100,000 bytes; black is an obstacle. Throws std::invalid_argument for a larger image or a
@@ -1081,6 +1121,15 @@ struct Point {
 struct Frame {
     int width, height;
     double resolution, origin_x, origin_y;
+
+    Frame() = default;
+    constexpr Frame(detail::Whole width, detail::Whole height, double resolution,
+                    double origin_x = 0, double origin_y = 0) noexcept
+        : width(width),
+          height(height),
+          resolution(resolution),
+          origin_x(origin_x),
+          origin_y(origin_y) {}
 
     /// The size that a client of the map can expect.
     Size size() const { return {width, height}; }

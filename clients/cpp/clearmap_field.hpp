@@ -70,25 +70,21 @@ public:
 
     /// Makes columns x0 to x1 - 1 of rows y0 to y1 - 1 obstacles, and returns how many cells
     /// changed.
-    std::uint32_t paint(int x0, int y0, int x1, int y1) {
+    std::uint32_t paint(detail::Whole x0, detail::Whole y0, detail::Whole x1, detail::Whole y1) {
         ready();
         std::uint32_t changed = map_.paint(x0, y0, x1, y1);
         if (changed > 0) table_.paint({x0, y0, x1, y1});
         return changed;
     }
-    template <class A, class B, class C, class D, class = detail::IfReal<A, B, C, D>>
-    std::uint32_t paint(A x0, B y0, C x1, D y1) = delete;
 
     /// Makes these cells free, and returns how many changed.
-    std::uint32_t clear(int x0, int y0, int x1, int y1) {
+    std::uint32_t clear(detail::Whole x0, detail::Whole y0, detail::Whole x1, detail::Whole y1) {
         ready();
         std::uint32_t changed = map_.clear(x0, y0, x1, y1);
         const detail::Box box{x0, y0, x1, y1};
         if (changed > 0) rework(&box, &box + 1);
         return changed;
     }
-    template <class A, class B, class C, class D, class = detail::IfReal<A, B, C, D>>
-    std::uint32_t clear(A x0, B y0, C x1, D y1) = delete;
 
     /// Makes this the field of another map, or of its own as it is now: compares the bits of both,
     /// and recomputes what they change. Recomputes the whole of a map of another size or edge, or

@@ -327,14 +327,13 @@ public:
 
     /// The first cell, in row-major order, with the least distance in columns x0 to x1 - 1 of rows
     /// y0 to y1 - 1. None if the map has no obstacle.
-    std::optional<Tightest> rect(int x0, int y0, int x1, int y1, Metric m = Metric::euclid2) const {
+    std::optional<Tightest> rect(detail::Whole x0, detail::Whole y0, detail::Whole x1,
+                                 detail::Whole y1, Metric m = Metric::euclid2) const {
         clearmap_found found{};
         ask(clearmap_bits_rect, m, detail::numbered(x0), detail::numbered(y0), detail::numbered(x1),
             detail::numbered(y1), &found);
         return detail::answer(found);
     }
-    template <class A, class B, class C, class D, class = detail::IfReal<A, B, C, D>>
-    std::optional<Tightest> rect(A x0, B y0, C x1, D y1, Metric m = Metric::euclid2) const = delete;
 
     /// The first cell along a path of 1 to 1000 points with the least distance. None if the map has
     /// no obstacle.
@@ -386,16 +385,14 @@ public:
 
     /// Whether a cell is on the map and free, and its Euclidean distance to the nearest obstacle in
     /// cells: 0 for a cell that isn't on the map, infinite if the map has none.
-    [[nodiscard]] bool is_valid(int x, int y, double& clearance) const {
+    /// A cell is two integers: Frame::cell gives that of a point in metres.
+    [[nodiscard]] bool is_valid(detail::Whole x, detail::Whole y, double& clearance) const {
         clearance = 0;
         if (!inside(x, y)) return false;
         auto near = at({x, y});
         clearance = detail::in_cells(near ? near->distance : CLEARMAP_NO_OBSTACLE, Metric::euclid2);
         return clearance > 0;
     }
-    /// A cell is two integers: Frame::cell gives that of a point in metres.
-    template <class X, class Y, class = detail::IfReal<X, Y>>
-    bool is_valid(X x, Y y, double& clearance) const = delete;
 
     /// The unit vector away from a cell's nearest obstacle. None in an obstacle, and if the map has
     /// none.
@@ -424,14 +421,14 @@ public:
 
     /// Makes columns x0 to x1 - 1 of rows y0 to y1 - 1 obstacles, and returns how many cells
     /// changed.
-    std::uint32_t paint(int x0, int y0, int x1, int y1) { return draw(x0, y0, x1, y1, true); }
-    template <class A, class B, class C, class D, class = detail::IfReal<A, B, C, D>>
-    std::uint32_t paint(A x0, B y0, C x1, D y1) = delete;
+    std::uint32_t paint(detail::Whole x0, detail::Whole y0, detail::Whole x1, detail::Whole y1) {
+        return draw(x0, y0, x1, y1, true);
+    }
 
     /// Makes these cells free, and returns how many changed.
-    std::uint32_t clear(int x0, int y0, int x1, int y1) { return draw(x0, y0, x1, y1, false); }
-    template <class A, class B, class C, class D, class = detail::IfReal<A, B, C, D>>
-    std::uint32_t clear(A x0, B y0, C x1, D y1) = delete;
+    std::uint32_t clear(detail::Whole x0, detail::Whole y0, detail::Whole x1, detail::Whole y1) {
+        return draw(x0, y0, x1, y1, false);
+    }
 
 private:
     static constexpr int band = 64;  // rows

@@ -54,23 +54,19 @@ public:
 
     // -- changes, as of a Field; one that throws has changed nothing
 
-    std::uint32_t paint(int x0, int y0, int x1, int y1) {
+    std::uint32_t paint(detail::Whole x0, detail::Whole y0, detail::Whole x1, detail::Whole y1) {
         ready();
         const std::uint32_t changed = free_.paint(x0, y0, x1, y1);
         blocked_.clear(x0, y0, x1, y1);
         return changed;
     }
-    template <class A, class B, class C, class D, class = detail::IfReal<A, B, C, D>>
-    std::uint32_t paint(A x0, B y0, C x1, D y1) = delete;
 
-    std::uint32_t clear(int x0, int y0, int x1, int y1) {
+    std::uint32_t clear(detail::Whole x0, detail::Whole y0, detail::Whole x1, detail::Whole y1) {
         ready();
         const std::uint32_t changed = free_.clear(x0, y0, x1, y1);
         blocked_.paint(x0, y0, x1, y1);
         return changed;
     }
-    template <class A, class B, class C, class D, class = detail::IfReal<A, B, C, D>>
-    std::uint32_t clear(A x0, B y0, C x1, D y1) = delete;
 
 private:
     /// Allocates the memory for changes. After that they throw only for a rectangle off the map,

@@ -1,7 +1,7 @@
 #!/usr/bin/env python3
 """Tests of maps from PBM images and from the cells of occupancy grids. They need the library, and
-for the faults of cut and changed images the built program, or the one that CLEARMAP names. ARRAYS in
-the environment is how many random images are tried, 150 where it isn't there.
+for the faults of cut and changed images the built program, or the one that CLEARMAP names. ARRAYS
+in the environment is how many random images are tried, 150 where it isn't there.
 """
 import array
 import os

@@ -124,6 +124,8 @@ check_forms() {
     refused deleted 'map.is_clear(2.5, {{0, 0}})'
     refused deleted 'map.is_valid(0.5, 1, cells)'
     refused deleted 'map.rect(0, 0.5, 1, 1)'
+    refused deleted 'map.at({0.5, 1})'
+    refused deleted 'clearmap::Client other(7400.5)'
     refused deleted 'clearmap::Queries().rect(0.5, 0, 1, 1)'
     refused deleted 'client.paint(0, 0, 1, 1.5)'
     refused deleted 'client.clear(0, 0, 1.5f, 1)'

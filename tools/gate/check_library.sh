@@ -137,6 +137,7 @@ header_test() { # header_test NAME MAPS COMPILER FLAG ..: a test of the headers 
         field) links='-Wl,--wrap=malloc' asked='' ;;
         footprint) links='' asked=$cases ;;
         signed) links='' asked='' ;;
+        limits) links='' asked='' ;;
     esac
     if ! "$@" -std=c++17 -Wall -Wextra -Wconversion -Wpedantic -Werror -g1 -pthread -Iclients/c \
         -Iclients/cpp -c "clients/cpp/test_$name.cpp" -o "$scratch/test.o"; then
@@ -148,7 +149,7 @@ header_test() { # header_test NAME MAPS COMPILER FLAG ..: a test of the headers 
         echo "$name by $* left out: it does not link here"
     fi
 }
-for name in map field footprint signed; do
+for name in map field footprint signed limits; do
     header_test "$name" "${MAPS:-40}" g++ -O2
     header_test "$name" 5 clang++ -O1
     for compiler in g++ clang++; do

@@ -1,6 +1,6 @@
 #!/bin/sh
 # Tries which uses of the library's headers compile, and which are refused with a message: bytes of
-# another size, distances that aren't integers, and statuses and answers that nobody looks at. All
+# another size, cells and distances that aren't integers, and statuses and answers that nobody looks at. All
 # by each compiler that is installed, with warnings as errors.
 set -u
 cd "$(dirname "$0")/../.." || exit 1
@@ -66,6 +66,11 @@ check() { # check: all uses, by the compilers $cc and $cxx
 
     taken cpp 'if (map.is_clear(9, path) && map.is_clear(std::uint64_t{9}, path)) map.clear(0, 0, 1, 1)'
     taken cpp 'if (auto near = map.clear_of(9, path)) map.paint(0, 0, near->cell.x, 1)'
+    taken cpp 'map.paint(std::size_t{0}, 0L, std::uint16_t{1}, 1u)'
+    taken cpp 'if (map.at({std::size_t{0}, 1L})) map.clear(0, 0, 1, 1)'
+    refused cpp 'deleted' 'map.paint(0, 0, 1, 1.5)'
+    refused cpp 'deleted' 'if (map.at({0.5, 1})) map.clear(0, 0, 1, 1)'
+    refused cpp 'deleted' 'Map other({3.5, 4})'
     refused cpp 'deleted' 'if (map.is_clear(2.5, path)) map.clear(0, 0, 1, 1)'
     refused cpp 'deleted' 'if (map.clear_of(2.5f, path)) map.clear(0, 0, 1, 1)'
     refused cpp 'unused|ignoring' 'map.is_clear(9, path)'

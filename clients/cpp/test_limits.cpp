@@ -1,0 +1,143 @@
+// Tests of what the headers for C++ refuse before the library is asked: numbers of columns and rows
+// that no int holds, which would become other cells, and a library of another version. The linker
+// wraps `clearmap_version`, so that the library says another one: test_limits is built with
+// -Wl,--wrap=clearmap_version.
+#include "clearmap_footprint.hpp"
+#include "clearmap_signed.hpp"
+#include "testing.hpp"
+
+#include <array>
+
+// ---- what compiles, and what doesn't
+
+template <class X, class Y>
+constexpr bool makes_a_cell = std::is_constructible_v<Cell, X, Y>;
+static_assert(makes_a_cell<int, int> && makes_a_cell<std::uint16_t, long> &&
+              makes_a_cell<std::size_t, std::int64_t> && makes_a_cell<bool, char>);
+static_assert(!makes_a_cell<double, int> && !makes_a_cell<int, float>);
+static_assert(!makes_a_cell<Metric, int> && !makes_a_cell<int, int*>);
+static_assert(!std::is_constructible_v<Size, double, int>);
+static_assert(!std::is_constructible_v<Frame, double, int, double>);
+static_assert(!std::is_constructible_v<Client, double>);
+static_assert(std::is_trivially_copyable_v<Cell> && std::is_trivially_copyable_v<Frame>);
+static_assert(noexcept(Cell{1, 2}) && noexcept(Cell{std::int16_t{1}, std::uint16_t{2}}) &&
+              noexcept(std::declval<const Field&>().distance({1, 2})));
+static_assert(Cell{3L, 4u}.x == 3 && Size{5ul, 6ll}.height == 6);
+
+// ---- numbers that no int holds
+
+/// Calls visit(number) for numbers whose last 32 bits are those of cell 3, or whose sign is lost.
+template <class Visit>
+void each_wrong(Visit visit) {
+    visit(std::int64_t{4294967299});
+    visit(std::int64_t{-4294967293});
+    visit(std::uint64_t{4294967299u});
+    visit(std::uint64_t{18446744073709551615u});
+    visit(4294967295u);
+    visit(std::size_t{1} << 63);
+}
+
+/// Whether a call is refused for each of these numbers, by what the number is.
+template <class Call>
+void refuses(Call call) {
+    each_wrong([&](auto number) {
+        const std::string said = std::to_string(number) + " is in no map";
+        CHECK(throws<std::out_of_range>([&] { call(number); }, said));
+    });
+}
+
+static void cells() {
+    refuses([](auto n) { (void)Cell{n, 0}; });
+    refuses([](auto n) { (void)Cell{0, n}; });
+    refuses([](auto n) { (void)Path{{0, 0}, {n, 0}}; });
+    refuses([](auto n) { (void)Map({n, 3}); });
+    refuses([](auto n) { (void)Map({3, n}); });
+    refuses([](auto n) { (void)Frame{n, 3, 0.05}; });
+    refuses([](auto n) { (void)Frame{3, n, 0.05, 1, 2}; });
+    const std::vector<std::uint8_t> bytes(9);
+    refuses([&](auto n) { (void)Map::of_bytes(bytes, {n, 3}, {1, 1}); });
+}
+
+/// The queries of a map and of a field.
+static void queries() {
+    Map map({8, 8});
+    map.paint(3, 3, 4, 4);
+    const Field field(map);
+    double clearance = 0;
+    refuses([&](auto n) { (void)map.at({n, 3}); });
+    refuses([&](auto n) { (void)map.gradient({3, n}); });
+    refuses([&](auto n) { (void)map.is_obstacle({n, 3}); });
+    refuses([&](auto n) { (void)map.is_valid(n, 3, clearance); });
+    refuses([&](auto n) { (void)map.is_valid(3, n, clearance); });
+    refuses([&](auto n) { (void)map.rect(n, 0, 4, 4); });
+    refuses([&](auto n) { (void)map.rect(0, 0, 4, n); });
+    refuses([&](auto n) { (void)map.path({{n, 3}, {3, 3}}); });
+    refuses([&](auto n) { (void)map.is_clear(9, {{3, n}}); });
+    refuses([&](auto n) { (void)map.clearance({{3, 3}, {n, 3}}); });
+    refuses([&](auto n) { (void)field.at({n, 3}); });
+    refuses([&](auto n) { (void)field.distance({3, n}); });
+    refuses([&](auto n) { (void)SignedField(map).clearance({n, 3}); });
+}
+
+/// Each corner of a drawing, after which nothing has changed.
+template <class Drawn>
+void draws(Drawn& drawn) {
+    refuses([&](auto n) { drawn.paint(n, 0, 4, 4); });
+    refuses([&](auto n) { drawn.paint(0, n, 4, 4); });
+    refuses([&](auto n) { drawn.paint(0, 0, n, 4); });
+    refuses([&](auto n) { drawn.clear(0, 0, 4, n); });
+    refuses([&](auto n) { drawn.clear(n, n, n, n); });
+}
+
+static void drawings() {
+    Map map({8, 8});
+    map.paint(3, 3, 4, 4);
+    const Map before = map;
+    Field field(map);
+    SignedField signed_field(map);
+    draws(map), draws(field), draws(signed_field);
+    CHECK(map == before && field.map() == before && signed_field.map() == before);
+    CHECK(field.distance({0, 3}) == 9 && signed_field.clearance({3, 3}) == -1);
+}
+
+/// The client for sockets sends nothing of it.
+static void client() {
+    Telling server;
+    Client client(server.port);
+    Pinned pinned = client.pin();
+    double clearance = 0;
+    draws(client);
+    refuses([&](auto n) { (void)pinned.at({n, 3}); });
+    refuses([&](auto n) { (void)pinned.rect(0, 0, n, 4); });
+    refuses([&](auto n) { (void)pinned.is_valid(n, 3, clearance); });
+    refuses([&](auto n) { (void)Queries().rect(0, n, 4, 4); });
+    refuses([&](auto n) { client.stamp({n, 0}, "P1 1 1\n1"); });
+    CHECK(server.drawn().empty());
+    CHECK(pinned.at({3L, 4u})->distance == 4096 * 3 + 4);
+    for (int port : {-1, 65536, 65536 + server.port})
+        CHECK(throws<std::invalid_argument>([&] { Client other(port); }, "a port is 0 to 65535"));
+}
+
+/// Numbers of other types that an int holds are the same cells.
+static void other_types() {
+    enum Side { width = 8, height = 6 };
+    Map map({width, height});
+    CHECK(map.paint(std::uint8_t{2}, std::size_t{3}, 4l, 5ull) == 4);
+    CHECK(map.is_obstacle({'\3', std::int16_t{4}}));
+    CHECK(map.size() == Size(8u, 6ull));
+    CHECK(map.at({std::int64_t{0}, 3u})->distance == 4);
+    CHECK(map.rect(0, 0, width, height)->cell == Cell(2, 3));
+    CHECK(throws<std::out_of_range>([&] { (void)map.at({-1l, 0}); }, clearmap_status_text(7)));
+    const Frame frame{100ul, std::uint16_t{80}, 0.05};
+    CHECK(frame.size() == Size(100, 80));
+    CHECK(frame.origin_x == 0 && frame.origin_y == 0);
+}
+
+int main() {
+    cells();
+    queries();
+    drawings();
+    client();
+    other_types();
+    std::printf("limits: %d checks\n", tried.load());
+}
