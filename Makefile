@@ -17,7 +17,7 @@ OBJCOPY = objcopy
 to = $(DESTDIR)$(PREFIX)
 program = crates/clearmap/out/clearmap
 version = $(shell sed -n 's/^version = "\(.*\)"/\1/p' clients/python/pyproject.toml)
-filled = sed 's|@PREFIX@|$(PREFIX)|; s|@LIBDIR@|$(LIBDIR:$(PREFIX)/%=$${prefix}/%)|; s|@VERSION@|$(version)|'
+filled = sed 's|@PREFIX@|$(PREFIX)|; s|@LIBDIR@|$(LIBDIR:$(PREFIX)/%=$${prefix}/%)|; s|@FOLDER@|$(LIBDIR:$(PREFIX)/%=%)|; s|@VERSION@|$(version)|'
 pages = clearmap.1 clearmap-backup.1 clearmap-gateway.1 clearmap-publish.1 clearmap-ros.1 \
     clearmap-ros-node.1 clearmap-view.1
 client = $(notdir $(wildcard clients/python/clearmap/*.py)) py.typed
@@ -37,7 +37,11 @@ lib_sources = $(shell find $(lib_crates:%=crates/%) -name out -prune -o -name '*
     -o -name '*.antt' -print)
 CFLAGS = -O2
 lib_cflags = -std=c11 -fPIC $(CFLAGS)
-lib_links = -Wl,-soname,libclearmap.so.1 -Wl,--version-script=clients/c/clearmap.map -Wl,-z,defs
+lib_links = -Wl,-soname,libclearmap.so.1 -Wl,--version-script=clients/c/clearmap.map -Wl,-z,defs \
+    $(lib_needs)
+# So that the system's loader refuses it to a processor without SSE 4.2.
+lib_needs = $(if $(findstring x86_64,$(shell $(CC) -dumpmachine)),-Wl$(comma)-z$(comma)x86-64-v2)
+comma = ,
 libdir = $(DESTDIR)$(LIBDIR)
 arm = $(library)/aarch64
 headers = $(notdir $(wildcard clients/cpp/clearmap*.hpp))
@@ -98,9 +102,10 @@ install-program: all
 	ln -sf ../share/clearmap/python/clearmap_node.py '$(to)/bin/clearmap-ros-node'
 	ln -sf ../share/clearmap/view/clearmap_view.py '$(to)/bin/clearmap-view'
 	$(INSTALL) -D -m 644 clients/cpp/clearmap.hpp '$(to)/include/clearmap.hpp'
-	$(INSTALL) -D -m 644 packaging/clearmapConfig.cmake '$(to)/share/clearmap/cmake/clearmapConfig.cmake'
-	$(filled) packaging/clearmapConfigVersion.cmake.in > '$(to)/share/clearmap/cmake/clearmapConfigVersion.cmake'
-	$(INSTALL) -d '$(to)/share/pkgconfig' '$(to)/lib/systemd/system'
+	$(INSTALL) -d '$(to)/share/clearmap/cmake' '$(to)/share/pkgconfig' '$(to)/lib/systemd/system'
+	for part in clearmapConfig.cmake clearmapConfigVersion.cmake; do \
+	    $(filled) packaging/$$part.in > '$(to)/share/clearmap/cmake/'$$part || exit 1; \
+	done
 	$(filled) packaging/clearmap.pc.in > '$(to)/share/pkgconfig/clearmap.pc'
 	$(filled) packaging/clearmap@.service > '$(to)/lib/systemd/system/clearmap@.service'
 	$(INSTALL) -D -m 644 LICENSE '$(to)/share/doc/clearmap/LICENSE'
@@ -144,7 +149,7 @@ $(library)/libclearmap.a: $(archive) $(library)/clearmap.o
 	rm -f $@
 	$(AR) rcs $@ $(library)/whole.o
 
-$(library)/libclearmap.so.1: $(archive) $(library)/clearmap.o clients/c/clearmap.map
+$(library)/libclearmap.so.1: $(archive) $(library)/clearmap.o clients/c/clearmap.map Makefile
 	$(CC) -shared $(lib_links) -o $@ $(library)/clearmap.o \
 	    -Wl,--whole-archive $(archive) -Wl,--no-whole-archive
 
@@ -172,9 +177,9 @@ install-lib: lib
 	ln -sf libclearmap.so.1 '$(libdir)/libclearmap.so'
 	$(INSTALL) -d '$(DESTDIR)$(PKGCONFIGDIR)' '$(to)/share/clearmap/cmake'
 	$(filled) packaging/libclearmap.pc.in > '$(DESTDIR)$(PKGCONFIGDIR)/libclearmap.pc'
-	$(INSTALL) -m 644 packaging/clearmapConfig.cmake '$(to)/share/clearmap/cmake/clearmapConfig.cmake'
-	$(filled) packaging/clearmapConfigVersion.cmake.in \
-	    > '$(to)/share/clearmap/cmake/clearmapConfigVersion.cmake'
+	for part in clearmapConfig.cmake clearmapConfigVersion.cmake; do \
+	    $(filled) packaging/$$part.in > '$(to)/share/clearmap/cmake/'$$part || exit 1; \
+	done
 
 uninstall-lib:
 	rm -f '$(to)/include/clearmap.h' '$(libdir)/libclearmap.a' '$(libdir)/libclearmap.so.1' \

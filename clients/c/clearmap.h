@@ -34,7 +34,8 @@
  * 280 bytes per column and 1700 more, and free all of it before they return. The other calls
  * allocate nothing. The stack grows by at most 6 KB.
  *
- * On x86-64 the library needs SSE 4.2 (x86-64-v2); nothing checks it.
+ * On x86-64 the library needs SSE 4.2 (x86-64-v2). Without it the system's loader refuses the
+ * shared library, from glibc 2.33 on; in a program with the static one nothing checks it.
  */
 #ifndef CLEARMAP_H
 #define CLEARMAP_H

@@ -21,7 +21,8 @@
 // Errors. A wrong call throws with the text of its status: std::out_of_range for a cell, rectangle
 // or point that isn't in the map, std::invalid_argument for everything else. A call that throws has
 // changed nothing. A query with valid arguments throws nothing and allocates nothing. Calls that
-// make a map or a field, or change a field, may throw std::bad_alloc.
+// make a map or a field, or change a field, may throw std::bad_alloc. A library of another version
+// is a std::runtime_error.
 #ifndef CLEARMAP_MAP_HPP
 #define CLEARMAP_MAP_HPP
 
@@ -66,6 +67,18 @@ inline void check(std::uint32_t status) {
     if (status == CLEARMAP_MEMORY) throw std::bad_alloc();
     if (status == CLEARMAP_OUTSIDE) throw std::out_of_range(clearmap_status_text(status));
     throw std::invalid_argument(clearmap_status_text(status));
+}
+
+/// Throws std::runtime_error unless the linked library is of the header's version but for the last
+/// number, with which no call and no layout changes. It looks once.
+inline void check_version() {
+    [[maybe_unused]] static const bool is_right = [] {
+        const std::string linked = clearmap_version(), own = CLEARMAP_VERSION;
+        if (linked.compare(0, own.rfind('.') + 1, own, 0, own.rfind('.') + 1) != 0)
+            throw std::runtime_error("libclearmap " + linked + " is linked, and the header is of " +
+                                     own);
+        return true;
+    }();
 }
 
 /// A number of a metric, an edge, a column or a row: a negative one is in no map.
@@ -254,8 +267,10 @@ private:
 /// and moved; a map that was moved from has the size 0 by 0, and no cells.
 class Map {
 public:
-    /// A map without obstacles.
+    /// A map without obstacles. The first map of a program throws std::runtime_error if the library
+    /// is of another version than this header, but for the last number.
     explicit Map(Size size, Edge edge = Edge::open) : size_(size), edge_(edge) {
+        detail::check_version();
         auto side = [](int cells) { return 1 <= cells && cells <= detail::largest_side; };
         if (!side(size.width) || !side(size.height)) detail::check(CLEARMAP_SIZE);
         if (edge != Edge::open && edge != Edge::wall) detail::check(CLEARMAP_EDGE);

@@ -8,6 +8,31 @@
 
 #include <array>
 
+// ---- a library that says another version
+
+static const char* said = nullptr;
+
+extern "C" {
+const char* __real_clearmap_version(void);
+const char* __wrap_clearmap_version(void) { return said ? said : __real_clearmap_version(); }
+}
+
+/// The first map looks at the version, and goes on looking until it is right.
+static void versions() {
+    const std::string own = CLEARMAP_VERSION, line = own.substr(0, own.rfind('.'));
+    for (const std::string& other : {line + "0.1", '1' + own, line, std::string(), "9.9.9" + own}) {
+        said = other.c_str();
+        const std::string words =
+            "libclearmap " + other + " is linked, and the header is of " + own;
+        CHECK(throws<std::runtime_error>([] { Map map({1, 1}); }, words));
+        CHECK(throws<std::runtime_error>([] { (void)Map::of_pbm("P1 1 1\n1"); }, words));
+    }
+    const std::string mended = line + ".71";
+    said = mended.c_str();
+    CHECK(Map({1, 1}).size() == Size(1, 1));
+    said = nullptr;
+}
+
 // ---- what compiles, and what doesn't
 
 template <class X, class Y>
@@ -134,6 +159,7 @@ static void other_types() {
 }
 
 int main() {
+    versions();
     cells();
     queries();
     drawings();

@@ -417,9 +417,10 @@ class Finding(unittest.TestCase):
             self.assertRegex(said, f"ImportError: the library {missing} can't be loaded: ")
 
     def test_where_it_lies(self):
-        """Next to the package, and in the lib of the prefix that the package is installed to."""
+        """Next to the package, and in the lib or lib64 of the prefix that the package is in."""
         code = "import clearmap.library as it; it.library(); print(it._found())"
-        for package, place in ((".", "clearmap"), ("share/clearmap/python", "lib")):
+        installed = "share/clearmap/python"
+        for package, place in ((".", "clearmap"), (installed, "lib"), (installed, "lib64")):
             with tempfile.TemporaryDirectory() as folder:
                 top = pathlib.Path(folder).resolve()
                 shutil.copytree(HERE / "clearmap", top / package / "clearmap")
@@ -444,6 +445,33 @@ class Finding(unittest.TestCase):
         said = self.said(code, CLEARMAP_LIBRARY="/lib/x86_64-linux-gnu/libc.so.6")
         self.assertNotEqual(said.returncode, 0)
         self.assertIn("ImportError: ", said.stderr)
+
+    def test_another_version(self):
+        """A package takes a library of its own first two numbers, whatever the third is."""
+        version = clearmap.__version__
+        line = version.rpartition(".")[0]
+        code = "import clearmap.library as it; it.VERSION = {!r}; it.library(); print('taken')"
+        self.assertEqual(library.VERSION, f"{line}.")
+        file = library._found()
+        said = self.said(code.format(f"{line}."), CLEARMAP_LIBRARY=file).stdout
+        self.assertEqual(said, "taken\n")
+        for other in ("0.2.", "0.4.", f"{line}1.", f"1{line}."):
+            said = self.said(code.format(other), CLEARMAP_LIBRARY=file).stderr.splitlines()[-1]
+            words = f"is libclearmap {version}, where {other}x is wanted"
+            self.assertRegex(said, f"^ImportError: .* {re.escape(words)}$")
+
+    @unittest.skipUnless(
+        os.uname().machine == "x86_64" and shutil.which("qemu-x86_64"), "there is no qemu-x86_64"
+    )
+    def test_a_processor_without_sse(self):
+        """It is told, where a call of the library would end the process; the client works."""
+        code = "import clearmap; clearmap.Client; import clearmap.library as it; it.library()"
+        file = library._found()
+        words = {**os.environ, "PYTHONPATH": str(HERE), "CLEARMAP_LIBRARY": file}
+        emulated = ["qemu-x86_64", "-cpu", "core2duo", sys.executable, "-c", code]
+        said = subprocess.run(emulated, env=words, capture_output=True, text=True, timeout=60)
+        words = f"ImportError: the library {file} needs SSE 4.2, which this processor doesn't have"
+        self.assertEqual(said.stderr.splitlines()[-1], words)
 
     def test_what_the_header_says(self):
         """The numbers that this package has of the header."""

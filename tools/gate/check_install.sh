@@ -215,7 +215,7 @@ CPP
 cat > "$scratch/CMakeLists.txt" << 'CMAKE'
 cmake_minimum_required(VERSION 3.13)
 project(ten_lines CXX)
-find_package(clearmap 0.1 REQUIRED)
+find_package(clearmap 0.3 REQUIRED)
 add_executable(by_cmake main.cpp)
 target_link_libraries(by_cmake clearmap::clearmap)
 CMAKE

@@ -137,7 +137,7 @@ header_test() { # header_test NAME MAPS COMPILER FLAG ..: a test of the headers 
         field) links='-Wl,--wrap=malloc' asked='' ;;
         footprint) links='' asked=$cases ;;
         signed) links='' asked='' ;;
-        limits) links='' asked='' ;;
+        limits) links='-Wl,--wrap=clearmap_version' asked='' ;;
     esac
     if ! "$@" -std=c++17 -Wall -Wextra -Wconversion -Wpedantic -Werror -g1 -pthread -Iclients/c \
         -Iclients/cpp -c "clients/cpp/test_$name.cpp" -o "$scratch/test.o"; then
@@ -190,6 +190,22 @@ if wants pkg-config "the page's programs by pkg-config"; then
     page page.c "$c_says" g++ -std=c++20 -x c++
     page page.cpp "$cpp_says" g++ -std=c++17
     page page.cpp "$cpp_says" clang++ -std=c++17
+    found=$(PKG_CONFIG_PATH=$prefix/share/pkgconfig pkg-config --static --cflags --libs libclearmap)
+    page page.c "$c_says" gcc -std=c11 -static
+    page page.cpp "$cpp_says" g++ -std=c++17 -static
+fi
+
+# A processor without SSE 4.2 isn't given the shared library: the loader says why.
+if [ "$(uname -m)" = x86_64 ]; then
+    readelf -n "$library/libclearmap.so.1" | grep -q 'ISA needed: .*x86-64-v2' \
+        || { failed=1; echo 'the shared library does not say that it needs x86-64-v2'; }
+    if wants qemu-x86_64 'a processor without SSE 4.2'; then
+        gcc -std=c11 -Iclients/c "$scratch/page.c" "$library/libclearmap.so.1" -lm \
+            -Wl,-rpath,"$library" -o "$scratch/page" || failed=1
+        timeout 60 qemu-x86_64 -cpu core2duo "$scratch/page" > "$scratch/log" 2>&1
+        grep -q 'CPU ISA level is lower than required' "$scratch/log" \
+            || { failed=1; echo 'a processor without SSE 4.2:'; cat "$scratch/log"; }
+    fi
 fi
 # The page's lines in Python, by a package and a library that are installed to this prefix.
 sed -n '/^```python$/,/^```$/{/^```/d;p}' docs/use/LIBRARY.md > "$scratch/page.py"
@@ -206,22 +222,46 @@ else
 fi
 rm -r "$prefix/share/clearmap/python"
 
+# The same in a folder lib64, by CMake with either library, and which versions are found.
+version=$(sed -n 's/^version = "\(.*\)"/\1/p' clients/python/pyproject.toml)
+line=${version%.*}
 if wants cmake "the page's programs by CMake"; then
     mkdir "$scratch/project"
     cp "$scratch/page.c" "$scratch/page.cpp" "$scratch/project/"
     cat > "$scratch/project/CMakeLists.txt" << 'PROJECT'
-cmake_minimum_required(VERSION 3.16)
+cmake_minimum_required(VERSION 3.19)
 project(page C CXX)
-find_package(clearmap 0.1 REQUIRED)
+foreach(asked IN LISTS ASKED)
+  find_package(clearmap ${asked} QUIET)
+  if(clearmap_FOUND)
+    string(APPEND found " ${asked}")
+  endif()
+endforeach()
+file(WRITE ${CMAKE_BINARY_DIR}/found "found${found}\n")
+find_package(clearmap REQUIRED)
 add_executable(page page.c)
 target_link_libraries(page clearmap::clearmap m)
 add_executable(page_cpp page.cpp)
 target_link_libraries(page_cpp clearmap::clearmap)
+add_executable(page_static page.cpp)
+target_link_libraries(page_static clearmap::clearmap_static)
 PROJECT
-    try 'cmake' cmake -S "$scratch/project" -B "$scratch/built" -DCMAKE_PREFIX_PATH="$prefix"
-    try 'cmake --build' cmake --build "$scratch/built"
-    says 'page.c by CMake' "$c_says" "$scratch/built/page"
-    says 'page.cpp by CMake' "$cpp_says" "$scratch/built/page_cpp"
+    try 'make install-lib in lib64' make -s install-lib PREFIX="$scratch/other" \
+        LIBDIR="$scratch/other/lib64"
+    for folder in "$prefix" "$scratch/other"; do
+        rm -rf "$scratch/built"
+        try "cmake $folder" cmake -S "$scratch/project" -B "$scratch/built" \
+            -DCMAKE_PREFIX_PATH="$folder" \
+            "-DASKED=0.1;$line;$version;$version.0;$line.999;${line}1;1;0.1...$line;0.1...<$version"
+        [ "$(cat "$scratch/built/found")" = "found $line $version $version.0 0.1...$line" ] \
+            || { failed=1; echo "other versions: $(cat "$scratch/built/found")"; }
+        try 'cmake --build' cmake --build "$scratch/built"
+        says 'page.c by CMake' "$c_says" "$scratch/built/page"
+        says 'page.cpp by CMake' "$cpp_says" "$scratch/built/page_cpp"
+        says 'page.cpp by CMake with libclearmap.a' "$cpp_says" "$scratch/built/page_static"
+        readelf -d "$scratch/built/page_static" | grep -q libclearmap \
+            && { failed=1; echo 'page_static needs the shared library'; }
+    done
 fi
 
 # Nothing is left of it, and what the program's installation shares with it stays with the other.

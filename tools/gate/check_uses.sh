@@ -1,7 +1,7 @@
 #!/bin/sh
 # Tries which uses of the library's headers compile, and which are refused with a message: bytes of
-# another size, cells and distances that aren't integers, and statuses and answers that nobody looks at. All
-# by each compiler that is installed, with warnings as errors.
+# another size, cells and distances that aren't integers, and statuses and answers that nobody looks
+# at. All by each compiler that is installed, with warnings as errors.
 set -u
 cd "$(dirname "$0")/../.." || exit 1
 scratch=$(mktemp -d)

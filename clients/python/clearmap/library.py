@@ -81,16 +81,17 @@ def _declare(library: ctypes.CDLL) -> None:
 
 def _places() -> List[pathlib.Path]:
     """Where the library may be: next to the package, in the tree that the package is in, and in the
-    folder lib of the prefix that it is installed to, of Python's, and of /usr/local, which the
-    system's loader knows only after `ldconfig`."""
+    folder lib or lib64 of the prefix that it is installed to, of Python's, and of /usr/local, which
+    the system's loader knows only after `ldconfig`."""
     folder = pathlib.Path(__file__).resolve().parent
     parents = folder.parents
     places = [folder]
     if len(parents) > 2:
         places.append(parents[2] / "crates/libclearmap/out")
+    prefixes = [pathlib.Path(sys.prefix), pathlib.Path("/usr/local")]
     if folder.parts[-4:-1] == ("share", "clearmap", "python"):
-        places.append(parents[3] / "lib")
-    places += [pathlib.Path(sys.prefix, "lib"), pathlib.Path("/usr/local/lib")]
+        prefixes.insert(0, parents[3])
+    places += [prefix / name for prefix in prefixes for name in ("lib", "lib64")]
     return [place / FILE for place in places]
 
 
@@ -110,6 +111,8 @@ def _why_not(path: str, fault: Optional[OSError]) -> str:
             f"there is no {FILE}: build it by `make lib` in clearmap's tree, install it by "
             "`make install-lib`, or name it in CLEARMAP_LIBRARY"
         )
+    if "ISA level" in str(fault):  # of the system's loader, by what the library is marked to need
+        return f"the library {path} needs SSE 4.2, which this processor doesn't have"
     return f"the library {path} can't be loaded: {fault}"
 
 
