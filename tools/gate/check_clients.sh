@@ -36,7 +36,7 @@ if [ -n "$arrays" ] && [ -e "$library" ]; then
     for test in clients/python/test_library.py clients/python/test_maps.py \
         clients/python/test_tiles.py clients/python/test_footprints.py \
         clients/python/test_signed.py clients/python/test_carried.py \
-        clients/python/test_images.py; do
+        clients/python/test_images.py clients/python/test_transforms.py; do
         tried "$arrays" "$test"
     done
     for rules in legacy weak; do # numpy's on numbers of few bits: those of numpy 1 and of 2

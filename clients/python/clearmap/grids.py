@@ -112,7 +112,10 @@ def _of_numbers(array: Any, limits: Limits) -> Memory:
     if kind == "f":
         bounds = of_floats(array.dtype, limits)
         if numpy().isnan(array).any():
-            raise ValueError("a cell is NaN, which is neither an obstacle nor free")
+            raise ValueError(
+                "a cell is NaN, which is neither an obstacle nor free: fill it first with a number "
+                "of obstacles, as by numpy.nan_to_num(grid, nan=low)"
+            )
         return _between(array, bounds)
     bounds = of_integers(array.dtype, limits)
     found = _byte_range(array, bounds.least, bounds.most)
@@ -139,4 +142,9 @@ def zeros_of(grid: object) -> Memory:
     array = _array(grid)
     if array.dtype.itemsize == 1:
         return byte_map(array, 0, 0)
+    if array.dtype.kind in "fc" and numpy().isnan(array).any():
+        raise ValueError(
+            "a cell is NaN, neither a zero nor another number: fill it first, as by "
+            "numpy.nan_to_num, which makes it a zero"
+        )
     return byte_map(array == 0, 1, 255)

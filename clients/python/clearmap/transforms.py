@@ -1,15 +1,18 @@
 """scipy's distance transforms of an array of two dimensions, by libclearmap."""
 from __future__ import annotations
 
+import ctypes
 import math
-from typing import Any, Callable, Iterator, List, NamedTuple, Optional, Sequence, Tuple, Union
+from typing import Any, Callable, Iterator, NamedTuple, Optional, Sequence, Tuple, Union
 
-from .grids import OPEN, edge_of, number_of, zeros_of
-from .library import NO_OBSTACLE, numpy
+from .grids import OPEN, Memory, edge_of, number_of, zeros_of
+from .library import NO_OBSTACLE, CNear, check, library, numpy
+from .outputs import Outputs
 from .requests import CHESS, CITY, EUCLID2
 from .rows import fill, in_bands, near_type, shared
 
 CHAMFERS = {"chessboard": CHESS, "taxicab": CITY, "cityblock": CITY, "manhattan": CITY}
+NO_ZERO = "the input has no zero: there is no distance to one"
 PIECE = 1 << 15  # cells that are converted at once, by arrays that the processor's cache holds
 
 
@@ -18,29 +21,41 @@ def distance_transform_edt(
     sampling: Union[None, float, Sequence[float]] = None,
     return_distances: bool = True,
     return_indices: bool = False,
+    distances: Any = None,
+    indices: Any = None,
     *,
+    dtype: Any = None,
     threads: int = 1,
 ) -> Any:
     """scipy.ndimage.distance_transform_edt of an array of 2 dimensions: the Euclidean distance of
     each nonzero cell to the nearest zero, as float64, and with `return_indices` the row and the
     column of that zero, as int32 of the shape (2, rows, columns). Both if both are asked for.
 
+    As in scipy, results are written to the arrays `distances` and `indices` where these are given,
+    and aren't returned then: None is, if nothing else is left. Arrays of another shape or dtype
+    are a RuntimeError; a refused call writes nothing, unless there was no memory for it.
+    `dtype=numpy.float32` is for distances as OpenCV has them: those of float64, rounded.
+
     Differences from scipy's: if several zeros are nearest, it may return another one. An array
-    without a zero is a ValueError, where scipy returns the distance to a cell that isn't there.
-    `sampling` is one size above 0, or two equal ones: two different sizes are a ValueError. A
-    distance is the root times the size, which differs from scipy's in the last digits. It takes no
-    arrays for the results. A masked array is a TypeError, and sides over 4096 are a ValueError.
-    `threads` share the rows.
+    without a zero is a ValueError, where scipy returns the distance to a cell that isn't there. So
+    is a NaN, which scipy takes for a nonzero cell. `sampling` is one size above 0, or two equal
+    ones: two different sizes are a ValueError. A distance is the root times the size, which differs
+    from scipy's in the last digits. A masked array is a TypeError, and sides over 4096 are a
+    ValueError. `threads` share the rows.
     """
-    size = _size_of(sampling)
+    np, size = numpy(), _size_of(sampling)
 
     def roots(squares: Any, out: Any) -> None:
-        numpy().sqrt(squares, out=out)
-        if size != 1.0:
-            out *= size
+        lengths = squares.astype("f8")
+        if size == 1.0:
+            np.sqrt(lengths, out=out)
+        else:
+            np.sqrt(lengths, out=lengths)
+            np.multiply(lengths, size, out=out)
 
     wanted = _Wanted(return_distances, return_indices)
-    return _transformed(input, EUCLID2, wanted, threads, "f8", roots)
+    outputs = Outputs(distances, indices, _float_of(dtype))
+    return _transformed(input, EUCLID2, wanted, threads, outputs, roots)
 
 
 def distance_transform_cdt(
@@ -48,6 +63,8 @@ def distance_transform_cdt(
     metric: str = "chessboard",
     return_distances: bool = True,
     return_indices: bool = False,
+    distances: Any = None,
+    indices: Any = None,
     *,
     threads: int = 1,
 ) -> Any:
@@ -64,7 +81,8 @@ def distance_transform_cdt(
         out[...] = steps
 
     wanted = _Wanted(return_distances, return_indices)
-    return _transformed(input, name, wanted, threads, "i4", copied)
+    outputs = Outputs(distances, indices, numpy().dtype(numpy().int32))
+    return _transformed(input, name, wanted, threads, outputs, copied)
 
 
 def _size_of(sampling: Union[None, float, Sequence[float]]) -> float:
@@ -78,8 +96,20 @@ def _size_of(sampling: Union[None, float, Sequence[float]]) -> float:
             raise ValueError(f"sampling is {one}, where a size above 0 is wanted")
     size = float(sizes.flat[0])
     if (sizes != size).any():
-        raise ValueError(f"sampling by two sizes, as {sampling!r:.80}, isn't there: one is wanted")
+        raise ValueError(
+            f"sampling by two sizes, as {sampling!r:.80}, isn't there: resample the input to square "
+            "cells, or ask scipy.ndimage"
+        )
     return size
+
+
+def _float_of(dtype: Any) -> Any:
+    """The dtype of Euclidean distances."""
+    np = numpy()
+    wanted = np.dtype(np.float64 if dtype is None else dtype)
+    if wanted not in (np.dtype(np.float64), np.dtype(np.float32)):
+        raise ValueError(f"distances of {wanted} aren't there: float64 or float32")
+    return wanted
 
 
 class _Wanted(NamedTuple):
@@ -94,33 +124,33 @@ def _transformed(
     metric: str,
     wanted: _Wanted,
     threads: int,
-    dtype: str,
+    outputs: Outputs,
     convert: Callable[[Any, Any], None],
 ) -> Any:
-    """Distances of this dtype, indices or both, each band of rows by a thread of its own."""
+    """Distances, indices or both, each band of rows by a thread of its own."""
     if not any(wanted):
         raise ValueError("at least one of return_distances and return_indices must be True")
-    np = numpy()
-    memory = shared(zeros_of(grid), threads)
+    outputs.check_asked(*wanted)
+    memory = shared(outputs.apart(zeros_of(grid)), threads)
     shape = memory.layout.height, memory.layout.width
-    found = np.empty(shape, dtype) if wanted.distances else None
-    indices = np.empty((2, *shape), np.int32) if wanted.indices else None
+    found, indices = outputs.arrays(*wanted, shape)
+    if outputs.are_given():
+        _check_zero(memory)
 
     def work(y0: int, y1: int) -> None:
         own = None if found is None else found[y0:y1]
         out = _room((y1 - y0, shape[1]), own, wanted.indices)
         fill(memory, number_of(metric), edge_of(OPEN), y0, y1, out)
         _check_any(out)
-        words = out.view(np.int32).reshape(*out.shape, -1)
+        words = out.view(numpy().int32).reshape(*out.shape, -1)
         for part in _pieces(words):
             if indices is not None:
                 _split(words[part, :, 1], indices[:, y0:y1][:, part])
             if own is not None:
-                convert(words[part, :, 0].astype(dtype), own[part])
+                convert(words[part, :, 0], own[part])
 
     in_bands(shape[0], threads, work)
-    answers: List[Any] = [answer for answer in (found, indices) if answer is not None]
-    return answers[0] if len(answers) == 1 else tuple(answers)
+    return outputs.left(found, indices)
 
 
 def _room(shape: Tuple[int, int], found: Any, indices: bool) -> Any:
@@ -130,16 +160,34 @@ def _room(shape: Tuple[int, int], found: Any, indices: bool) -> Any:
     np = numpy()
     if not indices:
         return np.empty(shape, np.uint32)
-    if found is not None and found.itemsize == near_type().itemsize:
+    if found is not None and found.itemsize == near_type().itemsize and _is_whole(found):
         return found.view(near_type())
     return np.empty(shape, near_type())
+
+
+def _is_whole(found: Any) -> bool:
+    """Whether rows lie without gaps and where the library's answers can lie, as in an array of this
+    call's own."""
+    flags = found.flags
+    return bool(flags.c_contiguous and flags.aligned)
+
+
+def _check_zero(memory: Memory) -> None:
+    """Whether there is a zero, before a caller's arrays are written."""
+    near = CNear()
+    kind, cells, length, layout = memory
+    call = getattr(library(), f"clearmap_{kind}_at")
+    where = cells.ctypes.data, length, ctypes.byref(layout)
+    check(call(*where, number_of(CHESS), edge_of(OPEN), 0, 0, ctypes.byref(near)))
+    if near.dist == NO_OBSTACLE:
+        raise ValueError(NO_ZERO)
 
 
 def _check_any(out: Any) -> None:
     """Whether there is a zero: if there is one, each cell has a distance."""
     first = out[0, 0] if out.dtype.names is None else out["dist"][0, 0]
     if first == NO_OBSTACLE:
-        raise ValueError("the input has no zero: there is no distance to one")
+        raise ValueError(NO_ZERO)
 
 
 def _pieces(words: Any) -> Iterator[slice]:
