@@ -114,7 +114,7 @@ enum {
 /* The column and the row that mean no obstacle, both of them. No obstacle has them. */
 #define CLEARMAP_NOWHERE (-2)
 
-/* A column and a row. */
+/* A column and a row. C cuts a larger number to its last 16 bits in silence: compare it first. */
 typedef struct clearmap_cell {
     uint16_t x, y;
 } clearmap_cell;

@@ -42,9 +42,20 @@ enum class Edge { open, wall };
 
 /// The bytes that mark obstacles: low to high. {65, 100} for an occupancy grid's occupied cells,
 /// {65, 255} with the unknown ones, which are -1; {253, 254} for a costmap's lethal ones, and
-/// {253, 255} with the unknown ones; {0, 0} for an image's zeros.
+/// {253, 255} with the unknown ones; {0, 0} for an image's zeros. Throws std::invalid_argument for
+/// a number that is no byte, and would become another one.
 struct Range {
     std::uint8_t low, high;
+    Range() = default;
+    constexpr Range(detail::Whole low, detail::Whole high) : low(byte(low)), high(byte(high)) {}
+
+private:
+    static constexpr std::uint8_t byte(int number) {
+        return 0 <= number && number <= 255
+                   ? static_cast<std::uint8_t>(number)
+                   : throw std::invalid_argument("a byte is 0 to 255, and not " +
+                                                 std::to_string(number));
+    }
 };
 
 /// The order of a map's rows in memory: the top one first, or, as in ROS's occupancy grids and

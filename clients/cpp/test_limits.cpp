@@ -44,6 +44,7 @@ static_assert(!makes_a_cell<Metric, int> && !makes_a_cell<int, int*>);
 static_assert(!std::is_constructible_v<Size, double, int>);
 static_assert(!std::is_constructible_v<Frame, double, int, double>);
 static_assert(!std::is_constructible_v<Client, double>);
+static_assert(!std::is_constructible_v<Range, double, int> && Range{65, 255}.high == 255);
 static_assert(std::is_trivially_copyable_v<Cell> && std::is_trivially_copyable_v<Frame>);
 static_assert(noexcept(Cell{1, 2}) && noexcept(Cell{std::int16_t{1}, std::uint16_t{2}}) &&
               noexcept(std::declval<const Field&>().distance({1, 2})));
@@ -81,6 +82,19 @@ static void cells() {
     refuses([](auto n) { (void)Frame{3, n, 0.05, 1, 2}; });
     const std::vector<std::uint8_t> bytes(9);
     refuses([&](auto n) { (void)Map::of_bytes(bytes, {n, 3}, {1, 1}); });
+}
+
+/// The bytes of a range, too.
+static void ranges() {
+    const std::vector<std::uint8_t> bytes(9, 44);
+    refuses([&](auto n) { (void)Map::of_bytes(bytes, {3, 3}, {n, 255}); });
+    for (int wrong : {-1, 256, 300}) {
+        const std::string said = "a byte is 0 to 255, and not " + std::to_string(wrong);
+        CHECK(throws<std::invalid_argument>([&] { (void)Range{wrong, 255}; }, said));
+        CHECK(throws<std::invalid_argument>([&] { (void)Range{0, wrong}; }, said));
+    }
+    const int low = 44;
+    CHECK(Map::of_bytes(bytes, {3, 3}, {low, 255u}).is_obstacle({2, 2}));
 }
 
 /// The queries of a map and of a field.
@@ -161,6 +175,7 @@ static void other_types() {
 int main() {
     versions();
     cells();
+    ranges();
     queries();
     drawings();
     client();
