@@ -189,6 +189,7 @@ class OccupancyGrids(unittest.TestCase):
             self.refused(ValueError, f"occupied is {wrong}, where 1 to 100", occupied=wrong)
         self.refused(TypeError, "whole number", occupied=0.65)
         self.refused(ValueError, "is no edge", edge="round")
+        self.refused(TypeError, "where a bool is wanted", unknown_is_free="false")
         with self.assertRaises(TypeError):  # sides in either order would fit
             clearmap.Map.of_occupancy([0] * 6, 3, 2)
 

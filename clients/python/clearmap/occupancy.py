@@ -19,6 +19,8 @@ def occupancy_map(
         raise ValueError(f"a map has {sides}, and this one has {width} by {height}")
     if not 1 <= least <= MOST:
         raise ValueError(f"occupied is {least}, where 1 to {MOST} is wanted")
+    if unknown_is_free not in (True, False):  # a text would count as True
+        raise TypeError(f"unknown_is_free is {unknown_is_free!r:.80}, where a bool is wanted")
     cells = _cells(data, width, height)
     most = MOST if unknown_is_free else UNKNOWN & 255  # a byte, as the library reads cells
     return byte_map(cells.astype(numpy().int8, copy=False).reshape(height, width), least, most)
