@@ -21,8 +21,8 @@ ITEM = re.compile(r"\b(?:fn|struct|enum|trait|type|const|static|mod|macro_rules!
 # Named clauses, ghost members, and the fields of records that clauses are made of.
 CLAUSE = re.compile(r"\b(?:ensures\*?|requires) (\w+) \{|\bghost (\w+)\s*[:=]|^  (?:pub )?(\w+) :", re.M)
 DEFINITION = re.compile(r"^(?:abbrev |unfoldable |pub |record |data )*([\w-]+)(?= :| \(| where|$)", re.M)
-# Names of other programs, of the toolchain, and of examples.
-OUTSIDE = ("std::", "ManuallyDrop", "overflow_sub", "clap", "map_server", "ServerAliveInterval", "crates/planner/", "LimitAS=", "MemoryMax=", "/sys/", "Display", "BYE")
+# Names of other programs, of the toolchain, of CMake's targets, and of examples.
+OUTSIDE = ("std::", "clearmap::clearmap_static", "ManuallyDrop", "overflow_sub", "clap", "map_server", "ServerAliveInterval", "crates/planner/", "LimitAS=", "MemoryMax=", "/sys/", "Display", "BYE")
 
 
 @functools.cache
