@@ -3,12 +3,12 @@ import argparse
 import threading
 import time
 from contextlib import suppress
-from typing import Any, Callable, Optional
+from typing import Any, Callable, NamedTuple, Optional, Tuple
 
 from clearmap import ClearmapError
 from clearmap.library import redis
 from source import Copy, Seen, Source
-from store import LEASE, LeaseLost, Store
+from store import LEASE, Elsewhere, LeaseLost, Store
 
 AGAIN = 1.0  # seconds until what went wrong is tried again, and between two signs of life
 SAME = 10.0  # seconds within which another reason is taken as a part of what was told
@@ -37,7 +37,14 @@ class Trouble:
 
 
 class Taken(Exception):
-    """Another publisher of the name is live."""
+    """Another publisher of the name is live, or one from elsewhere was last."""
+
+
+class Look(NamedTuple):
+    """The server's newest version, and when it was, by `clock.now`."""
+
+    seen: Seen
+    at: float
 
 
 class Publisher:
@@ -47,7 +54,8 @@ class Publisher:
         self, options: argparse.Namespace, redis: Any, say: Callable[[object], None]
     ) -> None:
         self._options = options
-        self._source, self._store = Source(options.port), Store(redis, options.name, options.keep)
+        self._source = Source(options.port, options.size)
+        self._store = Store(redis, options.name, options.keep, options.port, options.take_over)
         self._server = Trouble(say, "there is a server again")
         self._redis = Trouble(say, "Redis takes versions again")
         self._lease = Trouble(say, "the lease has ended")
@@ -65,7 +73,7 @@ class Publisher:
         threading.Thread(target=self._beat, daemon=True).start()
         try:
             while not self._is_ended:
-                is_well = self._step(self._look())
+                is_well = self._step()
                 self._rest(self._options.interval if is_well else AGAIN)
         finally:
             self._source.close()
@@ -83,13 +91,13 @@ class Publisher:
             time.sleep(AGAIN)
             with suppress(LeaseLost, redis().RedisError, OSError):
                 if self._has_lease:
-                    self._store.keep(False)
+                    self._store.keep()
 
-    def _look(self) -> Optional[Seen]:
+    def _look(self) -> Optional[Look]:
         """The server's newest version, with a copy of it if it isn't shown yet; None if the server
         isn't there."""
         try:
-            seen = self._source.look()
+            seen, at = self._source.look()
             if seen != self._shown and (self._copy is None or self._copy.seen != seen):
                 self._copy = self._source.copy()
                 seen = self._copy.seen
@@ -97,13 +105,16 @@ class Publisher:
             self._server.tell(fault)
             return None
         self._server.end()
-        return seen
+        return Look(seen, at)
 
-    def _step(self, seen: Optional[Seen]) -> bool:
-        """Brings Redis up to date. Whether all is well."""
+    def _step(self) -> bool:
+        """Brings Redis up to date, by a look at the server once the lease is there: the wait for it
+        may be long. Whether all is well."""
+        look = None
         try:
             if self._has_lease or self._take_lease():
-                self._show(seen)
+                look = self._look()
+                self._show(look)
                 self._redis.end()
         except LeaseLost:
             self._has_lease = False
@@ -111,18 +122,20 @@ class Publisher:
             self._store.doubt()
             self._redis.tell(f"Redis: {fault}")
             return False
-        return seen is not None
+        return look is not None
 
-    def _show(self, seen: Optional[Seen]) -> None:
-        """Publishes what isn't shown yet, or gives a sign of life once a second."""
-        if seen is not None and seen != self._shown and self._copy is not None:
-            self._store.publish(self._copy)
-            self._shown, self._kept_at = self._copy.seen, time.monotonic()
+    def _show(self, look: Optional[Look]) -> None:
+        """Publishes what isn't shown yet, or gives a sign of life once a second, and at the first
+        look after a publish, which took its time."""
+        if look is not None and look.seen != self._shown and self._copy is not None:
+            self._store.publish(self._copy, look.at)
+            self._shown, self._kept_at = self._copy.seen, 0.0
             if not self._has_shown:
                 print(f"PUBLISHING {self._options.name}", flush=True)
             self._has_shown = True
         elif time.monotonic() >= self._kept_at + AGAIN:
-            if not self._store.keep(seen is not None and seen == self._shown):
+            is_newest = look is not None and look.seen == self._shown
+            if not self._store.keep(look.at if look is not None and is_newest else None):
                 self._shown = None
                 self._store.doubt()
             self._kept_at = time.monotonic()
@@ -131,7 +144,7 @@ class Publisher:
         """Takes the lease, once that of a publisher that is gone has ended."""
         begun, least = time.monotonic(), LEASE
         while not self._is_ended:
-            held = self._store.take()
+            held = self._taken()
             if held is None:
                 self._lease.end()
                 self._has_lease, self._shown, self._kept_at = True, None, 0.0
@@ -144,6 +157,15 @@ class Publisher:
             least = left
             self._rest(0.2)
         return False
+
+    def _taken(self) -> Optional[Tuple[str, float]]:
+        """Tries to take the lease, as the store does."""
+        try:
+            return self._store.take()
+        except Elsewhere as fault:
+            last, mine = fault.args
+            told = f"'{self._options.name}' was published last from {last:.80}, and this is {mine}"
+            raise Taken(f"{told}: take another name, or --take-over") from fault
 
     def _leave(self) -> None:
         """Gives the lease up, if Redis is there."""

@@ -5,32 +5,39 @@ lease another has taken meanwhile, changes nothing. What may be refused is read 
 write.
 """
 
-# KEYS lease; ARGV token, milliseconds. Takes the lease, or returns whose it is, and for how long.
+# KEYS lease, publisher; ARGV token, milliseconds, place, and 1 to publish what another place has
+# published before. Takes the lease, or returns whose it is, and for how long, or the other place.
 TAKE = """
 local holder = redis.call('GET', KEYS[1])
+local last = redis.call('GET', KEYS[2])
 if holder and holder ~= ARGV[1] then return {holder, redis.call('PTTL', KEYS[1])} end
+if last and last ~= ARGV[3] and ARGV[4] ~= '1' then return {last} end
 redis.call('SET', KEYS[1], ARGV[1], 'PX', ARGV[2])
 return {}
 """
 
-# KEYS lease, seen, newest, versions, tiles; ARGV token, milliseconds, order, count. Keeps the
-# lease, and notes the time where this order is still the newest. 1, or 0 without the lease, or 2
-# where the newest is another, or its record or tiles are gone.
+# KEYS lease, seen, newest, versions, tiles, publisher; ARGV token, milliseconds, order, count,
+# time, place. Keeps the lease, and notes the time where this order is still the newest. 1, or 0
+# without the lease, or 2 where the newest is another, or its record, tiles or place are gone; then
+# the time now, which is noted where the given one isn't yet: Redis' clock was set back.
 KEEP = """
-if redis.call('GET', KEYS[1]) ~= ARGV[1] then return 0 end
+local clock = redis.call('TIME')
+local now = string.format('%s%06d', clock[1], clock[2])
+if redis.call('GET', KEYS[1]) ~= ARGV[1] then return {0, now} end
 local newest = redis.call('GET', KEYS[3])
 local is_whole = ARGV[3] == newest and redis.call('HEXISTS', KEYS[4], newest) == 1
-    and redis.call('HLEN', KEYS[5]) >= tonumber(ARGV[4])
+    and redis.call('HLEN', KEYS[5]) >= tonumber(ARGV[4]) and redis.call('GET', KEYS[6]) == ARGV[6]
 redis.call('PEXPIRE', KEYS[1], ARGV[2])
-if ARGV[3] == '' then return 1 end
-if not is_whole then return 2 end
-local now = redis.call('TIME')
-redis.call('SET', KEYS[2], string.format('%s%06d', now[1], now[2]))
-return 1
+if ARGV[3] == '' then return {1, now} end
+if not is_whole then return {2, now} end
+local is_over = tonumber(ARGV[5]) <= tonumber(now)
+redis.call('SET', KEYS[2], is_over and ARGV[5] or now)
+return {1, now}
 """
 
-# KEYS lease, newest, versions, tiles, seen; ARGV token, order, record, time, channel, and the
-# orders of versions that are dropped. Shows a version, all of whose tiles are there, to followers.
+# KEYS lease, newest, versions, tiles, seen, publisher; ARGV token, order, record, time, place,
+# channel, and the orders of versions that are dropped. Shows a version, all of whose tiles are
+# there, to followers.
 COMMIT = """
 if redis.call('GET', KEYS[1]) ~= ARGV[1] then return 'lease' end
 local newest = redis.call('GET', KEYS[2])
@@ -41,11 +48,13 @@ for at = string.find(record, '\\n', 1, true) + 1, #record - 32, 32 do
     if redis.call('HEXISTS', KEYS[4], tile) == 0 then return 'tiles' end
 end
 redis.call('GET', KEYS[5])
+redis.call('GET', KEYS[6])
 redis.call('HSET', KEYS[3], ARGV[2], record)
 redis.call('SET', KEYS[2], ARGV[2])
 redis.call('SET', KEYS[5], ARGV[4])
-for at = 6, #ARGV do redis.call('HDEL', KEYS[3], ARGV[at]) end
-redis.call('PUBLISH', ARGV[5], ARGV[2])
+redis.call('SET', KEYS[6], ARGV[5])
+for at = 7, #ARGV do redis.call('HDEL', KEYS[3], ARGV[at]) end
+redis.call('PUBLISH', ARGV[6], ARGV[2])
 return 'done'
 """
 

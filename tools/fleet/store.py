@@ -5,7 +5,7 @@ from secrets import token_hex
 from typing import Any, Dict, Iterable, List, NamedTuple, Optional, Set, Tuple
 
 import scripts
-from clearmap import BadVersion, ClearmapError
+from clearmap import BadVersion, ClearmapError, clock
 from clearmap.records import Keys, Record, compressed_tiles, order_of, read_record
 from source import Copy
 
@@ -16,6 +16,10 @@ MICRO = 1_000_000
 
 class LeaseLost(Exception):
     """The lease has ended, or is another publisher's."""
+
+
+class Elsewhere(Exception):
+    """Another place has published under this name."""
 
 
 class Stored(NamedTuple):
@@ -38,9 +42,11 @@ class Store:
     names it the newest. After that the tiles go that no kept version names. What Redis refuses is
     raised, and can be tried again at any time."""
 
-    def __init__(self, redis: Any, name: str, keep: int) -> None:
+    def __init__(self, redis: Any, name: str, keep: int, port: int, takes_over: bool) -> None:
         self._redis, self._keys, self._keep = redis, Keys(name), keep
+        self._place, self._takes_over = f"{socket.gethostname()}:{port}", takes_over
         self._token = f"{socket.gethostname()}:{os.getpid()}:{token_hex(8)}"
+        self._clock: Optional[Tuple[int, float]] = None  # a time of Redis, and of `clock.now`
         self._last = 0  # the order of what was published last from here
         self._count = 0  # tiles that stood in Redis after it
         self._is_sure = False  # whether the tiles in Redis are as they were written
@@ -48,23 +54,30 @@ class Store:
     # ---- the lease
 
     def take(self) -> Optional[Tuple[str, float]]:
-        """Takes the lease. If it is another's, returns whose, and for how many more seconds."""
-        held = self._run(scripts.TAKE, [self._keys.lease], [int(1000 * LEASE)])
+        """Takes the lease. If it is another's, returns whose, and for how many more seconds.
+        Elsewhere if another place has published last, and this one doesn't take over."""
+        keys = [self._keys.lease, self._keys.publisher]
+        words = [int(1000 * LEASE), self._place, int(self._takes_over)]
+        held = self._run(scripts.TAKE, keys, words)
         if not held:
             self.doubt()
             return None
+        if len(held) == 1:
+            raise Elsewhere(held[0].decode("utf-8", "replace"), self._place)
         if held[1] < 0:
             raise ClearmapError(f"the key {self._keys.lease} holds something else: it never ends")
         return held[0].decode("utf-8", "replace").rpartition(":")[0], held[1] / 1000
 
-    def keep(self, is_newest: bool) -> bool:
-        """Keeps the lease; LeaseLost if it isn't one's own any more. With `is_newest` followers
-        learn that what was published last is still the server's newest. False if Redis shows
-        another version, or not all of it, as one that has lost its last writes does."""
+    def keep(self, looked: Optional[float] = None) -> bool:
+        """Keeps the lease; LeaseLost if it isn't one's own any more. With a time of `clock.now`
+        followers learn that what was published last was the server's newest then. False if Redis
+        shows another version, or not all of it, as one that has lost its last writes does."""
         keys = self._keys
-        names = [keys.lease, keys.seen, keys.newest, keys.versions, keys.tiles]
-        order = self._last if is_newest else ""
-        told = self._run(scripts.KEEP, names, [int(1000 * LEASE), order, self._count])
+        names = [keys.lease, keys.seen, keys.newest, keys.versions, keys.tiles, keys.publisher]
+        order, time = ("", 0) if looked is None else (self._last, self._time_of(looked))
+        words = [int(1000 * LEASE), order, self._count, time, self._place]
+        told, now = self._run(scripts.KEEP, names, words)
+        self._clock = int(now), clock.now()
         if told == 0:
             raise LeaseLost
         return bool(told == 1)
@@ -74,8 +87,18 @@ class Store:
         self._run(scripts.LEAVE, [self._keys.lease], [])
 
     def doubt(self) -> None:
-        """From now on it is unknown what Redis holds: the next version writes all its tiles."""
-        self._is_sure = False
+        """From now on it is unknown what Redis holds, and what its clock says: the next version
+        writes all its tiles."""
+        self._is_sure, self._clock = False, None
+
+    def _time_of(self, moment: float) -> int:
+        """Redis' time at a moment of `clock.now`, or somewhat earlier: by its answer before, which
+        it gave before that came here."""
+        if self._clock is None:
+            seconds, micros = self._redis.time()
+            self._clock = MICRO * int(seconds) + int(micros), clock.now()
+        told, came = self._clock
+        return max(0, told + int(MICRO * (moment - came)))
 
     def _run(self, script: str, keys: List[str], words: List[object]) -> Any:
         """Runs a script, with the token as its first argument."""
@@ -83,11 +106,12 @@ class Store:
 
     # ---- versions
 
-    def publish(self, copy: Copy) -> Record:
-        """Shows a version to followers, as newer than each before it."""
+    def publish(self, copy: Copy, looked: float) -> Record:
+        """Shows a version to followers, as newer than each before it, and as the server's newest at
+        that time of `clock.now`."""
         stored = self._stored()
         hashes, values = compressed_tiles(copy.area)
-        record = self._recorded(copy, tuple(hashes), stored)
+        record = self._recorded(copy, tuple(hashes), stored, looked)
         self._drop(stored.tiles - stored.named() - set(hashes))
         lacking = [key for key in values if not self._is_sure or key not in stored.tiles]
         self._write({key: values[key] for key in lacking})
@@ -106,16 +130,21 @@ class Store:
         asked = self._redis.pipeline(transaction=False)  # which is answered without memory too
         asked.get(keys.newest).hkeys(keys.tiles).hgetall(keys.versions).time()
         newest, tiles, records, (seconds, micros) = asked.execute()
+        now = MICRO * int(seconds) + int(micros)
+        self._clock = now, clock.now()
         versions = {order_of(order, keys.versions): _tiles_of(it) for order, it in records.items()}
         last = max([order_of(newest, keys.newest), *versions])
-        return Stored(last, set(tiles), versions, MICRO * int(seconds) + int(micros))
+        return Stored(last, set(tiles), versions, now)
 
-    def _recorded(self, copy: Copy, tiles: Tuple[bytes, ...], stored: Stored) -> Record:
+    def _recorded(
+        self, copy: Copy, tiles: Tuple[bytes, ...], stored: Stored, looked: float
+    ) -> Record:
         """The record of a version. Its order is the time, or more: a Redis that has lost what it
         held goes on above what followers have seen."""
         order = max(stored.now, stored.newest + 1, self._last + 1)
         run, number = copy.seen
-        return Record(order, run, number, stored.now, copy.area.size, copy.area.edge, tiles)
+        time = min(self._time_of(looked), stored.now)
+        return Record(order, run, number, time, copy.area.size, copy.area.edge, tiles)
 
     def _write(self, values: Dict[bytes, bytes]) -> None:
         """Writes tiles, and keeps the lease between them."""
@@ -123,13 +152,13 @@ class Store:
         for start in range(0, len(names), BATCH):
             part = {key: values[key] for key in names[start : start + BATCH]}
             self._redis.hset(self._keys.tiles, mapping=part)
-            self.keep(False)
+            self.keep()
 
     def _commit(self, record: Record, dropped: List[int]) -> None:
         """Makes a version the newest, and drops older ones."""
         keys = self._keys
-        named = [keys.lease, keys.newest, keys.versions, keys.tiles, keys.seen]
-        words = [record.order, record.written(), record.published, keys.news, *dropped]
+        named = [keys.lease, keys.newest, keys.versions, keys.tiles, keys.seen, keys.publisher]
+        words = [record.order, record.written(), record.published, self._place, keys.news, *dropped]
         told = self._run(scripts.COMMIT, named, words)
         if told == b"lease":
             raise LeaseLost

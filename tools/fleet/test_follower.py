@@ -201,7 +201,8 @@ class Waits(Follows):
 
     def test_wrong_arguments(self):
         for url, name, settings in (("depot:6379", "yard", {}), (self.redis.url, "a b", {}),
-                                    (self.redis.url, "yard", {"timeout": 0})):  # fmt: skip
+                                    (self.redis.url, "yard", {"timeout": 0}),
+                                    (self.redis.url, "yard", {"host": ""})):  # fmt: skip
             with self.assertRaises(ValueError):
                 clearmap.Follower(url, name, **settings)
 

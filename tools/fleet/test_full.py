@@ -90,7 +90,7 @@ class Others(Publishes):
         client = self.redis.client
         server = self.serve()
         painter = self.paint(server)
-        for key in (KEYS.newest, KEYS.versions, KEYS.tiles, KEYS.lease, KEYS.seen):
+        for key in (KEYS.newest, KEYS.versions, KEYS.tiles, KEYS.lease, KEYS.seen, KEYS.publisher):
             client.rpush(key, "something else")
             publisher = self.publish(server.port)
             self.assertTrue(publisher.says("Redis: "), key)

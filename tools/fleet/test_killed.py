@@ -118,7 +118,7 @@ class TakingTurns(Publishes):
         watcher.start()
         for turn in range(8):
             painter, server = painters[turn % 2], servers[turn % 2]
-            with self.publish(server.port, "--interval", "0.01"):
+            with self.publish(server.port, "--interval", "0.01", "--take-over"):
                 known = follower._version.order if follower._version else 0
                 number = painter.publish()
                 is_ours = lambda: (follower.version.order > known

@@ -3,14 +3,16 @@
 import os
 import pathlib
 import signal
+import socket
 import subprocess
 import sys
 import time
 import unittest
 
 from test_publish import Publishes
-from testing import HERE, PATIENCE, Keys, Redis, room, until
+from testing import HERE, PATIENCE, Direct, Keys, Redis, clearmap, np, room, until
 
+KEYS = Keys("yard")
 SCRIPT = HERE / "clearmap_publish.py"
 
 
@@ -28,7 +30,7 @@ class Leases(Publishes):
         self.assertEqual(len(second.said), 1, second.said)
         self.has(follower, painter, painter.publish())
         self.assertEqual(first.end(), 0)
-        third = self.publish(other.port)  # at once, as the lease was left
+        third = self.publish(other.port, "--take-over")  # at once, as the lease was left
         self.assertTrue(until(lambda: follower.version.number == 0))
         self.assertEqual(third.said, [])
 
@@ -52,14 +54,99 @@ class Leases(Publishes):
         first = self.publish(server.port)
         self.has(follower, self.paint(server), 0)
         first.process.send_signal(signal.SIGSTOP)
-        self.redis.client.delete(Keys("yard").lease)  # as if its time had ended
-        self.publish(other.port)
+        self.redis.client.delete(KEYS.lease)  # as if its time had ended
+        self.publish(other.port, "--take-over")
         painter = self.paint(other, 2)
         self.has(follower, painter, painter.publish())
         first.process.send_signal(signal.SIGCONT)
         self.assertEqual(first.process.wait(PATIENCE), 1)
         self.assertTrue(first.says("another publisher of 'yard' is live"))
         self.has(follower, painter, painter.publish())
+
+
+class Names(Publishes):
+    """A name's versions come from one place: a host, and its server's port."""
+
+    def setUp(self):
+        super().setUp()
+        self.server, self.other = self.serve(room(seed=1)), self.serve(room(seed=2))
+        self.painter, self.follower = self.paint(self.server), self.follow()
+        self.host = socket.gethostname()
+
+    def lose(self):
+        """A publisher that is killed after its first version, and whose lease has ended."""
+        with self.publish(self.server.port) as first:
+            version = self.has(self.follower, self.painter, 0)
+            first.end(signal.SIGKILL)
+        self.redis.client.delete(KEYS.lease)
+        return version
+
+    def test_another_server(self):
+        """At the first one's outage another server under its name isn't published."""
+        version = self.lose()
+        second = self.publish(self.other.port)
+        self.assertEqual(second.process.wait(PATIENCE), 1)
+        places = f"{self.host}:{self.server.port}, and this is {self.host}:{self.other.port}"
+        self.assertTrue(second.says(f"'yard' was published last from {places}: take another name"))
+        self.assertEqual(len(second.said), 1, second.said)
+        self.assertIs(self.follower.version, version)
+        self.assertEqual(self.redis.client.ttl(KEYS.publisher), -1)
+        self.publish(self.server.port)
+        self.assertGreater(self.has(self.follower, self.painter, self.painter.publish()).order,
+                           version.order)  # fmt: skip
+
+    def test_a_map_that_has_moved(self):
+        """It is told once; the place before it is refused then."""
+        self.lose()
+        painter = self.paint(self.other)
+        with self.publish(self.other.port, "--take-over") as second:
+            self.has(self.follower, painter, painter.publish())
+            self.assertEqual(second.end(), 0)
+        with self.publish(self.other.port) as second:
+            self.has(self.follower, painter, painter.publish())
+            self.assertEqual(second.end(), 0)
+        first = self.publish(self.server.port)
+        self.assertEqual(first.process.wait(PATIENCE), 1)
+        self.assertTrue(first.says(f"published last from {self.host}:{self.other.port}"))
+
+    def test_a_place_that_is_lost(self):
+        """Somebody deletes it: it is written again."""
+        self.publish(self.server.port)
+        self.has(self.follower, self.painter, 0)
+        self.redis.client.delete(KEYS.publisher)
+        told = lambda: self.redis.client.get(KEYS.publisher)
+        self.assertTrue(until(lambda: told() == f"{self.host}:{self.server.port}".encode()))
+        self.redis.client.set(KEYS.publisher, "hall:7400")
+        self.assertTrue(until(lambda: told() == f"{self.host}:{self.server.port}".encode()))
+
+    def test_a_host_that_is_expected(self):
+        """A follower takes what this host publishes, and says of others who they are."""
+        here = [self.follow(host=self.host), self.follow(host=f"{self.host}:{self.server.port}")]
+        others = [self.follow(host="hall"), self.follow(host=f"{self.host}:1"),
+                  self.follow(host=str(self.server.port))]  # fmt: skip
+        publisher = self.publish(self.server.port)
+        versions = [self.has(follower, self.painter, 0) for follower in here]
+        place = f"{self.host}:{self.server.port}"
+        for follower, expected in zip(others, ("hall", f"{self.host}:1")):
+            with self.assertRaisesRegex(clearmap.NoVersion, f"from {place}, and {expected} is exp"):
+                follower.wait(timeout=1)
+        for follower in others:
+            self.assertIsNone(follower._version)
+        publisher.end()
+        painter = self.paint(self.other)
+        self.publish(self.other.port, "--take-over")
+        self.has(here[0], painter, painter.publish())
+        self.assertTrue(until(lambda: here[1].error is not None))
+        self.assertRegex(here[1].error, f"isn't taken: it is from {self.host}:{self.other.port}")
+        self.assertIs(here[1].version, versions[1])
+        self.assertTrue(until(lambda: here[1].stale > 1.5))
+
+    def test_a_publisher_that_isnt_told(self):
+        """Whoever expects a host takes nothing whose host isn't known."""
+        Direct(self.redis).show(np.eye(300, 400) > 0)
+        self.redis.client.delete(KEYS.publisher)
+        with self.assertRaisesRegex(clearmap.NoVersion, "it doesn't tell its publisher, and depot"):
+            self.follow(host="depot").wait(timeout=1)
 
 
 class Words(unittest.TestCase):
@@ -75,7 +162,9 @@ class Words(unittest.TestCase):
         for words in ((), ("--port", "0", "--name", "yard"), ("--port", "7400"),
                       ("--port", "7400", "--name", "a b"), (*good, "--keep", "0"),
                       (*good, "--keep", "65"), (*good, "--interval", "0"),
-                      (*good, "--interval", "nan"), (*good, "--interval", "61")):  # fmt: skip
+                      (*good, "--interval", "nan"), (*good, "--interval", "61"),
+                      (*good, "--size", "40"), (*good, "--size", "0x5"),
+                      (*good, "--size", "4097x5"), (*good, "--size", "5 x 5")):  # fmt: skip
             status, line = self.told(*words)
             self.assertEqual(status, 2, words)
             self.assertRegex(line, "^clearmap-publish: error: ")

@@ -141,11 +141,22 @@ class Servers(Publishes):
         before = self.has(strict, painter, 0)
         publisher.end()
         other = self.serve(room(90, 50, seed=2))
-        self.publish(other.port)
+        self.publish(other.port, "--take-over")
         self.assertTrue(until(lambda: follower.version.map.size == (90, 50)))
         self.assertTrue(until(lambda: strict.error is not None))
         self.assertRegex(strict.error, "isn't taken: another map: .* 90 by 50 cells, and 300 by")
         self.assertIs(strict.version, before)
+
+    def test_a_size_that_is_expected(self):
+        """A map of another size isn't published, and nothing of it is stored; the right one is."""
+        server = self.serve(room(90, 50, seed=2))
+        publisher = self.publish(server.port, "--size", "300x400")
+        said = "another map: the server's has 90 by 50 cells, and 300 by 400 are expected"
+        self.assertTrue(publisher.says(said))
+        self.assertEqual((self.redis.stored("yard"), self.redis.tiles("yard")), ({}, set()))
+        server.end()
+        again = self.serve(room(seed=1), server.port)
+        self.has(self.follow(size=(300, 400)), self.paint(again), 0)
 
     def test_no_server_at_first(self):
         port = free_port()

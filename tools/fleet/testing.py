@@ -19,6 +19,7 @@ import redis as redis_of_python
 
 import clearmap
 import store
+from clearmap import clock
 from clearmap.records import Keys, read_record, read_tile, tiles_of
 from served import PROGRAM, Served, blank
 from source import Copy, Seen
@@ -212,15 +213,15 @@ class Painter:
 class Direct:
     """Publishes grids without a server, as a publisher does."""
 
-    def __init__(self, redis, name="yard", keep=8):
-        self.store, self.count = store.Store(redis.client, name, keep), 0
+    def __init__(self, redis, name="yard", keep=8, port=7400, takes_over=False):
+        self.store, self.count = store.Store(redis.client, name, keep, port, takes_over), 0
         self.store.take()
 
-    def show(self, grid, edge="open"):
-        """Publishes a grid as the next version; its record."""
+    def show(self, grid, edge="open", ago=0):
+        """Publishes a grid as the next version, as looked at some seconds ago; its record."""
         self.count += 1
         seen = Seen("0123456789abcdef", self.count)
-        return self.store.publish(Copy(seen, clearmap.Map(grid, edge)))
+        return self.store.publish(Copy(seen, clearmap.Map(grid, edge)), clock.now() - ago)
 
 
 def nearest_of(image, edge="open"):

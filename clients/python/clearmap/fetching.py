@@ -1,25 +1,30 @@
 """What a follower reads from Redis: which version is the newest, and what it lacks of it."""
 import socket
-import time
 from contextlib import suppress
 from typing import Any, Dict, List, NamedTuple, Optional
 from urllib.parse import urlsplit
 
-from .errors import BadVersion, Size, WrongMap
+from . import clock
+from .capped import capped
+from .errors import BadVersion, ClearmapError, Size, WrongMap
 from .followed import Version, missing, put_together, stock_of
 from .library import redis
 from .records import Keys, Record, Tile, order_of, read_record, read_tile
 
 BATCH = 64  # tiles that are asked for at once
+LONGEST_REPLY = 2**20  # bytes, more than twice those of so many tiles
+LOOKS = 5  # at the newest version, until none comes during one
 MICRO = 1_000_000
 
 
 class State(NamedTuple):
-    """The newest version's order, 0 if there is none, and when the publisher last found it to be
-    the server's newest, by `time.monotonic` of this process; None if unknown."""
+    """The newest version's order, 0 if there is none; when its publisher last found it to be the
+    server's newest, by `clock.now`, None if unknown; and the publisher's host and server's port, ""
+    if unknown or not asked for."""
 
     newest: int
     seen: Optional[float]
+    publisher: str
 
 
 def place_of(url: str) -> str:
@@ -71,7 +76,7 @@ class Fetcher:
     the next try."""
 
     def __init__(self, client: Any, name: str, size: Optional[Size]) -> None:
-        self._client, self._keys, self._size = client, Keys(name), size
+        self._client, self._keys, self._size = capped(client, LONGEST_REPLY), Keys(name), size
         self._fetched: Dict[bytes, bytes] = {}
 
     def news(self) -> News:
@@ -79,19 +84,25 @@ class Fetcher:
         return News(self._client, self._keys.news)
 
     def state(self) -> State:
-        """The newest version's state, by one question."""
-        asked, begun = self._client.pipeline(transaction=False), time.monotonic()
-        asked.get(self._keys.newest).get(self._keys.seen).time()
-        newest, seen, now = asked.execute()
-        order, told = order_of(newest, self._keys.newest), order_of(seen, self._keys.seen)
-        return State(order, _when(told, now, begun) if told else None)
+        """The newest version's state. What is told of another one, which came meanwhile, isn't
+        taken for this one's: then Redis is asked again."""
+        keys = self._keys
+        for _ in range(LOOKS):
+            asked, begun = self._client.pipeline(transaction=False), clock.now()
+            asked.get(keys.newest).get(keys.seen).get(keys.publisher).get(keys.newest).time()
+            newest, seen, publisher, again, now = _answered(asked)
+            if newest == again:
+                order, told = order_of(newest, keys.newest), order_of(seen, keys.seen)
+                place = (publisher or b"").decode("utf-8", "replace")
+                return State(order, _when(told, now, begun) if told else None, place)
+        raise ClearmapError("versions come faster than Redis tells of them")
 
     def version(self, order: int, before: Optional[Version]) -> Version:
         """The version of this order. BadVersion if it isn't whole, and WrongMap if its map doesn't
         have the expected size."""
-        asked, begun = self._client.pipeline(transaction=False), time.monotonic()
+        asked, begun = self._client.pipeline(transaction=False), clock.now()
         asked.hget(self._keys.versions, order).time()
-        data, now = asked.execute()
+        data, now = _answered(asked)
         record = read_record(data)
         if record.order != order:
             raise BadVersion(f"its record is that of version {record.order}")
@@ -119,12 +130,24 @@ class Fetcher:
     def _take(self, wanted: List[bytes], places: Dict[bytes, Tile]) -> None:
         """Fetches and checks these tiles."""
         values = self._client.hmget(self._keys.tiles, wanted)
+        if not isinstance(values, list) or len(values) != len(wanted):
+            raise ClearmapError(f"Redis was asked for {len(wanted)} tiles and sends another number")
         for key, value in zip(wanted, values):
             self._fetched[key] = read_tile(value, key, places[key])
 
 
+def _answered(asked: Any) -> List[Any]:
+    """The answers to what a pipeline asks, the time last. The client of Redis takes the form of a
+    time for granted."""
+    try:
+        answers: List[Any] = asked.execute()
+    except (IndexError, TypeError, ValueError) as fault:
+        raise ClearmapError(f"Redis tells its time in another form: {fault}") from fault
+    return answers
+
+
 def _when(told: int, now: Any, begun: float) -> float:
-    """Converts a time of Redis to `time.monotonic`; Redis answered at its time `now` a question
+    """Converts a time of Redis to `clock.now`; Redis answered at its time `now` a question
     asked here at `begun`. A slow answer makes the result too early, never too late; a time in the
     future of Redis' clock is now."""
     seconds, micros = now

@@ -1,8 +1,8 @@
 """A followed version: its map, which nobody changes, and how it is assembled from tiles."""
-import time
 from dataclasses import dataclass, field
 from typing import Any, Dict, NoReturn, Optional, Sequence
 
+from . import clock
 from .errors import BadVersion
 from .grids import Memory
 from .library import Bits, numpy
@@ -19,6 +19,13 @@ class FixedMap(Map):
         raise TypeError(FIXED)
 
 
+@dataclass
+class Known:
+    """When a version was last known to be the server's newest, by `clock.now`."""
+
+    at: float
+
+
 @dataclass(frozen=True, eq=False)
 class Version:
     """A published version, whole, which stays as it is: ask its `map`. Any threads may share it.
@@ -33,14 +40,20 @@ class Version:
     run: str
     order: int
     hash: str
-    _published: float = field(repr=False)  # by time.monotonic of this process
+    _published: float = field(repr=False)  # by clock.now
     _record: Record = field(repr=False)
+    _known: Known = field(repr=False)
 
     @property
     def age(self) -> float:
-        """Seconds since it was published, by Redis' clock up to when it came, and then by this
-        machine's."""
-        return max(0.0, time.monotonic() - self._published)
+        """Seconds since the publisher found it on the server, by Redis' clock up to when it came,
+        and then by this machine's."""
+        return max(0.0, clock.now() - self._published)
+
+    @property
+    def stale(self) -> float:
+        """Seconds since it was last known to be the server's newest."""
+        return max(0.0, clock.now() - self._known.at)
 
 
 def stock_of(version: Optional[Version]) -> Dict[bytes, Tile]:
@@ -67,7 +80,7 @@ def put_together(
     bits = Bits(width, height, words.shape[1], _blank_bands(words))
     area = FixedMap._of(Memory("bits", words, words.size, bits), record.edge)
     told = record.number, record.run, record.order, record.hash
-    return Version(area, *told, published, record)
+    return Version(area, *told, published, record, Known(published))
 
 
 def _words(record: Record, before: Optional[Version], fetched: Dict[bytes, bytes]) -> Any:

@@ -3,11 +3,11 @@ import math
 import os
 import random
 import threading
-import time
 from typing import NoReturn, Optional
 
+from . import clock
 from .errors import BadVersion, ClearmapError, NoVersion, Size, WrongMap
-from .fetching import Fetcher, News, connected, place_of
+from .fetching import Fetcher, News, State, connected, place_of
 from .followed import Version
 from .library import library, numpy, redis
 from .size import size_of
@@ -15,6 +15,8 @@ from .size import size_of
 LOOK = 1.0  # seconds without news after which Redis is asked
 PAUSES = 0.1, 2.0  # seconds before Redis is tried again, at first and at most
 TRIES = 3  # looks one after another while newer versions take the place of the one that is read
+LOST = 3.0  # seconds after which a version that nobody has confirmed is told by `error`
+UNSEEN = "nobody tells that its version is the newest: the server or clearmap-publish is lost"
 
 
 class Follower:
@@ -27,7 +29,8 @@ class Follower:
     A thread of its own fetches what each version lacks. `version` is always whole, and never older
     than one before it. What isn't whole, or doesn't match its hashes, isn't taken, and `error` says
     so. Without Redis the version stays: its `age` and `stale` grow. With `size` a map of another
-    size isn't taken.
+    size isn't taken, and with `host` none but those that this host publishes: "depot", or
+    "depot:7400" with its server's port.
 
     Ask a version, not the follower, for answers that belong together. Any thread may use all of
     this, and a signal's handler `version`, `stale` and `error`. A forked process makes a follower
@@ -35,17 +38,25 @@ class Follower:
     """
 
     def __init__(
-        self, url: str, name: str, *, size: Optional[Size] = None, timeout: float = 5.0
+        self,
+        url: str,
+        name: str,
+        *,
+        size: Optional[Size] = None,
+        host: Optional[str] = None,
+        timeout: float = 5.0,
     ) -> None:
         library(), numpy(), redis()
         if not timeout > 0:
             raise ValueError(f"a time-out of {timeout} s, where more than 0 is wanted")
+        if host == "":
+            raise ValueError("the host has no name: leave it out where any may publish")
         self._what = f"'{name}' at {place_of(url)}"
         self._fetcher = Fetcher(
             connected(url, float(timeout)), name, None if size is None else size_of(size)
         )
+        self._host = host
         self._version: Optional[Version] = None
-        self._newest_at = -math.inf  # when the version was last known to be the server's newest
         self._error: Optional[str] = None
         self._news: Optional[News] = None
         self._changed, self._ended = threading.Condition(), threading.Event()
@@ -74,15 +85,19 @@ class Follower:
 
     @property
     def error(self) -> Optional[str]:
-        """What currently keeps it from the newest version; None if nothing does."""
+        """What currently keeps it from the newest version, or from knowing that it has it; None if
+        nothing does."""
         why = self._error
+        if why is None and LOST < self.stale < math.inf:
+            why = UNSEEN
         return None if why is None else f"{self._what}: {why}"
 
     @property
     def stale(self) -> float:
-        """Seconds since the version was last known to be the server's newest. While all is well it
-        stays below three; it is infinite without a version."""
-        return max(0.0, time.monotonic() - self._newest_at)
+        """That of `version`: seconds since it was last known to be the server's newest. While all
+        is well it stays below three; it is infinite without a version."""
+        version = self._version
+        return math.inf if version is None else version.stale
 
     def wait(
         self, newer_than: Optional[Version] = None, timeout: Optional[float] = None
@@ -135,13 +150,14 @@ class Follower:
         tries again."""
         pause, longest = PAUSES
         while not self._is_over():
-            begun = time.monotonic()
+            begun = clock.now()
             try:
                 self._follow()
             except Exception as fault:
                 if not self._is_over():
                     self._error = str(fault) or type(fault).__name__
-            pause = PAUSES[0] if time.monotonic() - begun > longest else min(2 * pause, longest)
+                self._fetcher.close()  # connections that may be out of step
+            pause = PAUSES[0] if clock.now() - begun > longest else min(2 * pause, longest)
             self._ended.wait(pause * random.uniform(0.5, 1))
         self._fetcher.close()
 
@@ -163,13 +179,14 @@ class Follower:
         """Takes the newest version, if it is newer. Whether it did."""
         refused = -1
         for _ in range(TRIES):
-            newest, seen = self._fetcher.state()
-            if newest == refused or not self._wants(newest):
-                self._confirm(newest, seen)
+            state = self._fetcher.state()
+            newest = state.newest
+            if newest == refused or not self._wants(newest) or self._is_from_elsewhere(state):
+                self._confirm(state)
                 return False
             try:
                 self._take(newest)
-                self._confirm(newest, seen)
+                self._confirm(state)
                 return True
             except (BadVersion, WrongMap) as fault:  # it may be that a newer one took its place
                 self._error = f"the newest version isn't taken: {fault}"
@@ -188,16 +205,24 @@ class Follower:
             self._error = None
         return newest > mine
 
+    def _is_from_elsewhere(self, state: State) -> bool:
+        """Whether another host than the expected one has published the newest version."""
+        place = state.publisher
+        if self._host is None or self._host in (place, place.rpartition(":")[0]):
+            return False
+        told = f"is from {place:.80}" if place else "doesn't tell its publisher"
+        self._error = f"the newest version isn't taken: it {told}, and {self._host} is expected"
+        return True
+
     def _take(self, newest: int) -> None:
         """Fetches the newest version, and shows it to all."""
         version = self._fetcher.version(newest, self._version)
         with self._changed:
             self._version, self._error = version, None
-            self._newest_at = version._published
             self._changed.notify_all()
 
-    def _confirm(self, newest: int, seen: Optional[float]) -> None:
+    def _confirm(self, state: State) -> None:
         """The publisher has found at that time that this is the newest."""
         mine = self._version
-        if mine is not None and mine.order == newest and seen is not None:
-            self._newest_at = max(mine._published, seen)
+        if mine is not None and mine.order == state.newest and state.seen is not None:
+            mine._known.at = max(mine._published, state.seen)

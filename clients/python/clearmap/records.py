@@ -33,6 +33,7 @@ class Keys:
             stem + key for key in ("newest", "versions", "tiles")
         )
         self.lease, self.seen, self.news = (stem + key for key in ("lease", "seen", "news"))
+        self.publisher = stem + "publisher"
 
 
 class Tile(NamedTuple):
@@ -105,8 +106,8 @@ def read_tile(value: object, wanted: bytes, tile: Tile) -> bytes:
 @dataclass(frozen=True)
 class Record:
     """What is known of a published version. `order` grows with each version of a name, whoever
-    publishes it; `number` is the server's, of one `run`. `published` is the time by Redis' clock,
-    in microseconds since 1970."""
+    publishes it; `number` is the server's, of one `run`. `published` is when the publisher looked
+    at the server, by Redis' clock, in microseconds since 1970."""
 
     order: int
     run: str
