@@ -71,8 +71,8 @@ def parser() -> argparse.ArgumentParser:
         help="clients at once, beyond which a connection is closed (1 to 100000, default "
         "2000)")  # fmt: skip
     add("--patience", metavar="SECONDS", type=number(1, 86400), default=60,
-        help="how long the server may take to answer first, a stamp's bytes to come, a pin to wait "
-        "and 64 KiB of replies to be taken (1 to 86400, default 60)")  # fmt: skip
+        help="how long the server may take to answer, a stamp's bytes to come, a pin to wait and 64 "
+        "KiB of replies to be taken (1 to 86400, default 60)")  # fmt: skip
     return words
 
 
@@ -87,40 +87,48 @@ class Gateway:
     def __init__(self, options: argparse.Namespace) -> None:
         self._options = options
         self._port: int = options.listen
+        self._is_first = True
+        self._said = ""  # why there is no server again
 
     async def run(self) -> None:
         """Runs until it is cancelled. Raises if there is no server at first."""
         from links import Server, ServerLost
 
-        is_first = True
         while True:
-            server = Server()
+            server = Server(self._options.patience)
             try:
                 await self._open(server)
-                await self._serve(server, is_first)
-                is_first = False
-            except (OSError, ServerLost, asyncio.TimeoutError):
-                if is_first:
+                await self._serve(server)
+            except (OSError, ServerLost, asyncio.TimeoutError) as fault:
+                if self._is_first:
                     raise
+                self._tell(told(fault, self._options, self._port))
             finally:
                 server.lose("the gateway ends")
             await asyncio.sleep(AGAIN)
+
+    def _tell(self, why: str) -> None:
+        """Says what keeps it from serving again, each reason once after another."""
+        if why != self._said:
+            say(why)
+        self._said = why
 
     async def _open(self, server: "Server") -> None:
         """Connects to the server, whose workers answer within the patience."""
         opening = server.open(self._options.port, self._options.links)
         await asyncio.wait_for(opening, self._options.patience)
 
-    async def _serve(self, server: "Server", is_first: bool) -> None:
+    async def _serve(self, server: "Server") -> None:
         """Serves clients as long as the server is there."""
         from clients import Desk
 
         desk = Desk(server, self._options.patience)
         listener = await self._listen(desk)
-        if is_first:
+        if self._is_first:
             print(f"LISTENING {self._port}", flush=True)
         else:
             say("there is a server again")
+        self._is_first, self._said = False, ""
         try:
             why = await asyncio.shield(server.lost)
             say(f"{why}: all clients are closed")
@@ -150,6 +158,18 @@ class Gateway:
         listener = await made
         self._port = listener.sockets[0].getsockname()[1]
         return listener
+
+
+def told(fault: Exception, options: argparse.Namespace, port: int) -> str:
+    """What to say of a fault at the start of a run."""
+    if isinstance(fault, asyncio.TimeoutError):
+        return (
+            f"no worker of the server has answered within {options.patience} s: it has fewer than "
+            f"{options.links} that are free"
+        )
+    if isinstance(fault, OSError):
+        return f"port {port} can't be had: {fault.strerror}"
+    return str(fault)
 
 
 async def serve(options: argparse.Namespace) -> None:
@@ -194,15 +214,8 @@ def main() -> int:
     use_fast_loop()
     try:
         asyncio.run(serve(options))
-    except asyncio.TimeoutError:
-        say(f"no worker of the server has answered within {options.patience} s: it has fewer than "
-            f"{options.links} that are free")  # fmt: skip
-        return 1
-    except OSError as fault:
-        say(f"port {options.listen} can't be had: {fault.strerror}")
-        return 1
-    except ServerLost as fault:
-        say(str(fault))
+    except (OSError, ServerLost, asyncio.TimeoutError) as fault:
+        say(told(fault, options, options.listen))
         return 1
     return 0
 

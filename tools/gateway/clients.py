@@ -4,11 +4,11 @@ import asyncio
 from typing import Dict, List, Optional
 
 import dumps
-from clearmap import Map, Refused
+from clearmap import Map
 from lines import AT, NOT_PINNED, PINNED, Line, next_cells, next_line
-from limits import STAMPS, Room
+from limits import ROOM, Room
 from links import Server, ServerLost
-from queries import Answer, at_reply, refusal
+from queries import answered, at_reply
 from streams import INPUT, Gone, Stream
 from versions import Held, Said, Versions
 from watch import Watchers
@@ -23,7 +23,7 @@ class Desk:
         self.server, self.patience = server, patience
         self.versions = Versions(server, patience)
         self.watchers = Watchers(self.versions)
-        self.room = Room(STAMPS)
+        self.room = Room(ROOM)
         self.clients: Dict["Client", None] = {}
 
 
@@ -55,7 +55,13 @@ class Client(Stream):
         """A version that is newer than what this client was told."""
         self._news = version
         if self._task is None and not self._is_over:
-            self._come_to_rest()
+            self._tell_news()
+
+    def _tell_news(self) -> None:
+        """Tells news, which come between two replies, if the client takes what it is sent."""
+        if self._news is not None and not self._is_full:
+            self._write(b"VERSION %d\n" % self._news)
+            self._news = None
 
     # ---- lines
 
@@ -132,9 +138,8 @@ class Client(Stream):
         elif over:
             self._desk.clients.pop(self, None)
             self._end()
-        elif self._news is not None and not self._is_full:
-            self._write(b"VERSION %d\n" % self._news)
-            self._news = None
+        else:
+            self._tell_news()
 
     # ---- lines that take time
 
@@ -232,19 +237,9 @@ class Client(Stream):
 
     async def _stamp(self, line: Line) -> bytes:
         """STAMP: its bytes are all here before a connection is lent for it."""
-        await self._desk.room.take(line.counted)
+        share = self._desk.room.share(self._wake_task)
         try:
-            body = await asyncio.wait_for(self._counted(line.counted), self._patience)
+            body = await self._counted(line.counted, share)
             return await self._desk.server.ask(line.sent, body)
-        except asyncio.TimeoutError:
-            raise Gone from None
         finally:
-            self._desk.room.give(line.counted)
-
-
-def answered(asked: Answer, area: Map) -> bytes:
-    """The reply of a map to a query."""
-    try:
-        return asked.of(area)
-    except Refused as fault:
-        return refusal(fault)
+            share.leave()

@@ -1,7 +1,5 @@
 """What a gateway takes and keeps at most."""
-import asyncio
-from collections import deque
-from typing import Deque, Tuple
+from typing import Callable, Dict
 
 from clearmap.requests import LARGEST_DUMP
 
@@ -11,30 +9,59 @@ UNREAD = 32_768  # bytes of a client that wait to be done, after which no more a
 UNTAKEN = 65_536  # bytes of replies that a client hasn't taken, after which its lines wait
 READ_AWAY = 32 << 20  # bytes that are read away at the end of a connection, as by a server
 LAST_READ = 0.1  # seconds that each of these reads may take
-STAMPS = 2 * LARGEST_STAMP  # bytes of the stamps of all clients that are held at once
+ROOM = LARGEST_STAMP  # bytes of all clients' stamps that are held at once, but for the oldest one
 MAPS = 4  # maps that are kept of versions which nobody holds any more
 
 
 class Room:
-    """Room for this many bytes: a request that finds too little waits for those before it."""
+    """Room for the bytes of stamps, which is taken as they come. The oldest stamp that isn't done
+    has room of its own, so that one of them can always go on."""
 
     def __init__(self, size: int) -> None:
-        self._left = size
-        self._waiting: Deque[Tuple[int, "asyncio.Future[None]"]] = deque()
+        self._size = size
+        self._shares: "Dict[Share, None]" = {}  # by age
+        self._held = 0
 
-    async def take(self, count: int) -> None:
-        """Takes this many bytes, at most all of the room."""
-        if not self._waiting and count <= self._left:
-            self._left -= count
-            return
-        turn = asyncio.get_running_loop().create_future()
-        self._waiting.append((count, turn))
-        await turn
+    def share(self, wake: Callable[[], None]) -> "Share":
+        """What a stamp takes of it, nothing at first; `wake` is called when there may be more."""
+        share = Share(self, wake)
+        self._shares[share] = None
+        return share
 
-    def give(self, count: int) -> None:
+    def left_for(self, share: "Share") -> int:
+        """How many bytes more this share may take now."""
+        oldest = next(iter(self._shares))
+        if share is oldest:
+            return LARGEST_STAMP - share.held
+        return self._size - (self._held - oldest.held)
+
+    def take(self, share: "Share", count: int) -> None:
+        """Takes so many bytes, no more than are left for it."""
+        share.held += count
+        self._held += count
+
+    def leave(self, share: "Share") -> None:
+        """Returns all that a share has taken."""
+        del self._shares[share]
+        self._held -= share.held
+        for other in list(self._shares):
+            other.wake()
+
+
+class Share:
+    """What one stamp takes of the room."""
+
+    def __init__(self, room: Room, wake: Callable[[], None]) -> None:
+        self._room, self.wake, self.held = room, wake, 0
+
+    def left(self) -> int:
+        """How many bytes more it may take now."""
+        return self._room.left_for(self)
+
+    def take(self, count: int) -> None:
+        """Takes so many bytes."""
+        self._room.take(self, count)
+
+    def leave(self) -> None:
         """Returns them."""
-        self._left += count
-        while self._waiting and self._waiting[0][0] <= self._left:
-            wanted, turn = self._waiting.popleft()
-            self._left -= wanted
-            turn.set_result(None)
+        self._room.leave(self)

@@ -15,10 +15,13 @@ class ServerLost(Exception):
 
 
 class Link(asyncio.Protocol):
-    """One connection to the server, with one exchange at a time."""
+    """One connection to the server, with one exchange at a time. If there is a patience, the server
+    is lost where nothing comes for so long while a reply is awaited."""
 
     def __init__(self, lose: Callable[[str], None]) -> None:
+        self.patience: Optional[float] = None
         self._lose = lose
+        self._late: Optional[asyncio.TimerHandle] = None
         self._buffer = bytearray()
         self._busy = False
         self._wanted: Optional[int] = None  # bytes; None: a line
@@ -35,6 +38,7 @@ class Link(asyncio.Protocol):
         if not self._busy:
             self._lose("the server sent what nobody asked for")
         elif self._waits is not None:
+            self._await_more()
             self._settle()
 
     def connection_lost(self, fault: Optional[Exception]) -> None:
@@ -69,6 +73,7 @@ class Link(asyncio.Protocol):
 
     def close(self) -> None:
         """Ends the connection. Who waits for a reply gets ServerLost."""
+        self._stop_waiting()
         self._transport.abort()
         if self._waits is not None and not self._waits.done():
             self._waits.set_exception(ServerLost("the server went away"))
@@ -95,8 +100,21 @@ class Link(asyncio.Protocol):
         """The next `count` bytes, or a line."""
         waits: "asyncio.Future[bytes]" = asyncio.get_running_loop().create_future()
         self._wanted, self._waits = count, waits
+        self._await_more()
         self._settle()
         return await waits
+
+    def _await_more(self) -> None:
+        """From now on the server has so long to send something."""
+        self._stop_waiting()
+        if self.patience is not None:
+            why = f"the server hasn't answered for {self.patience:g} s"
+            loop = asyncio.get_running_loop()
+            self._late = loop.call_later(self.patience, self._lose, why)
+
+    def _stop_waiting(self) -> None:
+        if self._late is not None:
+            self._late.cancel()
 
     def _settle(self) -> None:
         """Gives what is waited for, once it is whole."""
@@ -109,6 +127,7 @@ class Link(asyncio.Protocol):
             return
         data = bytes(self._buffer[:count])
         del self._buffer[:count]
+        self._stop_waiting()
         waits, self._waits = self._waits, None
         if waits is not None and not waits.done():
             waits.set_result(data)
@@ -116,10 +135,11 @@ class Link(asyncio.Protocol):
 
 class Server:
     """The connections to one run of a server. They are made before any is used, and none later: if
-    all answer then, one server has them all, and its versions have one meaning. If one is lost, all
-    are closed."""
+    all answer then, one server has them all, and its versions have one meaning. If one is lost, or
+    stays without a reply for longer than the patience, all are closed."""
 
-    def __init__(self) -> None:
+    def __init__(self, patience: float) -> None:
+        self._patience = patience
         self.lost: "asyncio.Future[str]" = asyncio.get_running_loop().create_future()
         self.links: List[Link] = []
         self._free: Deque[Link] = deque()
@@ -137,6 +157,8 @@ class Server:
         for link in self.links:
             if await link.ask(b"UNPIN\n") != b"ERR 6 NotPinned\n":
                 raise link.fail("what listens there is no clearmap server")
+        for link in self.links:
+            link.patience = self._patience
         self._free.extend(self.links)
 
     def lose(self, why: str) -> None:

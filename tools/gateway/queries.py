@@ -109,3 +109,11 @@ def asked_of(verb: bytes, words: Sequence[bytes]) -> Optional[Answer]:
     if not words or words[0] not in METRICS:
         return None
     return KINDS[verb](words)
+
+
+def answered(asked: Answer, area: Map) -> bytes:
+    """The reply of a map to a query."""
+    try:
+        return asked.of(area)
+    except Refused as fault:
+        return refusal(fault)

@@ -2,7 +2,7 @@
 import asyncio
 from typing import Optional, cast
 
-from limits import LAST_READ, READ, READ_AWAY, UNREAD, UNTAKEN
+from limits import LAST_READ, READ, READ_AWAY, UNREAD, UNTAKEN, Share
 
 INPUT = memoryview(bytearray(READ))  # what was read last, by whichever connection
 
@@ -86,29 +86,40 @@ class Stream(asyncio.BufferedProtocol):
             self._is_paused = pauses
             self._transport.pause_reading() if pauses else self._transport.resume_reading()
 
-    async def _counted(self, count: int) -> bytearray:
-        """The next `count` bytes that the client sends."""
-        body = bytearray()
-        while True:
-            part = self._pending[: count - len(body)]
-            body += part
-            del self._pending[: len(part)]
-            if len(body) == count:
-                return body
-            if self._is_last or self._is_over:
+    async def _counted(self, count: int, share: Share) -> bytearray:
+        """The next `count` bytes that the client sends, which take room as they come. Gone if it
+        lets others wait for them longer than the patience; while they wait for room it doesn't."""
+        body, patience = bytearray(), self._patience
+        while len(body) < count:
+            part = self._pending[: min(count - len(body), share.left())]
+            if part:
+                share.take(len(part))
+                body += part
+                del self._pending[: len(part)]
+                continue
+            if self._is_over or (self._is_last and len(body) + len(self._pending) < count):
                 raise Gone
             self._regulate()
-            await self._woken()
+            if self._pending:
+                await self._woken()
+            else:
+                patience -= await self._woken(patience)
+        return body
 
     async def _room_to_write(self) -> None:
         """Waits until the client has taken what it was sent, or is gone."""
         while self._is_full and not self._is_over:
             await self._woken()
 
-    async def _woken(self) -> None:
-        """Waits until something has come, or went out."""
-        wake = self._wake = self._loop.create_future()
-        await wake
+    async def _woken(self, most: Optional[float] = None) -> float:
+        """Waits until something has come, or went out; how long. Gone after this many seconds."""
+        wake, begun = self._loop.create_future(), self._loop.time()
+        self._wake = wake
+        try:
+            await asyncio.wait_for(wake, most)
+        except asyncio.TimeoutError:
+            raise Gone from None
+        return self._loop.time() - begun
 
     def _wake_task(self) -> None:
         if self._wake is not None and not self._wake.done():
