@@ -61,6 +61,20 @@ class Backups(unittest.TestCase):
                 self.assertEqual(again.stdout, b"OK 5 2 1\n" if image == POST else b"NONE\n")
         self.assertEqual(self.said_by(b"OK 3\nOK 12\nP1\n2 2\n01\n10BYE\n").stdout, b"P1\n2 2\n01\n10")
 
+    def test_a_size_that_is_expected(self):
+        """A map of another size isn't written, though it is whole."""
+        with Served(POST) as server:
+            port = ("--port", str(server.port))
+            run = self.run_script(*port, "--size", "6x4")
+            self.assertEqual((run.returncode, run.stdout), (0, POST))
+            for size in ("4x6", "6x5", "16x4", "6x41", "4096x4096"):
+                run = self.run_script("--size", size, *port)
+                self.assertEqual((run.returncode, run.stdout), (1, b""))
+                said = f"clearmap-backup: another map: it has 6x4 cells, and {size} are expected\n"
+                self.assertEqual(run.stderr.decode(), said)
+        run = self.said_by(b"OK 3\nOK 12\nP1\n2 2\n01\n10BYE\n", "--size", "2x2")
+        self.assertEqual((run.returncode, run.stdout), (0, b"P1\n2 2\n01\n10"))
+
     def test_what_is_no_whole_map(self):
         rows = (
             (b"", b"FAULT net"),
@@ -92,6 +106,9 @@ class Backups(unittest.TestCase):
         ports = ((), ("0",), ("x",), ("70000",), ("1", "2"), ("1", "--timeout"))
         rows = [("--port", *port) for port in ports]
         rows += [("--port", "1", "--timeout", word) for word in late]
+        sizes = ("", "6", "6x", "x4", "6x4x", "x6x4", "6x4x2", "0x4", "6x04", "40960x4", "6 x4",
+                 "6X4", "6xx4", "x", "*x*", "6x4\n")  # fmt: skip
+        rows += [("--port", "1", "--size", word) for word in sizes]
         for words in ((), *rows, ("--timeout", "9"), ("map.pbm",), ("--help", "1")):
             with self.subTest(words=words):
                 run = self.run_script(*words)
