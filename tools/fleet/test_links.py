@@ -27,13 +27,20 @@ class Link:
         self.cut()
 
     def serve(self):
-        with contextlib.suppress(OSError):
+        with contextlib.suppress(OSError):  # the listener was closed
             while True:
-                near = self.listener.accept()[0]
-                far = socket.create_connection(("127.0.0.1", self.far))
-                self.streams += [near, far]
-                for pair in ((near, far), (far, near)):
-                    threading.Thread(target=self.lead, args=pair, daemon=True).start()
+                self.take(self.listener.accept()[0])
+
+    def take(self, near):
+        """Leads a connection on, if somebody listens there."""
+        try:
+            far = socket.create_connection(("127.0.0.1", self.far))
+        except OSError:
+            near.close()
+            return
+        self.streams += [near, far]
+        for pair in ((near, far), (far, near)):
+            threading.Thread(target=self.lead, args=pair, daemon=True).start()
 
     def lead(self, source, target):
         with contextlib.suppress(OSError, ValueError):
