@@ -173,13 +173,18 @@ def told(fault: Exception, options: argparse.Namespace, port: int) -> str:
 
 
 async def serve(options: argparse.Namespace) -> None:
-    """Runs until a signal ends it."""
-    loop = asyncio.get_running_loop()
-    task = loop.create_task(Gateway(options).run())
+    """Runs until a signal ends it. If it ends otherwise, what it ended by is raised."""
+    loop, ended = asyncio.get_running_loop(), asyncio.Event()
     for ending in (signal.SIGINT, signal.SIGTERM):
-        loop.add_signal_handler(ending, task.cancel)
-    with contextlib.suppress(asyncio.CancelledError):
-        await task
+        loop.add_signal_handler(ending, ended.set)
+    serving, waiting = loop.create_task(Gateway(options).run()), loop.create_task(ended.wait())
+    await asyncio.wait((serving, waiting), return_when=asyncio.FIRST_COMPLETED)
+    waiting.cancel()
+    while not serving.done():
+        serving.cancel()  # again, where a wait that was over just then has swallowed it
+        await asyncio.wait((serving,), timeout=0.1)
+    if not (ended.is_set() and serving.cancelled()):
+        serving.result()
 
 
 def as_many_as_descriptors(clients: int) -> int:
