@@ -87,9 +87,7 @@ class Follower:
     def error(self) -> Optional[str]:
         """What currently keeps it from the newest version, or from knowing that it has it; None if
         nothing does."""
-        why = self._error
-        if why is None and LOST < self.stale < math.inf:
-            why = UNSEEN
+        why = self._why()
         return None if why is None else f"{self._what}: {why}"
 
     @property
@@ -136,8 +134,13 @@ class Follower:
     def _none(self, newer_than: Optional[Version] = None) -> str:
         """What to say if there is no version."""
         newer = "" if newer_than is None else f" newer than {newer_than.number}"
-        why = "the follower is closed" if self._is_over() else self._error
+        why = "the follower is closed" if self._is_over() else self._why()
         return f"there is no version{newer} of {self._what} yet" + (f": {why}" if why else "")
+
+    def _why(self) -> Optional[str]:
+        """What is wrong, if anything is."""
+        is_unseen = self._error is None and LOST < self.stale < math.inf
+        return UNSEEN if is_unseen else self._error
 
     def _check_process(self) -> None:
         if self._process != os.getpid():
