@@ -1,16 +1,20 @@
 #!/usr/bin/env python3
 """Tests of what a gateway waits for, and for how long: half-closed clients that watch, servers that
 hang, stamps that don't come, and its own port."""
+import asyncio
 import contextlib
+import os
 import random
 import signal
 import socket
 import threading
 import time
 import unittest
+from unittest import mock
 
 from testing import Gate, Line, Served, post, until
 from test_lost import stop
+import clearmap_gateway
 from limits import LARGEST_STAMP, Room
 
 STAMP = b"P1\n1 1\n1\n"
@@ -185,6 +189,43 @@ class OwnPort(unittest.TestCase):
                 said = gate.end()
         self.assertEqual(said.count(f"port {gate.port} can't be had: "), 1, said)
         self.assertIn("there is a server again", said)
+
+
+class Ends(unittest.TestCase):
+    """How serving ends, whatever is waited for."""
+
+    def serve(self, run):
+        with mock.patch.object(clearmap_gateway.Gateway, "run", run):
+            asyncio.run(clearmap_gateway.serve(None))
+
+    def setUp(self):
+        self.enterContext(mock.patch.object(clearmap_gateway.Gateway, "__init__", lambda *_: None))
+
+    def test_by_nobody(self):
+        """Without a signal it doesn't end in silence."""
+
+        async def run(_):
+            raise asyncio.CancelledError
+
+        self.assertRaises(asyncio.CancelledError, self.serve, run)
+
+    def test_a_wait_that_swallows_the_end(self):
+        """It is told again."""
+        told = []
+
+        async def run(_):
+            os.kill(os.getpid(), signal.SIGTERM)
+            while len(told) < 2:
+                try:
+                    await asyncio.sleep(60)
+                except asyncio.CancelledError:
+                    told.append(True)
+            await asyncio.sleep(60)
+
+        begun = time.monotonic()
+        self.serve(run)
+        self.assertEqual(len(told), 2)
+        self.assertLess(time.monotonic() - begun, 5)
 
 
 if __name__ == "__main__":
