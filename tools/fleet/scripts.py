@@ -6,20 +6,22 @@ write.
 """
 
 # KEYS lease, publisher; ARGV token, milliseconds, place, and 1 to publish what another place has
-# published before. Takes the lease, or returns whose it is, and for how long, or the other place.
+# published before. Takes the lease, and returns what stands for the publisher, or nothing. Else
+# returns whose lease it is, and for how long; or nothing and for whom the name is.
 TAKE = """
 local holder = redis.call('GET', KEYS[1])
 local last = redis.call('GET', KEYS[2])
 if holder and holder ~= ARGV[1] then return {holder, redis.call('PTTL', KEYS[1])} end
-if last and last ~= ARGV[3] and ARGV[4] ~= '1' then return {last} end
+local is_own = not last or string.match(last, '^[^ ]*') == ARGV[3]
+if not is_own and ARGV[4] ~= '1' then return {'', last} end
 redis.call('SET', KEYS[1], ARGV[1], 'PX', ARGV[2])
-return {}
+return {is_own and last or ''}
 """
 
 # KEYS lease, seen, newest, versions, tiles, publisher; ARGV token, milliseconds, order, count,
-# time, place. Keeps the lease, and notes the time where this order is still the newest. 1, or 0
-# without the lease, or 2 where the newest is another, or its record, tiles or place are gone; then
-# the time now, which is noted where the given one isn't yet: Redis' clock was set back.
+# time, publisher. Keeps the lease, and notes the time where this order is still the newest. 1, or 0
+# without the lease, or 2 where the newest is another, or its record, tiles or publisher are gone;
+# then the time now, which is noted where the given one isn't yet: Redis' clock was set back.
 KEEP = """
 local clock = redis.call('TIME')
 local now = string.format('%s%06d', clock[1], clock[2])
@@ -35,7 +37,7 @@ redis.call('SET', KEYS[2], is_over and ARGV[5] or now)
 return {1, now}
 """
 
-# KEYS lease, newest, versions, tiles, seen, publisher; ARGV token, order, record, time, place,
+# KEYS lease, newest, versions, tiles, seen, publisher; ARGV token, order, record, time, publisher,
 # channel, and the orders of versions that are dropped. Shows a version, all of whose tiles are
 # there, to followers.
 COMMIT = """

@@ -6,7 +6,7 @@ from typing import Any, Dict, Iterable, List, NamedTuple, Optional, Set, Tuple
 
 import scripts
 from clearmap import BadVersion, ClearmapError, clock
-from clearmap.records import Keys, Record, compressed_tiles, order_of, read_record
+from clearmap.records import MOVED, Keys, Record, compressed_tiles, order_of, read_record
 from source import Copy
 
 LEASE = 10.0  # seconds that a publisher's lease lasts after its last sign
@@ -45,6 +45,7 @@ class Store:
     def __init__(self, redis: Any, name: str, keep: int, port: int, takes_over: bool) -> None:
         self._redis, self._keys, self._keep = redis, Keys(name), keep
         self._place, self._takes_over = f"{socket.gethostname()}:{port}", takes_over
+        self._publisher = self._place + MOVED * takes_over  # as followers read it
         self._token = f"{socket.gethostname()}:{os.getpid()}:{token_hex(8)}"
         self._clock: Optional[Tuple[int, float]] = None  # a time of Redis, and of `clock.now`
         self._last = 0  # the order of what was published last from here
@@ -58,15 +59,18 @@ class Store:
         Elsewhere if another place has published last, and this one doesn't take over."""
         keys = [self._keys.lease, self._keys.publisher]
         words = [int(1000 * LEASE), self._place, int(self._takes_over)]
-        held = self._run(scripts.TAKE, keys, words)
-        if not held:
+        first, *rest = self._run(scripts.TAKE, keys, words)
+        told = first.decode("utf-8", "replace")
+        if not rest:
+            if told and not self._takes_over:
+                self._publisher = told
             self.doubt()
             return None
-        if len(held) == 1:
-            raise Elsewhere(held[0].decode("utf-8", "replace"), self._place)
-        if held[1] < 0:
+        if not first:
+            raise Elsewhere(rest[0].decode("utf-8", "replace").split(" ")[0], self._place)
+        if rest[0] < 0:
             raise ClearmapError(f"the key {self._keys.lease} holds something else: it never ends")
-        return held[0].decode("utf-8", "replace").rpartition(":")[0], held[1] / 1000
+        return told.rpartition(":")[0], rest[0] / 1000
 
     def keep(self, looked: Optional[float] = None) -> bool:
         """Keeps the lease; LeaseLost if it isn't one's own any more. With a time of `clock.now`
@@ -75,7 +79,7 @@ class Store:
         keys = self._keys
         names = [keys.lease, keys.seen, keys.newest, keys.versions, keys.tiles, keys.publisher]
         order, time = ("", 0) if looked is None else (self._last, self._time_of(looked))
-        words = [int(1000 * LEASE), order, self._count, time, self._place]
+        words = [int(1000 * LEASE), order, self._count, time, self._publisher]
         told, now = self._run(scripts.KEEP, names, words)
         self._clock = int(now), clock.now()
         if told == 0:
@@ -158,7 +162,8 @@ class Store:
         """Makes a version the newest, and drops older ones."""
         keys = self._keys
         named = [keys.lease, keys.newest, keys.versions, keys.tiles, keys.seen, keys.publisher]
-        words = [record.order, record.written(), record.published, self._place, keys.news, *dropped]
+        words = [record.order, record.written(), record.published, self._publisher, keys.news]
+        words += dropped
         told = self._run(scripts.COMMIT, named, words)
         if told == b"lease":
             raise LeaseLost

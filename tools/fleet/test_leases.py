@@ -141,6 +141,29 @@ class Names(Publishes):
         self.assertIs(here[1].version, versions[1])
         self.assertTrue(until(lambda: here[1].stale > 1.5))
 
+    def test_a_redis_that_has_forgotten(self):
+        """A follower keeps to the place of its version, until another one has taken over."""
+        grids = [np.random.default_rng(seed).random((300, 400)) < 0.05 for seed in range(5)]
+        Direct(self.redis, port=1).show(grids[0])
+        first = self.follower.wait(timeout=PATIENCE)
+        self.redis.client.flushall()
+        Direct(self.redis, port=2).show(grids[1])
+        self.assertTrue(until(lambda: "isn't taken" in (self.follower.error or "")))
+        places = f"it is from {self.host}:2, and that here from {self.host}:1$"
+        self.assertRegex(self.follower.error, places)
+        self.assertIs(self.follower.version, first)
+        for takes_over, grid in ((True, grids[2]), (False, grids[3])):
+            self.redis.client.delete(KEYS.lease)
+            record = Direct(self.redis, port=2, takes_over=takes_over).show(grid)
+            late = self.follow()
+            late._place = f"{self.host}:1"  # as one that has slept since
+            for follower in (self.follower, late):
+                self.assertTrue(until(lambda: follower._version and
+                                      follower.version.hash == record.hash))  # fmt: skip
+        self.redis.client.flushall()
+        record = Direct(self.redis, port=2).show(grids[4])
+        self.assertTrue(until(lambda: self.follower.version.hash == record.hash))
+
     def test_a_publisher_that_isnt_told(self):
         """Whoever expects a host takes nothing whose host isn't known."""
         Direct(self.redis).show(np.eye(300, 400) > 0)

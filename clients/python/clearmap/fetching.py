@@ -9,7 +9,7 @@ from .capped import capped
 from .errors import BadVersion, ClearmapError, Size, WrongMap
 from .followed import Version, missing, put_together, stock_of
 from .library import redis
-from .records import Keys, Record, Tile, order_of, read_record, read_tile
+from .records import MOVED, Keys, Record, Tile, order_of, read_record, read_tile
 
 BATCH = 64  # tiles that are asked for at once
 LONGEST_REPLY = 2**20  # bytes, more than twice those of so many tiles
@@ -19,12 +19,13 @@ MICRO = 1_000_000
 
 class State(NamedTuple):
     """The newest version's order, 0 if there is none; when its publisher last found it to be the
-    server's newest, by `clock.now`, None if unknown; and the publisher's host and server's port, ""
-    if unknown or not asked for."""
+    server's newest, by `clock.now`, None if unknown; the publisher's host and server's port, "" if
+    unknown; and whether it took the name over."""
 
     newest: int
     seen: Optional[float]
-    publisher: str
+    place: str
+    has_moved: bool
 
 
 def place_of(url: str) -> str:
@@ -93,8 +94,8 @@ class Fetcher:
             newest, seen, publisher, again, now = _answered(asked)
             if newest == again:
                 order, told = order_of(newest, keys.newest), order_of(seen, keys.seen)
-                place = (publisher or b"").decode("utf-8", "replace")
-                return State(order, _when(told, now, begun) if told else None, place)
+                place, moved, _ = (publisher or b"").decode("utf-8", "replace").partition(MOVED)
+                return State(order, _when(told, now, begun) if told else None, place, bool(moved))
         raise ClearmapError("versions come faster than Redis tells of them")
 
     def version(self, order: int, before: Optional[Version]) -> Version:

@@ -55,7 +55,7 @@ class Follower:
         self._fetcher = Fetcher(
             connected(url, float(timeout)), name, None if size is None else size_of(size)
         )
-        self._host = host
+        self._host, self._place = host, ""  # of the version's publisher
         self._version: Optional[Version] = None
         self._error: Optional[str] = None
         self._news: Optional[News] = None
@@ -188,7 +188,7 @@ class Follower:
                 self._confirm(state)
                 return False
             try:
-                self._take(newest)
+                self._take(state)
                 self._confirm(state)
                 return True
             except (BadVersion, WrongMap) as fault:  # it may be that a newer one took its place
@@ -209,19 +209,23 @@ class Follower:
         return newest > mine
 
     def _is_from_elsewhere(self, state: State) -> bool:
-        """Whether another host than the expected one has published the newest version."""
-        place = state.publisher
-        if self._host is None or self._host in (place, place.rpartition(":")[0]):
+        """Whether another host than the expected one has published the newest version; or, where
+        none is expected, one that didn't take the name over from that of the version here."""
+        place, wanted = state.place, self._host
+        if wanted is None and (not self._place or state.has_moved):
+            return False
+        if (wanted or self._place) in (place, place.rpartition(":")[0]):
             return False
         told = f"is from {place:.80}" if place else "doesn't tell its publisher"
-        self._error = f"the newest version isn't taken: it {told}, and {self._host} is expected"
+        why = f"and {wanted} is expected" if wanted else f"and that here from {self._place:.80}"
+        self._error = f"the newest version isn't taken: it {told}, {why}"
         return True
 
-    def _take(self, newest: int) -> None:
+    def _take(self, state: State) -> None:
         """Fetches the newest version, and shows it to all."""
-        version = self._fetcher.version(newest, self._version)
+        version = self._fetcher.version(state.newest, self._version)
         with self._changed:
-            self._version, self._error = version, None
+            self._version, self._place, self._error = version, state.place, None
             self._changed.notify_all()
 
     def _confirm(self, state: State) -> None:

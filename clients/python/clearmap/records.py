@@ -13,6 +13,7 @@ from .size import size_of
 TILE_WORDS, TILE_ROWS = 4, 192  # of 64 columns each; together 256 columns by 192 rows
 HASH = 32  # bytes of a SHA-256
 LEVEL = 1  # of zlib: the fastest
+MOVED = " moved"  # after a publisher that took the name over
 LARGEST_ORDER = 2**53  # below which Redis' scripts compare numbers exactly
 HEAD = re.compile(
     rb"clearmap-version 1 (\d{1,16}) ([0-9a-f]{16}) (\d{1,10}) (\d{1,16}) "
