@@ -66,7 +66,7 @@ class Store:
                 self._publisher = told
             self.doubt()
             return None
-        if not first:
+        if isinstance(rest[0], bytes):
             raise Elsewhere(rest[0].decode("utf-8", "replace").split(" ")[0], self._place)
         if rest[0] < 0:
             raise ClearmapError(f"the key {self._keys.lease} holds something else: it never ends")

@@ -108,7 +108,8 @@ class Others(Publishes):
         client = self.redis.client
         server = self.serve()
         writes = ((client.set, KEYS.newest, "words"), (client.set, KEYS.newest, "9" * 16),
-                  (client.hset, KEYS.versions, "words", "x"), (client.set, KEYS.lease, "words"))
+                  (client.hset, KEYS.versions, "words", "x"), (client.set, KEYS.lease, "words"),
+                  (client.set, KEYS.lease, ""))
         for write, *words in writes:
             write(*words)
             publisher = self.publish(server.port)
