@@ -98,6 +98,18 @@ class Ages(Publishes):
         seen = int(self.redis.client.get(KEYS.seen))
         self.assertLess(abs(seen / 1e6 - time.time()), 60)
 
+    def test_a_time_that_isnt_yet(self):
+        """It is taken as now once: by a clock that was set back it stays one that isn't yet."""
+        direct = Direct(self.redis)
+        direct.show(np.eye(300, 400) > 0)
+        follower = self.follow()
+        follower.wait(timeout=PATIENCE)
+        self.redis.client.set(KEYS.seen, int(1e6 * (time.time() + 3600)))
+        time.sleep(4)
+        self.assertGreater(follower.stale, 2.5)
+        direct.store.keep(clock.now())
+        self.assertTrue(until(lambda: follower.stale < 1))
+
     def test_each_version_has_its_own(self):
         """A version that was replaced goes on ageing, whatever the follower has by then."""
         follower = self.follow()

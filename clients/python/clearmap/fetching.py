@@ -19,11 +19,12 @@ MICRO = 1_000_000
 
 class State(NamedTuple):
     """The newest version's order, 0 if there is none; when its publisher last found it to be the
-    server's newest, by `clock.now`, None if unknown; the publisher's host and server's port, "" if
-    unknown; and whether it took the name over."""
+    server's newest, by `clock.now`, and as it stands in Redis, 0 if unknown; the publisher's host
+    and server's port, "" if unknown; and whether it took the name over."""
 
     newest: int
-    seen: Optional[float]
+    seen: float
+    told: int
     place: str
     has_moved: bool
 
@@ -95,7 +96,7 @@ class Fetcher:
             if newest == again:
                 order, told = order_of(newest, keys.newest), order_of(seen, keys.seen)
                 place, moved, _ = (publisher or b"").decode("utf-8", "replace").partition(MOVED)
-                return State(order, _when(told, now, begun) if told else None, place, bool(moved))
+                return State(order, _when(told, now, begun), told, place, bool(moved))
         raise ClearmapError("versions come faster than Redis tells of them")
 
     def version(self, order: int, before: Optional[Version]) -> Version:

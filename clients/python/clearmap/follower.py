@@ -56,6 +56,7 @@ class Follower:
             connected(url, float(timeout)), name, None if size is None else size_of(size)
         )
         self._host, self._place = host, ""  # of the version's publisher
+        self._told = 0  # when that found it to be the newest, as it stood in Redis last
         self._version: Optional[Version] = None
         self._error: Optional[str] = None
         self._news: Optional[News] = None
@@ -229,7 +230,9 @@ class Follower:
             self._changed.notify_all()
 
     def _confirm(self, state: State) -> None:
-        """The publisher has found at that time that this is the newest."""
+        """The publisher has found at that time that this is the newest. The same time again tells
+        nothing, wherever Redis' clock has gone since."""
         mine = self._version
-        if mine is not None and mine.order == state.newest and state.seen is not None:
-            mine._known.at = max(mine._published, state.seen)
+        if mine is None or mine.order != state.newest or state.told in (0, self._told):
+            return
+        mine._known.at, self._told = max(mine._published, state.seen), state.told
