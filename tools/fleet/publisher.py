@@ -134,8 +134,8 @@ class Publisher:
                 print(f"PUBLISHING {self._options.name}", flush=True)
             self._has_shown = True
         elif time.monotonic() >= self._kept_at + AGAIN:
-            is_newest = look is not None and look.seen == self._shown
-            if not self._store.keep(look.at if look is not None and is_newest else None):
+            at = look.at if look is not None and look.seen == self._shown else None
+            if not self._store.keep(at):
                 self._shown = None
                 self._store.doubt()
             self._kept_at = time.monotonic()

@@ -164,8 +164,8 @@ def told(fault: Exception, options: argparse.Namespace, port: int) -> str:
     """What to say of a fault at the start of a run."""
     if isinstance(fault, asyncio.TimeoutError):
         return (
-            f"no worker of the server has answered within {options.patience} s: it has fewer than "
-            f"{options.links} that are free"
+            f"no worker of the server has answered within {options.patience} s: it hangs, or has "
+            f"fewer than {options.links} that are free"
         )
     if isinstance(fault, OSError):
         return f"port {port} can't be had: {fault.strerror}"
