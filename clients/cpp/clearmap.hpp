@@ -24,6 +24,10 @@
 #ifndef CLEARMAP_HPP
 #define CLEARMAP_HPP
 
+#if __cplusplus < 201703L
+#error "clearmap's headers for C++ need C++17 or a later one: compile with -std=c++17"
+#endif
+
 #include <arpa/inet.h>
 #include <netinet/in.h>
 #include <netinet/tcp.h>

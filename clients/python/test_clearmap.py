@@ -234,6 +234,20 @@ class Refusals(unittest.TestCase):
 
 
 class Failures(unittest.TestCase):
+    def test_a_port_that_is_none(self):
+        """Another order, or a port that the system would take for another, as 65536 + 7400."""
+        for words, kind, said in (
+            (("localhost", 7403), TypeError, "the port comes first.*Client\\(7400, 'localhost'\\)"),
+            (("localhost",), TypeError, "'localhost', where a number is wanted"),
+            ((7400.5,), TypeError, "whole number"), ((None,), TypeError, "whole number"),
+            ((65536 + 7400,), ValueError, "up to 65535"), (("72936",), ValueError, "up to 65535"),
+            ((-1,), ValueError, "up to 65535"),
+        ):  # fmt: skip
+            with self.assertRaisesRegex(kind, said):
+                clearmap.Client(*words)
+        with Served(POST) as server, clearmap.Client(str(server.port)) as client:
+            self.assertEqual(client.size, (6, 4))
+
     def test_no_server(self):
         with socket.create_server(("127.0.0.1", 0)) as listener:
             port = listener.getsockname()[1]

@@ -6,6 +6,7 @@ there.
 """
 import os
 import pathlib
+import pickle
 import random
 import sys
 import threading
@@ -27,9 +28,12 @@ EDGES = ("open", "wall")
 
 
 def answered(call):
-    """What a call answers, or the kind and the words of what it raises."""
+    """What a call answers, or the kind and the words of what it raises: of a refusal without its
+    cure, which only a map in process knows."""
     try:
         return call()
+    except clearmap.Refused as refusal:
+        return type(refusal).__name__, refusal.args
     except (clearmap.ClearmapError, ValueError, TypeError) as fault:
         return type(fault).__name__, str(fault)
 
@@ -58,6 +62,22 @@ def asked_at_random(chance, width, height):
     if name == "path":
         return name, (points, metric)
     return name, (chance.choice((0, 1, 4, 30, 2**32 - 1, 2**32, -1)), points, metric)
+
+
+class Outside(unittest.TestCase):
+    def test_what_would_be_right(self):
+        """A refusal says which columns and rows there are, also once it was pickled."""
+        area = clearmap.Map(np.zeros((20, 30), bool))
+        for asked in (
+            lambda: area.at(30, 4), lambda: area.at(-1, 4), lambda: area.at(3, 20),
+            lambda: area.gradient(30, 4), lambda: area.rect(0, 0, 31, 4),
+            lambda: area.paint(0, 0, 3, 21), lambda: area.path([(0, 0), (0, 20)]),
+            lambda: area.clear_of(3, [(-2, 0)]), lambda: area.grid(0, 21),
+        ):  # fmt: skip
+            with self.assertRaisesRegex(clearmap.Refused, "columns 0 to 29 and rows 0 to 19$") as it:
+                asked()
+            again = pickle.loads(pickle.dumps(it.exception))
+            self.assertEqual((str(again), again.cure), (str(it.exception), it.exception.cure))
 
 
 class Maps(unittest.TestCase):

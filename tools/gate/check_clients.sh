@@ -133,6 +133,16 @@ check_forms() {
     refused deleted 'clearmap::Client other(client)'
 }
 
+# An older C++ is told by a sentence, before what it doesn't know.
+check_standard() {
+    for header in clearmap clearmap_footprint clearmap_signed; do
+        echo "#include \"$header.hpp\"" | LC_ALL=C "$compiler" -std=c++14 -fsyntax-only \
+            -I clients/c -I clients/cpp -x c++ - 2> "$scratch/log"
+        grep -E 'error|warning' "$scratch/log" | head -n 1 | grep -q 'need C++17.*-std=c++17' ||
+            { failed=1; echo "$header.hpp by C++14:"; head -n 5 "$scratch/log"; }
+    done
+}
+
 # Whether programs with an operator new of their own can be built with these flags, and run.
 runs() { # runs FLAG ..
     {
@@ -156,6 +166,7 @@ check_example() {
 
 if compiler=$(command -v "${CXX:-g++}"); then
     check_forms
+    check_standard
     check_example || { failed=1; echo 'examples/plan.cpp:'; cat "$scratch/log"; }
     for kind in plain address,undefined thread; do
         flags="-O0 -g1 -fsanitize=$kind -fno-sanitize-recover=all"

@@ -81,6 +81,10 @@ if command -v script > /dev/null; then
     expect 'a first run at a terminal' "$(echo "$shown" | sed -n 's/ took [0-9]* s/ took so long/; /^clearmap: proved.*work: [a-z]*$/p; /^ran/p' | uniq)" \
         "$(printf '%s\n' 'clearmap: proved 0 of 2 crates; at work: low' 'clearmap: proved 1 of 2 crates; low took so long; at work: clearmap' 'ran one two')"
     rm -r "$scratch/fresh/crates/clearmap/out" "$scratch/fresh/crates/low/out"
+    shown=$(PATH=$scratch/fresh/bin:$PATH timeout 60 script -qec "$scratch/fresh/clearmap --unproved one" /dev/null < /dev/null | tr -d '\r')
+    expect 'a run without a proof at a terminal' "$(echo "$shown" | sed 's/ [0-9:]*$/ a time/')" \
+        "$(printf '%s\n' 'clearmap: --unproved: nothing is proved of what runs now' \
+            'clearmap: it is built first, in a minute that shows nothing; begun at a time' 'tried one')"
 else
     echo 'the first run at a terminal left out: there is no script'
 fi

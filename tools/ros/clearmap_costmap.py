@@ -15,7 +15,8 @@ import numpy
 
 import clearmap
 from clearmap_grid import Grid
-from clearmap_ros import Frame, Number, RosError, exact
+from clearmap import Frame, RosError
+from clearmap.decimals import Number, exact
 from tables import by_program
 
 if TYPE_CHECKING:

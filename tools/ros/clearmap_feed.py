@@ -13,7 +13,8 @@ from typing import Callable, Generic, List, Optional, Sequence, Tuple, TypeVar
 import clearmap
 import clearmap_grid as grids
 from clearmap_grid import Place
-from clearmap_ros import Frame, Point, RosError, pieces
+from clearmap import Frame, RosError
+from clearmap.frames import Point, pieces
 
 T = TypeVar("T")
 PATIENCE = 10.0  # seconds for a reply

@@ -7,7 +7,7 @@ from typing import TYPE_CHECKING, Callable, Optional
 import clearmap
 from clearmap_costmap import squares_of
 from clearmap_feed import Feed, Newest
-from clearmap_ros import RosError
+from clearmap import RosError
 from tables import TableError
 
 if TYPE_CHECKING:

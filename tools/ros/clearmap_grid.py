@@ -10,21 +10,12 @@ import math
 import struct
 from dataclasses import dataclass, replace
 from fractions import Fraction
-from itertools import chain
 from typing import Optional, Sequence, Tuple
 
-from clearmap_ros import (
-    LARGEST_SIDE,
-    UNKNOWN,
-    Frame,
-    Gray,
-    Map,
-    Number,
-    RosError,
-    exact,
-    obstacles,
-    read_map,
-)
+from clearmap import Frame, RosError, RosMap, read_map
+from clearmap.decimals import Number, exact
+from clearmap.requests import LARGEST_SIDE
+from clearmap.ros_maps import UNKNOWN
 
 DIGITS = bytes.maketrans(b"\0\1", b"01")
 BITS = bytes.maketrans(b"01", b"\0\1")
@@ -181,10 +172,10 @@ def grid_of_dump(image: bytes) -> Grid:
     return Grid(width, height, digits.translate(BITS, b" \n"))
 
 
-def grids_of_map(known: Map, unknown_is_free: bool = False) -> Tuple[Grid, Grid]:
+def grids_of_map(known: RosMap, unknown_is_free: bool = False) -> Tuple[Grid, Grid]:
     """The cells of a yaml's map, and those that it doesn't know: which are free or not as it is
     asked."""
-    safe, free = (cells_of_map(known, is_free) for is_free in (False, True))
+    safe, free = (known.cells(is_free) for is_free in (False, True))
     differing = int.from_bytes(safe, "big") ^ int.from_bytes(free, "big")
     unknown, size = differing.to_bytes(len(safe), "big"), known.frame.size
     return Grid(*size, free if unknown_is_free else safe), Grid(*size, unknown)
@@ -195,16 +186,6 @@ def read_place(yaml: str, frame_id: str, unknown_is_free: bool) -> Tuple[Grid, P
     known = read_map(yaml)
     grid, unknown = grids_of_map(known, unknown_is_free)
     return grid, Place(known.frame, frame_id, unknown)
-
-
-def cells_of_map(known: Map, unknown_is_free: bool) -> bytes:
-    """The cells of a yaml's map; if its samples are bytes, by what each value becomes."""
-    image = known.image
-    if image.opaque or not isinstance(image.samples, bytes):
-        return bytes(chain.from_iterable(obstacles(image, known.settings, unknown_is_free)))
-    values = Gray(image.most + 1, 1, image.most, range(image.most + 1))
-    (table,) = obstacles(values, known.settings, unknown_is_free)
-    return image.samples.translate(bytes(table).ljust(256))
 
 
 def frame_of(width: int, height: int, resolution: float, origin: Tuple[float, float], turn: Tuple[float, float, float]) -> Frame:

@@ -10,7 +10,7 @@ from typing import TYPE_CHECKING, Any, Callable, Tuple
 import clearmap_costmap as costmaps
 from clearmap_grid import Place
 from clearmap_follow import Shown
-from clearmap_ros import RosError
+from clearmap import RosError
 
 if TYPE_CHECKING:
     from clearmap_costmap import Values

@@ -25,7 +25,7 @@ import clearmap
 import clearmap_grid as grids
 from clearmap_feed import Feed
 from clearmap_grid import Place
-from clearmap_ros import RosError
+from clearmap import RosError
 
 
 def program() -> str:

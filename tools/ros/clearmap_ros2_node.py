@@ -39,7 +39,7 @@ from clearmap_feed import Feed
 from clearmap_follow import Follower, Shown, pause_of
 from clearmap_messages import LAYERS, Kinds, Painter
 from clearmap_node import program
-from clearmap_ros import RosError
+from clearmap import RosError
 
 KINDS = Kinds(OccupancyGrid, PointCloud2, PointField, UInt64, lambda seconds: Time(sec=seconds))
 

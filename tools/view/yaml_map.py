@@ -4,7 +4,10 @@ from typing import TYPE_CHECKING, NamedTuple
 
 import numpy
 
-import clearmap_ros as ros
+from clearmap import Frame, read_map
+from clearmap.gray import Gray
+from clearmap.ros_maps import obstacles
+from clearmap.settings import Settings
 
 if TYPE_CHECKING:
     from picture import Cells
@@ -14,11 +17,11 @@ class YamlMap(NamedTuple):
     """A map of ROS as the page knows it."""
 
     name: str
-    frame: ros.Frame
+    frame: Frame
     unknown: "Cells"
 
 
-def unknown_cells(image: ros.Gray, settings: ros.Settings) -> "Cells":
+def unknown_cells(image: Gray, settings: Settings) -> "Cells":
     """Which cells are neither occupied nor free, by rows from the top."""
     opaque = image.opaque or bytes([1])
     table = numpy.zeros((2, image.most + 1), bool)
@@ -31,14 +34,14 @@ def unknown_cells(image: ros.Gray, settings: ros.Settings) -> "Cells":
     return cells.reshape(image.height, image.width)
 
 
-def is_unknown(sample: int, seen: int, most: int, settings: ros.Settings) -> bool:
+def is_unknown(sample: int, seen: int, most: int, settings: Settings) -> bool:
     """Whether a sample is an obstacle only for being unknown."""
-    one = ros.Gray(1, 1, most, [sample], bytes([seen]))
-    return ros.obstacles(one, settings) != ros.obstacles(one, settings, unknown_is_free=True)
+    one = Gray(1, 1, most, [sample], bytes([seen]))
+    return obstacles(one, settings) != obstacles(one, settings, unknown_is_free=True)
 
 
 def read_yaml_map(path: str) -> YamlMap:
     """The map that a `map.yaml` names. A RosError if it can't be taken."""
-    found = ros.read_map(path)
+    found = read_map(path)
     unknown = unknown_cells(found.image, found.settings)
     return YamlMap(pathlib.Path(path).stem, found.frame, unknown)

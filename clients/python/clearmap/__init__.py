@@ -27,6 +27,16 @@ In process, over an array of numpy:
     area = clearmap.Map(grid, low=65, unknown=-1)   # or one of -1, as an occupancy grid has them
     near = area.at(3, 4)                            # answers as a pin's
 
+Over a map of ROS, in metres:
+
+    house = clearmap.read_map("house.yaml")         # the yaml, and the image that it names
+    area, frame = house.map(), house.frame          # unknown cells are obstacles
+    limit = clearmap.clear_distance("0.22", frame.resolution)
+    free = area.is_clear(limit, [frame.cell((-5.97, 1.98))])
+    robot = frame.footprint([(0.3, 0.2), (-0.3, 0.2), (-0.3, -0.2), (0.3, -0.2)])
+    near = robot.clearance(area, *frame.pose(-5.97, 1.98, 0.5))     # 0 if it hits
+    room = clearmap.plan_clearance(area, frame, [(-5.97, 1.98), (-1.87, 1.83)], radius=0.22)
+
 From other machines, through Redis, where `clearmap-publish` puts each version:
 
     with clearmap.Follower("redis://store:6379", "yard") as follower:
@@ -54,6 +64,7 @@ from .errors import (
     OutOfRange,
     PlacesUsed,
     Refused,
+    RosError,
     TimedOut,
     VersionsFull,
     WrongAnswer,
@@ -62,16 +73,20 @@ from .errors import (
 from .followed import FixedMap, Version
 from .follower import Follower
 from .footprints import Footprint
+from .frames import Frame, clear_distance
 from .grids import OPEN, WALL
 from .library import NO_OBSTACLE, NOWHERE
 from .maps import Map
 from .pinned import Pinned
+from .plans import TightestSegment, plan_clearance, read_plan, read_poses
 from .requests import CHESS, CITY, EUCLID2, Change, Collected, Near, Queries, Tightest
+from .ros_maps import RosMap, read_map
 from .rows import distances
 from .signed import gradients, signed_distances
 from .tables import Entry, read_distances
 from .tiles import FARTHER, capped_distances
 from .transforms import distance_transform_cdt, distance_transform_edt
+from .ways import TightestPose
 
 __version__ = "0.3.0"
 __all__ = [
@@ -89,6 +104,15 @@ __all__ = [
     "Version",
     "FixedMap",
     "Footprint",
+    "TightestPose",
+    "RosMap",
+    "read_map",
+    "Frame",
+    "clear_distance",
+    "read_plan",
+    "read_poses",
+    "plan_clearance",
+    "TightestSegment",
     "distances",
     "capped_distances",
     "signed_distances",
@@ -105,6 +129,7 @@ __all__ = [
     "TimedOut",
     "WrongAnswer",
     "WrongMap",
+    "RosError",
     "NoVersion",
     "BadVersion",
     "Refused",

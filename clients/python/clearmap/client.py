@@ -7,7 +7,7 @@ from . import requests
 from .connection import Connection
 from .errors import ConnectionLost, LogFull, Refused, Size, raised
 from .pinned import Pinned
-from .requests import Change, Collected, Request, T
+from .requests import Change, Collected, Request, T, whole
 from .size import check_size, find_size, size_of
 
 FORKED = "a forked process can't use its parent's connection: it makes a client of its own"
@@ -53,7 +53,7 @@ class Client:
     ) -> None:
         if timeout is not None and not timeout > 0:
             raise ValueError(f"a time-out of {timeout} s, where more than 0 or None is wanted")
-        self._address = host, port
+        self._address = host, _port_of(port, host)
         self._timeout = None if timeout is None else float(timeout)
         self._checkpoints, self._reconnect = checkpoints, reconnect
         self._size = None if size is None else size_of(size)
@@ -212,3 +212,18 @@ class Client:
                 connection.close()
                 raise
         return connection
+
+
+def _port_of(port: object, host: object) -> int:
+    """A port's number. Higher ones would be taken for others, without their high bits."""
+    if not isinstance(host, str):
+        raise TypeError(
+            f"Client({port!r:.80}, {host!r:.80}): the port comes first, and the host after it is a "
+            "text, as Client(7400, 'localhost')"
+        )
+    if isinstance(port, str) and not port.isdecimal():
+        raise TypeError(f"a port of {port!r:.80}, where a number is wanted, as Client(7400)")
+    number = int(port) if isinstance(port, str) else whole(port)
+    if not 0 <= number < 1 << 16:
+        raise ValueError(f"a port of {number}, where one up to 65535 is wanted")
+    return number

@@ -39,6 +39,11 @@ class WrongMap(ClearmapError):
         return "another map: the server's has %d by %d cells, and %d by %d are expected" % sizes
 
 
+class RosError(ClearmapError):
+    """A map of ROS, a number or a plan that can't be taken; its text is a sentence that says why.
+    """
+
+
 class NoVersion(ClearmapError):
     """No version of a followed map has come yet, or no newer one in the given time."""
 
@@ -52,8 +57,11 @@ class Refused(ClearmapError):
     after `LineTooLong` and `TooMuchData`, which end it.
 
     `number` and `name` are the refusal's, and `details` are the words after them: numbers, or the
-    name of an image's fault. `line` is what was refused.
+    name of an image's fault. `line` is what was refused. `cure` says what would have been taken,
+    where that is known.
     """
+
+    cure = ""
 
     def __init__(
         self, number: int, name: str, details: Tuple[Union[int, str], ...], line: str
@@ -63,7 +71,8 @@ class Refused(ClearmapError):
 
     def __str__(self) -> str:
         words = ["ERR", str(self.number), self.name, *map(str, self.details)]
-        return " ".join(words) + f" (to '{self.line[:80]}')"
+        cure = self.cure and f": {self.cure}"
+        return " ".join(words) + f" (to '{self.line[:80]}')" + cure
 
 
 class OutOfRange(Refused):

@@ -4,14 +4,18 @@ from __future__ import annotations
 import ctypes
 import math
 from array import array
+from fractions import Fraction
 from typing import TYPE_CHECKING, Iterable, Optional, Tuple
 
 from . import poses
+from .decimals import exact, float_below, root_float_below
+from .gaps import nearest
 from .grids import EDGES, WALL, number_of
 from .library import NO_OBSTACLE, CFound, check, library, numpy
 from .maps import Held, Map
 from .polygons import STEPS, Corner, cross, outline_of, placed, rows_of
 from .requests import EUCLID2
+from .ways import Pose, TightestPose, checked, tightest_pose
 
 if TYPE_CHECKING:
     import numpy as np
@@ -21,6 +25,7 @@ WALLED = EDGES.index(WALL)
 HALF_DIAGONAL = math.sqrt(0.5)
 SLACK = 2.0**-13  # cells: more than rounding moves any corner, or a root is off
 LONE_POSES = 1000  # cells of a map that take as much work as one pose
+FARTHEST = 1 << 20  # cells: how far off the map clearances are told
 
 
 class Footprint:
@@ -43,19 +48,17 @@ class Footprint:
     ValueError for anything but such a polygon or pose. Any threads may use one footprint.
     """
 
-    __slots__ = ("_outline", "_inner", "_outer")
+    __slots__ = ("_outline", "_inner", "_outer", "_cell")
 
     def __init__(self, points: Iterable[Iterable[float]], resolution: float = 1.0) -> None:
         self._outline = outline_of(points, resolution)
         inner, outer = _circles(self._outline)
         self._inner, self._outer = inner - SLACK, outer + SLACK
+        self._cell = exact(resolution)
 
     def hits(self, area: Map, x: float, y: float, theta: float) -> bool:
         """Whether the robot is on an obstacle of a map at this pose."""
-        pose = float(x), float(y), float(theta)
-        if not all(map(math.isfinite, pose)):
-            raise ValueError(f"a pose of {pose}, where finite numbers are wanted")
-        return self._hits(area._held, *pose)
+        return self._hits(_held(area), *_pose(x, y, theta))
 
     def is_clear(self, area: Map, x: float, y: float, theta: float) -> bool:
         """Whether it is on none."""
@@ -68,7 +71,7 @@ class Footprint:
         are answered for the cells as they are when the call starts. If there are many poses for the
         map, the call first computes each cell's distance, in 12 bytes per cell while it runs."""
         np = numpy()
-        held = area._held
+        held = _held(area)
         arrays = poses.flat(x, y, theta)
         found = np.empty(arrays[0].shape, bool)
         out, each = found.reshape(-1), tuple(numbers.ravel() for numbers in arrays)
@@ -81,6 +84,55 @@ class Footprint:
             for number, pose in enumerate(zip(*(numbers.tolist() for numbers in each))):
                 out[number] = self._hits(held, *pose)
         return found  # type: ignore[no-any-return]
+
+    # ---- clearances
+
+    def clearance(self, area: Map, x: float, y: float, theta: float) -> float:
+        """How far the robot is from the nearest obstacle at this pose, in the unit of its points:
+        cells, or metres by `resolution`. 0 if it hits or touches one; infinite where the map has no
+        obstacle, and its edge is `open`.
+
+        It is the distance between the polygon of `hits` and the square of the nearest obstacle
+        cell, or with the edge `wall` the map's border: the greatest float that isn't above it.
+        ValueError for a pose more than 1048576 cells from the map's first corner.
+        """
+        square = self._square(_held(area), _pose(x, y, theta))
+        if square is None:
+            return math.inf
+        return root_float_below(square * self._cell * self._cell)
+
+    def clearance_along(
+        self, area: Map, way: Iterable[Iterable[float]], within: float = 0.125
+    ) -> TightestPose:
+        """The least clearance on the way through poses (x, y, theta), and the pose where it was
+        found. From one to the next the centre goes straight, and the robot turns evenly, the
+        shorter way: obstacles between two poses count.
+
+        The clearance is never more than the least of these, and less by at most `within`, which is
+        in cells: 1/512 or more. The smaller it is, the longer it takes. All poses are answered for
+        the cells as they are when the call starts.
+        """
+        if not within >= 1 / 512:
+            raise ValueError(f"within is {within}, where 1/512 of a cell or more is wanted")
+        held = _held(area)
+
+        def cells(pose: Pose) -> float:
+            square = self._square(held, _pose(*pose))
+            return math.inf if square is None else root_float_below(square)
+
+        found, at = tightest_pose(cells, checked(way), self._outer, within)
+        return TightestPose(found if found in (0, math.inf) else self._metres(found), at)
+
+    def _metres(self, cells: float) -> float:
+        """A clearance in the unit of the points, rounded down."""
+        return float_below(Fraction(cells) * self._cell)
+
+    def _square(self, held: Held, pose: Pose) -> Optional[Fraction]:
+        """The square of the clearance in cells; None if there is no obstacle."""
+        if max(abs(pose[0]), abs(pose[1])) > FARTHEST:
+            raise ValueError(f"a pose of {pose}, where at most {FARTHEST} cells off is wanted")
+        found = nearest(held, placed(self._outline, *pose), STEPS)
+        return None if found is None else Fraction(*found[0]) / (STEPS * STEPS)
 
     # ---- one pose
 
@@ -122,6 +174,33 @@ class Footprint:
                 if bits & ((1 << (end - first)) - 1):
                     return True
         return False
+
+
+def _pose(*pose: float) -> Pose:
+    """A pose of finite numbers."""
+    numbers = tuple(map(_number, ("x", "y", "theta"), pose))
+    if not all(map(math.isfinite, numbers)):
+        raise ValueError(f"a pose of {numbers}, where finite numbers are wanted")
+    x, y, theta = numbers
+    return x, y, theta
+
+
+def _number(name: str, given: float) -> float:
+    """A number of a pose."""
+    try:
+        return float(given)
+    except TypeError:
+        kind = type(given).__name__
+        many = "hits_many takes arrays" if hasattr(given, "__len__") else "an int or a float"
+        raise TypeError(f"{name} is of {kind}, where a number is wanted: {many}") from None
+
+
+def _held(area: Map) -> Held:
+    """The cells of a map as they are now."""
+    if not isinstance(area, Map):
+        kind = type(area).__name__
+        raise TypeError(f"a map of {kind}, where a Map is wanted: clearmap.Map(grid) makes one")
+    return area._held
 
 
 def _circles(outline: Iterable[Corner]) -> Tuple[float, float]:

@@ -147,6 +147,17 @@ def numpy() -> Any:
         ) from fault
 
 
+def pillow() -> Any:
+    """The module PIL.Image, imported at the first use."""
+    try:
+        return importlib.import_module("PIL.Image")
+    except ImportError as fault:
+        raise ImportError(
+            f"want python3-pil, which {sys.executable} doesn't have: Debian's is for "
+            "/usr/bin/python3, and for others there is `pip install pillow`"
+        ) from fault
+
+
 def redis() -> Any:
     """The module redis, imported at the first use."""
     try:

@@ -208,7 +208,7 @@ class Map:
         """The nearest obstacle as the library returns it."""
         width, height = self._size
         if not (0 <= x < width and 0 <= y < height):
-            raise _outside((x, y), requests.at(x, y, metric))
+            raise _outside((x, y), requests.at(x, y, metric), self._size)
         near = CNear()
         check(self._asked("at", metric, x, y, ctypes.byref(near)))
         return near
@@ -281,7 +281,7 @@ class Map:
         if not (0 <= x0 < x1 <= LARGEST_SIDE and 0 <= y0 < y1 <= LARGEST_SIDE):
             raise BadArguments(12, "BadArguments", (), requests.draw(name, *numbers).line)
         if not (x1 <= self.width and y1 <= self.height):
-            raise OutOfRange(1, "OutOfRange", (), requests.draw(name, *numbers).line)
+            raise _outside(numbers, requests.draw(name, *numbers), self._size)
         return numbers
 
     def _bad_path(self, distance: Optional[int], cells: List[Cell], metric: str) -> Refused:
@@ -293,7 +293,7 @@ class Map:
         if not cells and 0 <= numbers[0] < END:
             return BadPath(8, "BadPath", (), request.line)
         if not self._has(cells) or not 0 <= numbers[-1] < END:
-            return _outside(numbers, request)
+            return _outside(numbers, request, self._size)
         pairs = enumerate(zip(cells, cells[1:]), 1)
         index = next(k for k, (a, b) in pairs if a[0] != b[0] and a[1] != b[1])
         return Crooked(9, "Crooked", (index,), request.line)
@@ -372,12 +372,15 @@ def _mask(x0: int, x1: int) -> Tuple[int, Any]:
     return first, numpy().array(words, "u8")
 
 
-def _outside(numbers: Iterable[int], request: Request[Any]) -> Refused:
-    """The refusal of a request whose numbers don't fit a line, or whose cells aren't all on the
-    map."""
+def _outside(numbers: Iterable[int], request: Request[Any], size: Size) -> Refused:
+    """The refusal of a request whose numbers don't fit a line, or whose cells aren't all on the map
+    of this size."""
+    refusal: Refused = OutOfRange(1, "OutOfRange", (), request.line)
     if not all(0 <= number < END for number in numbers):
-        return BadArguments(12, "BadArguments", (), request.line)
-    return OutOfRange(1, "OutOfRange", (), request.line)
+        refusal = BadArguments(12, "BadArguments", (), request.line)
+    width, height = size
+    refusal.cure = f"the map has columns 0 to {width - 1} and rows 0 to {height - 1}"
+    return refusal
 
 
 def _cells(points: Iterable[Cell]) -> List[Cell]:

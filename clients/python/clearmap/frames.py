@@ -1,0 +1,195 @@
+"""Where a map of ROS lies: metres to cells and back, plans as paths, and a robot's radius.
+
+A map of ROS is in metres with y upwards; clearmap's cells are counted from the upper left, y
+downwards. All is computed in fractions, of the decimals that numbers are written as, and what has
+to be rounded is rounded to the safe side: a least distance up, and a clearance in metres down.
+"""
+from __future__ import annotations
+
+import math
+from dataclasses import dataclass
+from fractions import Fraction
+from typing import Iterable, Iterator, List, Sequence, Tuple
+
+from .decimals import Number, exact, float_below, root_below
+from .errors import RosError
+from .footprints import Footprint
+from .requests import CHESS, CITY, EUCLID2, LONGEST_PATH, Cell
+from .ways import Pose
+
+Point = Tuple[Number, Number]
+
+
+@dataclass(frozen=True)
+class Frame:
+    """Where a map lies: its size in cells, metres per cell, and the lower left corner in metres."""
+
+    width: int
+    height: int
+    resolution: Fraction
+    origin_x: Fraction
+    origin_y: Fraction
+
+    @property
+    def size(self) -> Tuple[int, int]:
+        """Columns and rows, as a client takes the size of the map that it expects."""
+        return self.width, self.height
+
+    def footprint(self, points: Iterable[Point]) -> Footprint:
+        """A robot's outline as ROS has it: points in metres around its centre, x forward and y to
+        the left. Its poses are those of `pose`, and its clearances are in metres."""
+        return Footprint(
+            ((float(exact(x)), -float(exact(y))) for x, y in points), float(self.resolution)
+        )
+
+    def pose(self, x: Number, y: Number, theta: Number) -> Pose:
+        """A robot's pose in metres on the map, its yaw counterclockwise, as a footprint takes it:
+        in cells, y downwards."""
+        across, down = self.place((x, y))
+        return float(across), float(down), -float(exact(theta))
+
+    def place(self, point: Point) -> Tuple[Fraction, Fraction]:
+        """A point in metres on the map, in cells from the upper left corner."""
+        across, up = self._upwards(point)
+        return across, self.height - up
+
+    def point(self, place: Tuple[float, float]) -> Tuple[Fraction, Fraction]:
+        """What `place` is of: a place in cells, in metres."""
+        across, up = Fraction(place[0]), self.height - Fraction(place[1])
+        return self.origin_x + across * self.resolution, self.origin_y + up * self.resolution
+
+    def _upwards(self, point: Point) -> Tuple[Fraction, Fraction]:
+        """A point in cells from the lower left corner, y upwards."""
+        u = (exact(point[0]) - self.origin_x) / self.resolution
+        t = (exact(point[1]) - self.origin_y) / self.resolution
+        if not (0 <= u < self.width and 0 <= t < self.height):
+            raise RosError(f"the point ({point[0]}, {point[1]}) isn't on the map")
+        return u, t
+
+    def cell(self, point: Point) -> Cell:
+        """The cell that a point in metres is in: x to the right, y downwards from the top row."""
+        u, t = self._upwards(point)
+        return math.floor(u), self.height - 1 - math.floor(t)
+
+    def centre(self, cell: Cell) -> Tuple[float, float]:
+        """The centre of a cell, in metres."""
+        x, y = cell
+        if not (0 <= x < self.width and 0 <= y < self.height):
+            raise RosError(f"the cell ({x}, {y}) isn't on the map")
+        return self.middle(cell)
+
+    def middle(self, cell: Cell) -> Tuple[float, float]:
+        """The centre of a cell, in metres, also of one that lies around the map: an obstacle if the
+        edge is a wall."""
+        x, y = cell
+        half = Fraction(1, 2)
+        right = self.origin_x + (x + half) * self.resolution
+        up = self.origin_y + (self.height - 1 - y + half) * self.resolution
+        return float(right), float(up)
+
+    def metres(self, square: int) -> float:
+        """A `euclid2` distance, which is a square in cells, in metres from centre to centre;
+        rounded down."""
+        return float_below(root_below(_square(square)) * self.resolution)
+
+    def free_metres(self, square: int) -> float:
+        """The least distance of any point of the queried cell from any point of an obstacle, in
+        metres, given its `euclid2` distance; rounded down."""
+        diagonal = Fraction(math.isqrt(2 * 10**18) + 1, 10**9)
+        cells = max(Fraction(0), root_below(_square(square)) - diagonal)
+        return float_below(cells * self.resolution)
+
+    def staircase(self, plan: Sequence[Point]) -> List[Cell]:
+        """A path for clearmap along a plan of points in metres: its corners, each in the row or
+        column of the one before.
+
+        The path goes through exactly the cells that the plan's segments cross, and where one goes
+        through a corner, through one of the two next to it. So each point of the plan lies in a
+        cell of the path, and the middle of each such cell is less than one cell from the plan.
+        """
+        if not plan:
+            raise RosError("the plan has no point")
+        ends = [self._upwards(point) for point in plan]
+        walked = [(math.floor(ends[0][0]), math.floor(ends[0][1]))]
+        for start, end in zip(ends, ends[1:]):
+            walked += crossed(start, end)
+        return corners([(x, self.height - 1 - up) for x, up in walked])
+
+
+def _square(square: int) -> int:
+    """A `euclid2` distance."""
+    if square < 0:
+        raise RosError(f"a euclid2 distance is a square in cells, 0 or more, and no {square}")
+    return square
+
+
+def crossed(start: Tuple[Fraction, Fraction], end: Tuple[Fraction, Fraction]) -> Iterator[Cell]:
+    """The cells that a segment enters after the cell that it begins in, in their order; each is
+    next to the one before."""
+    x, y = math.floor(start[0]), math.floor(start[1])
+    crossings = []
+    for axis in (0, 1):
+        first, last = math.floor(start[axis]), math.floor(end[axis])
+        step = 1 if last > first else -1
+        for at in range(first, last, step):
+            edge = at + 1 if step > 0 else at
+            crossings.append(((edge - start[axis]) / (end[axis] - start[axis]), axis, step))
+    for _, axis, step in sorted(crossings):
+        x, y = (x + step, y) if axis == 0 else (x, y + step)
+        yield x, y
+
+
+def corners(cells: Sequence[Cell]) -> List[Cell]:
+    """A path of neighbouring cells by its ends and the cells where it turns."""
+    kept = [cells[0]]
+    for before, here, after in zip(cells, cells[1:], cells[2:]):
+        if (here[0] - before[0], here[1] - before[1]) != (after[0] - here[0], after[1] - here[1]):
+            kept.append(here)
+    return kept if len(cells) == 1 else kept + [cells[-1]]
+
+
+def pieces(path: Sequence[Cell]) -> Iterator[Sequence[Cell]]:
+    """A path in pieces of at most 1000 points. Each starts at the last point of the one before, so
+    that no cell between is left out."""
+    yield path[:LONGEST_PATH]
+    for start in range(LONGEST_PATH - 1, len(path) - 1, LONGEST_PATH - 1):
+        yield path[start : start + LONGEST_PATH]
+
+
+def query_lines(command: str, path: Sequence[Cell]) -> List[str]:
+    """The lines of a path, as `PATH euclid2` or `CLEAROF euclid2 34` begins them: one for each
+    piece of it."""
+    return [" ".join([command] + [f"{x} {y}" for x, y in piece]) for piece in pieces(path)]
+
+
+# ---- a robot's radius
+
+
+def least_whole(holds_from: Fraction, root_two_times: Fraction) -> int:
+    """The least whole number that isn't below a + b * sqrt 2, for a and b from 0 on."""
+    parts = holds_from.denominator * root_two_times.denominator  # a and b are whole numbers of these
+    a, square = int(holds_from * parts), 2 * int(root_two_times * parts) ** 2
+    root = math.isqrt(square - 1) + 1 if square else 0  # up: what it is compared with is whole
+    return -(-(a + root) // parts)
+
+
+def clear_distance(
+    radius: Number, resolution: Number, metric: str = EUCLID2, whole_cells: bool = True
+) -> int:
+    """The least `d` of CLEAROF for a round robot of this radius, both in metres.
+
+    With `whole_cells`, which is the safe reading, the robot's centre may be anywhere in its cell
+    and the obstacle anywhere in its own. Without it both are in the middle of their cells, as
+    costmaps inflate, and a robot may come nearer than its radius by up to sqrt 2 cells.
+    """
+    r, s = exact(radius), exact(resolution)
+    if r < 0 or s <= 0:
+        raise RosError("a radius is 0 or more, and a resolution above 0")
+    n = r / s
+    if metric == EUCLID2:  # the square of n, or of n + sqrt 2
+        return least_whole(n * n + 2, 2 * n) if whole_cells else math.ceil(n * n)
+    if metric == CITY:  # the Euclidean distance may be less than the steps by sqrt 2
+        return least_whole(Fraction(2 if whole_cells else 0), n)
+    if metric == CHESS:
+        return math.ceil(n) + (1 if whole_cells else 0)
+    raise RosError(f"'{metric}' is no metric: euclid2, city or chess")
