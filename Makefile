@@ -79,8 +79,11 @@ install-program: all
 	for part in launch/clearmap.launch rviz/clearmap.rviz; do \
 	    $(INSTALL) -D -m 644 tools/ros/$$part '$(to)/share/clearmap/ros/'$$part || exit 1; \
 	done
-	for part in house.png house.yaml; do \
+	for part in house.png house.yaml plan.cpp; do \
 	    $(INSTALL) -D -m 644 examples/$$part '$(to)/share/clearmap/examples/'$$part || exit 1; \
+	done
+	for part in bin/distances_to_pgm examples/plan.py; do \
+	    $(INSTALL) -m 755 $$part '$(to)/share/clearmap/examples/' || exit 1; \
 	done
 	$(INSTALL) -D -m 755 tools/view/clearmap_view.py '$(to)/share/clearmap/view/clearmap_view.py'
 	for part in $(view:tools/view/%=%); do \

@@ -7,16 +7,16 @@ import pathlib
 import sys
 
 top = pathlib.Path(__file__).resolve().parent.parent
-sys.path[:0] = [str(top / "clients/python"), str(top / "tools/ros")]
+sys.path[:0] = [str(top / "clients/python"), str(top / "python")]  # here, and installed
 import clearmap
-import clearmap_ros as ros
+from clearmap.frames import pieces
 
 
 def main(yaml, port):
-    frame = ros.read_map(yaml).frame
-    path = frame.staircase(ros.read_plan(sys.stdin))
+    frame = clearmap.read_map(yaml).frame
+    path = frame.staircase(clearmap.read_plan(sys.stdin))
     with clearmap.Client(int(port), size=frame.size) as client, client.pin() as pinned:
-        found = [pinned.path(piece) for piece in ros.pieces(path)]
+        found = [pinned.path(piece) for piece in pieces(path)]
     if None in found:
         return print("the map has no obstacle")
     tightest = min(found, key=lambda it: it.distance)
@@ -29,5 +29,5 @@ if len(sys.argv) != 3 or not sys.argv[2].isdecimal():
     sys.exit("plan.py: name the map and the server's port: plan.py MAP.yaml PORT")
 try:
     main(*sys.argv[1:])
-except (ros.RosError, clearmap.ClearmapError, OverflowError) as fault:
+except (clearmap.ClearmapError, OverflowError) as fault:
     sys.exit(f"plan.py: {fault}")

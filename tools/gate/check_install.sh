@@ -136,7 +136,7 @@ tried_scripts() { # tried_scripts PREFIX: the scripts and the client there
     expect "$1/bin/clearmap-backup" "$("$1/bin/clearmap-backup" --help | sed -n "s/^Usage: \([a-z-]*\) .*/\1/p")" clearmap-backup
     expect 'the client in Python' "$(PYTHONPATH=$1/share/clearmap/python python3 -c 'import clearmap, clearmap_feed, clearmap_grid, clearmap_ros; print(clearmap.CITY)')" city
     expect 'the map to start with' "$(ls "$1/share/clearmap/examples" | tr '\n' ' ')" \
-        'house.png house.yaml '
+        'distances_to_pgm house.png house.yaml plan.cpp plan.py '
 }
 tried_scripts "$usr"
 

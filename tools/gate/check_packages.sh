@@ -41,6 +41,14 @@ PROJECT
 cpp_says='the path is clear: 0.751665 m at its tightest; 1.5 m at (2, 2)'
 row='import clearmap; print(clearmap.distances([[True, False, False]]).tolist())'
 arrays=$(tools/python_with numpy)
+awk 'BEGIN { printf "P2 4 3 255\n0 205 254 254 254 254 254 0 254 254 254 254\n" }' > "$scratch/map.pgm"
+printf '%s\n' 'image: map.pgm' 'resolution: 0.05' 'origin: [-1.0, -2.0, 0.0]' 'negate: 0' \
+    'occupied_thresh: 0.65' 'free_thresh: 0.196' > "$scratch/map.yaml"
+metres='import clearmap; at = clearmap.read_map("map.yaml"); robot = at.frame.footprint(
+    [(0.0125, 0.0125), (-0.0125, 0.0125), (-0.0125, -0.0125), (0.0125, -0.0125)]); print(at.frame.size,
+    robot.clearance(at.map(), *at.frame.pose("-0.975", "-1.975", 0)),
+    clearmap.clear_distance("0.22", at.frame.resolution))'
+metres_says='(4, 3) 0.0625 34'
 
 # The page's program in C++ with what is installed to a root: by pkg-config and by CMake.
 tried_cpp() { # tried_cpp ROOT LIBRARY_FOLDER PKG_CONFIG_FOLDER
@@ -67,6 +75,8 @@ tried_program() { # tried_program ROOT LIBRARY_FOLDER
     [ -n "$arrays" ] || { echo 'the package in Python left out: there is no numpy'; return; }
     expect "$1: in process" "$(cd "$scratch" && LD_LIBRARY_PATH=$1$2 \
         PYTHONPATH=$1/usr/share/clearmap/python "$arrays" -c "$row")" '[[0, 1, 4]]'
+    expect "$1: in metres" "$(cd "$scratch" && LD_LIBRARY_PATH=$1$2 \
+        PYTHONPATH=$1/usr/share/clearmap/python "$arrays" -c "$metres")" "$metres_says"
 }
 
 # All of it by one command.
@@ -119,6 +129,7 @@ if "$python" -c 'import ensurepip, venv' 2> /dev/null; then
     done
     if [ -n "$arrays" ]; then
         expect 'distances' "$(cd "$scratch" && bare "$venv/bin/python" -c "$row")" '[[0, 1, 4]]'
+        expect 'metres' "$(cd "$scratch" && bare "$venv/bin/python" -c "$metres")" "$metres_says"
     fi
     expect 'the program of the wheel' "$(bare "$venv/bin/clearmap" --version)" "$version"
     bare "$venv/bin/pip" uninstall -q -y clearmap

@@ -48,6 +48,9 @@ else
     echo 'the node of ROS 1 left out: there is no roscore, or no python3 with rospy, numpy,'
     echo '  nav_msgs, map_msgs, sensor_msgs and visualization_msgs'
 fi
+# The steps of the page, from one command to the next.
+timeout 300 tools/gate/check_robots.py || failed=1
+
 if command -v mypy > /dev/null && [ -n "$arrays" ]; then
     export MYPYPATH=clients/python:tools/ros:tools/view
     own=$(ls tools/ros/clearmap_*.py | grep -v 'layers\|node')

@@ -29,7 +29,8 @@ rm "$root/usr/share/doc/clearmap/LICENSE"
 strip --strip-unneeded "$root/usr/bin/clearmap" "$root$lib/libclearmap.so.1"
 strip --strip-debug "$root$lib/libclearmap.a"
 for script in "$root"/usr/share/clearmap/python/*.py "$root"/usr/share/clearmap/view/*.py \
-    "$root"/usr/share/clearmap/gateway/*.py "$root"/usr/share/clearmap/fleet/*.py; do
+    "$root"/usr/share/clearmap/gateway/*.py "$root"/usr/share/clearmap/fleet/*.py \
+    "$root"/usr/share/clearmap/examples/*.py; do
     sed -i '1s|^#!/usr/bin/env python3$|#!/usr/bin/python3|' "$script"
 done
 mkdir -p "$root/usr/lib/python3/dist-packages" # where Debian's python3 finds it

@@ -20,9 +20,11 @@ try:
 except ImportError:
     Image = None
 try:
-    import numpy
-except ImportError:
-    numpy = None
+    import clearmap.library
+
+    LACKS = clearmap.library.numpy() and clearmap.library.library() and None
+except ImportError as fault:
+    LACKS = str(fault)
 
 YAML = """# a map of four by three cells
 image: map.pgm
@@ -441,7 +443,7 @@ free_thresh: 0.196
 """
 
 
-@unittest.skipIf(numpy is None, "no clearance is tried: there is no numpy")
+@unittest.skipIf(LACKS, LACKS)
 class Clearances(unittest.TestCase):
     """A room of 2 by 1 m: a post of one cell from (0.4, 0.2) to (0.5, 0.3), and an unknown cell in
     the lower right corner."""
