@@ -276,6 +276,8 @@ class Plans(unittest.TestCase):
         for wrong in ([], [(9, 9)]):
             with self.assertRaises(clearmap.RosError):
                 clearmap.plan_clearance(area, frame, wrong)
+        with self.assertRaisesRegex(TypeError, r"clearmap.Map\(grid\)"):
+            clearmap.plan_clearance(grid, frame, plan)
         other = clearmap.Map(np.zeros((20, 31), bool))
         with self.assertRaisesRegex(clearmap.RosError, r"\(31, 20\) cells.*\(30, 20\)"):
             clearmap.plan_clearance(other, frame, plan)

@@ -54,11 +54,11 @@ class Footprint:
         self._outline = outline_of(points, resolution)
         inner, outer = _circles(self._outline)
         self._inner, self._outer = inner - SLACK, outer + SLACK
-        self._cell = exact(resolution)
+        self._cell = exact(float(resolution))
 
     def hits(self, area: Map, x: float, y: float, theta: float) -> bool:
         """Whether the robot is on an obstacle of a map at this pose."""
-        return self._hits(_held(area), *_pose(x, y, theta))
+        return self._hits(held_of(area), *_pose(x, y, theta))
 
     def is_clear(self, area: Map, x: float, y: float, theta: float) -> bool:
         """Whether it is on none."""
@@ -71,7 +71,7 @@ class Footprint:
         are answered for the cells as they are when the call starts. If there are many poses for the
         map, the call first computes each cell's distance, in 12 bytes per cell while it runs."""
         np = numpy()
-        held = _held(area)
+        held = held_of(area)
         arrays = poses.flat(x, y, theta)
         found = np.empty(arrays[0].shape, bool)
         out, each = found.reshape(-1), tuple(numbers.ravel() for numbers in arrays)
@@ -96,7 +96,7 @@ class Footprint:
         cell, or with the edge `wall` the map's border: the greatest float that isn't above it.
         ValueError for a pose more than 1048576 cells from the map's first corner.
         """
-        square = self._square(_held(area), _pose(x, y, theta))
+        square = self._square(held_of(area), _pose(x, y, theta))
         if square is None:
             return math.inf
         return root_float_below(square * self._cell * self._cell)
@@ -114,7 +114,7 @@ class Footprint:
         """
         if not within >= 1 / 512:
             raise ValueError(f"within is {within}, where 1/512 of a cell or more is wanted")
-        held = _held(area)
+        held = held_of(area)
 
         def cells(pose: Pose) -> float:
             square = self._square(held, _pose(*pose))
@@ -195,7 +195,7 @@ def _number(name: str, given: float) -> float:
         raise TypeError(f"{name} is of {kind}, where a number is wanted: {many}") from None
 
 
-def _held(area: Map) -> Held:
+def held_of(area: Map) -> Held:
     """The cells of a map as they are now."""
     if not isinstance(area, Map):
         kind = type(area).__name__

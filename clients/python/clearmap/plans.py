@@ -7,6 +7,7 @@ from typing import Iterable, Iterator, List, NamedTuple, Optional, Sequence, Tup
 
 from .decimals import Number, exact, root_float_below
 from .errors import RosError
+from .footprints import held_of
 from .frames import Frame, Point
 from .gaps import nearest
 from .maps import Map
@@ -54,14 +55,15 @@ def plan_clearance(
     RosError for a map that isn't of the frame's size, and for a point that isn't on it. All
     segments are answered for the cells as they are when the call starts.
     """
-    if area.size != frame.size:
-        raise RosError(f"the map has {area.size} cells, and its frame {frame.size}")
+    held = held_of(area)
+    if held.size != frame.size:
+        raise RosError(f"the map has {held.size} cells, and its frame {frame.size}")
     robot, points = exact(radius), [frame.place(point) for point in plan]
     if robot < 0:
         raise RosError("a radius is 0 or more")
     if not points:
         raise RosError("the plan has no point")
-    held, told = area._held, []
+    told = []
     for number, ends in enumerate(list(zip(points, points[1:])) or [(points[0], points[0])]):
         corners, steps = _in_steps(ends)
         found = nearest(held, corners, steps)
