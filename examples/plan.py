@@ -29,5 +29,5 @@ if len(sys.argv) != 3 or not sys.argv[2].isdecimal():
     sys.exit("plan.py: name the map and the server's port: plan.py MAP.yaml PORT")
 try:
     main(*sys.argv[1:])
-except (clearmap.ClearmapError, OverflowError) as fault:
+except (clearmap.ClearmapError, OverflowError, ValueError) as fault:
     sys.exit(f"plan.py: {fault}")

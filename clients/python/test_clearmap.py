@@ -220,6 +220,14 @@ class Refusals(unittest.TestCase):
                 self.refused(clearmap.LogFull, 4, "LogFull", (), client.revert)
                 self.assertEqual(pinned.at(0, 0).distance, 5)
 
+    def test_what_would_be_right(self):
+        """A refusal says which columns and rows there are, once the client knows the size."""
+        with Served(POST) as server:
+            for size, said in ((None, "'\\)$"), ((6, 4), "columns 0 to 5 and rows 0 to 3$")):
+                with clearmap.Client(server.port, size=size) as client, client.pin() as pinned:
+                    self.assertRaisesRegex(clearmap.OutOfRange, said, pinned.at, 6, 0)
+                    self.assertRaisesRegex(clearmap.OutOfRange, said, client.paint, 0, 0, 7, 1)
+
     def test_what_is_never_sent(self):
         with Served(POST) as server, clearmap.Client(server.port) as client, client.pin() as pinned:
             with self.assertRaises(ValueError):

@@ -13,7 +13,7 @@ from typing import Iterator, List, Sequence
 
 HERE = pathlib.Path(__file__).resolve().parent
 FOLDERS = (HERE.parent.parent / "clients/python", HERE.parent / "python")
-sys.path += [str(folder) for folder in FOLDERS if folder.is_dir()]
+sys.path[:0] = [str(folder) for folder in FOLDERS if folder.is_dir()]
 
 from clearmap import OPEN, WALL, Frame, RosError, clear_distance, plan_clearance, read_map
 from clearmap import RosMap as Map

@@ -5,7 +5,7 @@ from typing import Callable, NoReturn, Optional, Union
 
 from . import requests
 from .connection import Connection
-from .errors import ConnectionLost, LogFull, Refused, Size, raised
+from .errors import ConnectionLost, LogFull, OutOfRange, Refused, Size, extent, raised
 from .pinned import Pinned
 from .requests import Change, Collected, Request, T, whole
 from .size import check_size, find_size, size_of
@@ -194,6 +194,8 @@ class Client:
                 connection.close()
                 raise
             connection.busy = False
+            if isinstance(answer, OutOfRange) and self._size:
+                answer.cure = extent(self._size)
             return answer
 
     def _newest(self) -> Connection:

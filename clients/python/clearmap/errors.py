@@ -79,6 +79,11 @@ class OutOfRange(Refused):
     """A cell, a rectangle or a stamp isn't wholly on the map."""
 
 
+def extent(size: Size) -> str:
+    """Which cells a map of this size has."""
+    return f"the map has columns 0 to {size[0] - 1} and rows 0 to {size[1] - 1}"
+
+
 class BlocksFull(Refused):
     """A change needs `needed` new blocks, and `free` are free: collect, or revert."""
 

@@ -19,7 +19,7 @@ from typing import (
 )
 
 from . import carried, requests
-from .errors import BadArguments, BadPath, Crooked, OutOfRange, Refused, Size
+from .errors import BadArguments, BadPath, Crooked, OutOfRange, Refused, Size, extent
 from .grids import EDGES, OPEN, Memory, edge_of, map_of, number_of
 from .images import pbm_map
 from .library import CROOKED, NO_OBSTACLE, Bits, CFound, CNear, check, library, numpy
@@ -378,8 +378,7 @@ def _outside(numbers: Iterable[int], request: Request[Any], size: Size) -> Refus
     refusal: Refused = OutOfRange(1, "OutOfRange", (), request.line)
     if not all(0 <= number < END for number in numbers):
         refusal = BadArguments(12, "BadArguments", (), request.line)
-    width, height = size
-    refusal.cure = f"the map has columns 0 to {width - 1} and rows 0 to {height - 1}"
+    refusal.cure = extent(size)
     return refusal
 
 
