@@ -1,91 +1,24 @@
 #!/usr/bin/env python3
-"""Tests of clearances, of footprints and of plans, against a model that goes through all obstacles
-and all pairs of sides, in fractions.
+"""Tests of clearances of footprints, at a pose and along a way, against a model.
 
 They need numpy and the library. ARRAYS in the environment is how many random maps are tried, 150
 where it isn't there.
 """
-import itertools
 import math
 import os
 import random
-import struct
 import unittest
 from fractions import Fraction
 
 import numpy as np
 
 import clearmap
-from clearmap import decimals, gaps
-from footprint_model import CELL, axes_of, corners_at, draw_case
+from clearance_model import between, cases, cell_box, is_root, model_square, sampled_way
+from clearmap import gaps
+from footprint_model import corners_at
 
 ARRAYS = int(os.environ.get("ARRAYS", "150"))
 SQUARE = [(-1, -1), (1, -1), (1, 1), (-1, 1)]
-FEW = 60  # obstacles of a map that the model goes through
-
-
-# ---- the model
-
-
-def from_segment(point, a, b):
-    """The square of a point's distance from a segment."""
-    (px, py), (ax, ay), (bx, by) = point, a, b
-    dx, dy = bx - ax, by - ay
-    length = dx * dx + dy * dy
-    along = Fraction((px - ax) * dx + (py - ay) * dy, length) if length else Fraction(0)
-    along = min(max(along, Fraction(0)), Fraction(1))
-    return (ax + along * dx - px) ** 2 + (ay + along * dy - py) ** 2
-
-
-def sides_of(corners):
-    return list(zip(corners, [*corners[1:], corners[0]]))
-
-
-def between(corners, box):
-    """The square of the distance of two convex polygons."""
-    for a, b in axes_of(corners):
-        (low, high), (first, last) = (
-            (min(told), max(told))
-            for told in ([a * x + b * y for x, y in points] for points in (corners, box))
-        )
-        if high < first or last < low:
-            break
-    else:
-        return Fraction(0)
-    return min(
-        min(from_segment(p, *side) for p in points)
-        for points, sides in ((corners, sides_of(box)), (box, sides_of(corners)))
-        for side in sides
-    )
-
-
-def cell_box(x, y, cell):
-    return [(x * cell, y * cell), ((x + 1) * cell, y * cell),
-            ((x + 1) * cell, (y + 1) * cell), (x * cell, (y + 1) * cell)]  # fmt: skip
-
-
-def model_square(grid, edge, corners, cell=CELL):
-    """The square of the distance from the nearest obstacle in cells; None if there is none."""
-    height, width = grid.shape
-    found = [between(corners, cell_box(int(x), int(y), cell)) for y, x in np.argwhere(grid)]
-    if edge == "wall":
-        off = [number for x, y in corners
-               for number in (x, width * cell - x, y, height * cell - y)]  # fmt: skip
-        found.append(Fraction(max(min(off), 0)) ** 2)
-    return min(found) / (cell * cell) if found else None
-
-
-def is_root(found, square):
-    """Whether a float is the greatest that isn't above the root."""
-    (bits,) = struct.unpack("<q", struct.pack("<d", found))
-    (after,) = struct.unpack("<d", struct.pack("<q", bits + 1))
-    return Fraction(found) ** 2 <= square < Fraction(after) ** 2
-
-
-def cases(chance, count):
-    """Maps of few obstacles, with a footprint and poses."""
-    made = (draw_case(chance, clearmap.Footprint) for _ in itertools.count())
-    return itertools.islice((case for case in made if case[0].sum() <= FEW), count)
 
 
 class Poses(unittest.TestCase):
@@ -209,124 +142,6 @@ class Ways(unittest.TestCase):
                 square.clearance_along(area, [(1, 1, 0)], within)
         for wrong in ([(1, 2)], [(1, 2, 3, 4)], [(1, math.inf, 0)], [1, 2, 3]):
             self.assertRaises((TypeError, ValueError), square.clearance_along, area, wrong)
-
-
-def sampled_way(way, count):
-    """Poses along a way, turning the shorter way."""
-    for start, end in zip(way, way[1:]):
-        turn = math.remainder(end[2] - start[2], math.tau)
-        for number in range(count + 1):
-            part = number / count
-            yield (start[0] + part * (end[0] - start[0]), start[1] + part * (end[1] - start[1]),
-                   start[2] + part * turn)  # fmt: skip
-
-
-class Plans(unittest.TestCase):
-    def test_against_the_model(self):
-        chance = random.Random(3)
-        for grid, edge, _, _, _ in cases(chance, ARRAYS):
-            height, width = grid.shape
-            parts = chance.choice([1, 2, 10, 1000])
-            scale, left, low = (Fraction(word) for word in chance.choice(FRAMES))
-            frame = clearmap.Frame(width, height, scale, left, low)
-            plan = [
-                (left + Fraction(chance.randrange(width * parts), parts) * scale,
-                 low + Fraction(chance.randrange(height * parts), parts) * scale)
-                for _ in range(chance.randint(1, 4))
-            ]  # fmt: skip
-            found = clearmap.plan_clearance(clearmap.Map(grid, edge), frame, plan)
-            self.check(grid, edge, frame, plan, found)
-
-    def check(self, grid, edge, frame, plan, found):
-        """Compares an answer with the model's, whose cells have `parts` steps."""
-        parts = 1000
-        corners = [
-            (int((x - frame.origin_x) / frame.resolution * parts),
-             int((frame.height - (y - frame.origin_y) / frame.resolution) * parts))
-            for x, y in plan
-        ]  # fmt: skip
-        ends = list(zip(corners, corners[1:])) or [(corners[0], corners[0])]
-        squares = [model_square(grid, edge, list(pair), parts) for pair in ends]
-        if found is None:
-            self.assertEqual(squares, [None] * len(ends))
-            return
-        self.assertTrue(is_root(found.clearance, min(squares) * frame.resolution**2))
-        self.assertEqual(squares[found.segment], min(squares))
-        x, y = found.obstacle
-        if 0 <= x < frame.width and 0 <= y < frame.height:
-            self.assertTrue(grid[y, x])
-            near = between(list(ends[found.segment]), cell_box(x, y, parts)) / parts**2
-            self.assertEqual(near, min(squares))
-        else:
-            self.assertEqual(edge, "wall")
-
-    def test_a_radius(self):
-        grid = np.zeros((20, 30), bool)
-        grid[9, 7] = True
-        area = clearmap.Map(grid)
-        frame = clearmap.Frame(30, 20, *map(Fraction, ("0.05", "-1", "-2")))
-        plan = [("-0.975", "-1.475"), ("0.4", "-1.475")]  # the middles of row 9
-        self.assertEqual(clearmap.plan_clearance(area, frame, plan), (0, 0, (7, 9)))
-        plan = [("-0.975", "-1.6"), ("0.4", "-1.6")]
-        self.assertEqual(clearmap.plan_clearance(area, frame, plan, "0.04"), (0.06, 0, (7, 9)))
-        self.assertEqual(clearmap.plan_clearance(area, frame, plan, 1), (0, 0, (7, 9)))
-        for wrong in (-1, "nan", "a"):
-            with self.assertRaises(clearmap.RosError):
-                clearmap.plan_clearance(area, frame, plan, wrong)
-        for wrong in ([], [(9, 9)]):
-            with self.assertRaises(clearmap.RosError):
-                clearmap.plan_clearance(area, frame, wrong)
-        with self.assertRaisesRegex(TypeError, r"clearmap.Map\(grid\)"):
-            clearmap.plan_clearance(grid, frame, plan)
-        other = clearmap.Map(np.zeros((20, 31), bool))
-        with self.assertRaisesRegex(clearmap.RosError, r"\(31, 20\) cells.*\(30, 20\)"):
-            clearmap.plan_clearance(other, frame, plan)
-
-
-FRAMES = (("0.05", "-1", "-2.5"), ("1", "0", "0"), ("0.1", "3.7", "1.25"))
-
-
-class Places(unittest.TestCase):
-    def test_a_footprint_in_metres(self):
-        """The corners at a pose of ROS are where they are in the world."""
-        chance = random.Random(4)
-        points = [(0.4, 0.1), (0.1, 0.3), (-0.3, 0.2), (-0.2, -0.25)]  # no side is another's image
-        for _ in range(ARRAYS):
-            scale, left, low = (Fraction(word) for word in chance.choice(FRAMES))
-            frame = clearmap.Frame(30, 20, scale, left, low)
-            x, y, yaw = (chance.uniform(0.1, 0.9) for _ in range(3))
-            x, y = float(left + x * 30 * scale), float(low + y * 20 * scale)
-            robot, pose = frame.footprint(points), frame.pose(x, y, 8 * yaw - 4)
-            cosine, sine = math.cos(8 * yaw - 4), math.sin(8 * yaw - 4)
-            wanted = {
-                ((x + a * cosine - b * sine - float(left)) / float(scale),
-                 20 - (y + a * sine + b * cosine - float(low)) / float(scale))
-                for a, b in points
-            }  # fmt: skip
-            corners = clearmap.footprints.placed(robot._outline, *pose)
-            for across, down in wanted:
-                off = min(math.dist((a / CELL, b / CELL), (across, down)) for a, b in corners)
-                self.assertLess(off, 1 / 8192)
-            self.assertEqual(len(corners), len(wanted))
-
-    def test_a_pose_off_the_map(self):
-        frame = clearmap.Frame(30, 20, *map(Fraction, ("0.05", "-1", "-2")))
-        self.assertRaisesRegex(clearmap.RosError, "isn't on the map", frame.pose, 9, 0, 0)
-        found = frame.point(frame.place(("0.1", "-1.7")))
-        self.assertEqual(found, (Fraction(1, 10), Fraction(-17, 10)))
-
-    def test_rounded_down(self):
-        """Roots and floats against their definition, from the least float to the greatest."""
-        chance = random.Random(5)
-        for _ in range(20 * ARRAYS):
-            square = Fraction(chance.randrange(1, 1 << chance.randint(1, 200)),
-                              chance.randrange(1, 1 << chance.randint(1, 200)))  # fmt: skip
-            self.assertTrue(is_root(decimals.root_float_below(square), square))
-        for number in ("0", "0.1", "0.3", "1e-300", "123456789.123456789"):
-            exact = decimals.exact(number)
-            found = decimals.float_below(exact)
-            self.assertLessEqual(Fraction(found), exact)
-            self.assertGreater(Fraction(math.nextafter(found, math.inf)), exact)
 
 
 class Gaps(unittest.TestCase):

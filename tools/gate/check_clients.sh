@@ -35,7 +35,7 @@ arrays=$(tools/python_with numpy)
 if [ -n "$arrays" ] && [ -e "$library" ]; then
     for test in clients/python/test_library.py clients/python/test_maps.py \
         clients/python/test_tiles.py clients/python/test_footprints.py \
-        clients/python/test_clearances.py \
+        clients/python/test_clearances.py clients/python/test_plans.py \
         clients/python/test_signed.py clients/python/test_carried.py \
         clients/python/test_images.py clients/python/test_transforms.py; do
         tried "$arrays" "$test"

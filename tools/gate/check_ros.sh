@@ -20,6 +20,7 @@ tried() { # tried PYTHON TEST
 images=$(tools/python_with PIL.Image)
 [ -n "$images" ] || echo 'images other than PGM left out: there is no python3 with PIL'
 tried "${images:-python3}" tools/ros/test_clearmap_ros.py
+tried "${images:-python3}" tools/ros/test_clearance_command.py
 tried python3 tools/ros/test_clearmap_grid.py
 
 # Costmaps, with the built library or the one that CLEARMAP_LIBRARY names.

@@ -5,13 +5,11 @@ import io
 import math
 import os
 import pathlib
-import re
 import subprocess
 import sys
 import tempfile
 import unittest
 from fractions import Fraction
-from unittest import mock
 
 import clearmap_ros as ros
 
@@ -19,12 +17,6 @@ try:
     from PIL import Image
 except ImportError:
     Image = None
-try:
-    import clearmap.library
-
-    LACKS = clearmap.library.numpy() and clearmap.library.library() and None
-except ImportError as fault:
-    LACKS = str(fault)
 
 YAML = """# a map of four by three cells
 image: map.pgm
@@ -432,83 +424,6 @@ class Commands(unittest.TestCase):
             if program := os.environ.get("CLEARMAP"):
                 read = subprocess.run([program, "dist", "--metric", "city"], input=written, capture_output=True, timeout=60)
                 self.assertEqual(read.stdout, b"0 0 1 1\n1 1 1 0\n0 0 0 1\n")
-
-
-ROOM = """image: room.pgm
-resolution: 0.1
-origin: [-1.0, -0.5, 0.0]
-negate: 0
-occupied_thresh: 0.65
-free_thresh: 0.196
-"""
-
-
-@unittest.skipIf(LACKS, LACKS)
-class Clearances(unittest.TestCase):
-    """A room of 2 by 1 m: a post of one cell from (0.4, 0.2) to (0.5, 0.3), and an unknown cell in
-    the lower right corner."""
-
-    def setUp(self):
-        folder = tempfile.TemporaryDirectory()
-        self.addCleanup(folder.cleanup)
-        samples = [254] * 200
-        samples[2 * 20 + 14], samples[199] = 0, 205
-        self.yaml = pathlib.Path(folder.name, "room.yaml")
-        self.yaml.write_text(ROOM)
-        self.yaml.with_name("room.pgm").write_bytes(b"P5 20 10 255\n" + bytes(samples))
-
-    def asked(self, plan, *words):
-        """What the command answers about a plan: its status, and its line."""
-        tool = pathlib.Path(__file__).with_name("clearmap_ros.py")
-        line = [sys.executable, str(tool), "clearance", str(self.yaml), *words]
-        told = subprocess.run(line, input=plan.encode(), capture_output=True, timeout=60)
-        return told.returncode, (told.stdout or told.stderr).decode().rstrip("\n")
-
-    def test_a_plan(self):
-        """Its line passes the post at 0.3 m, and with unknown cells free nothing else is near."""
-        plan = "-0.9 -0.1\n0.45 -0.1\n"
-        post = "between points 1 and 2, by the obstacle at (0.45, 0.25)"
-        self.assertEqual(self.asked(plan), (0, f"0.300000 m free {post}"))
-        self.assertEqual(self.asked(plan, "--radius", "0.22"), (0, f"0.080000 m free {post}"))
-        self.assertEqual(self.asked(plan, "--radius", "0.3"), (0, f"0.000000 m free {post}"))
-        self.assertEqual(self.asked("0.9 -0.35\n")[1][:24], "0.050000 m free at the p")
-        free = self.asked("0.9 -0.35\n", "--unknown-is-free")
-        self.assertEqual(free, (0, "0.680073 m free at the point, by the obstacle at (0.45, 0.25)"))
-        wall = self.asked(plan, "--edge", "wall")
-        self.assertEqual(wall[1][:38], "0.100000 m free between points 1 and 2")
-
-    def test_a_footprint(self):
-        """An L's arm: what is to the left of the robot as ROS has it is towards the post."""
-        left = "0.1,0.3 -0.1,0.3 -0.1,0 0.1,0"
-        at = "m free at (0.450000, -0.150000), turned by 0.000000"
-        self.assertEqual(self.asked("0.45 -0.15 0\n", "--footprint", left), (0, f"0.050000 {at}"))
-        right = "0.1,-0.3 -0.1,-0.3 -0.1,0 0.1,0"
-        self.assertEqual(self.asked("0.45 -0.15 0\n", "--footprint", right), (0, f"0.350000 {at}"))
-        through = self.asked("-0.5 0.2 0\n0.9 0.2 0\n", "--footprint", "0.1,0.1 -0.1,0.1 -0.1,-0.1")
-        self.assertEqual((through[0], through[1][:15]), (0, "0.000000 m free"))
-
-    def test_refused(self):
-        square = "0.1,0.1 -0.1,0.1 -0.1,-0.1 0.1,-0.1"
-        for plan, words, said in (
-            ("", (), "no point"), ("9 9\n", (), "isn't on the map"), ("0 0 0\n", (), "X and Y"),
-            ("0 0\n", ("--radius", "-1"), "0 or more"), ("0 0\n", ("--radius", "x"), "no number"),
-            ("0 0\n", ("--footprint", square), "X, Y and THETA"), ("", ("--footprint", square), "no pose"),
-            ("0 0 0\n", ("--footprint", "1,1 2,2 3"), "points of a footprint"),
-            ("0 0 0\n", ("--footprint", "0,0 1,1"), "3 to 128"), ("0 0 0\n", ("--footprint", "1,a 2,2 3,4"), "no number"),
-            ("0 0 x\n", ("--footprint", square), "no number"), ("9 9 0\n", ("--footprint", square), "isn't on the map"),
-        ):  # fmt: skip
-            status, line = self.asked(plan, *words)
-            self.assertEqual((status, line.count("\n"), line[:14]), (1, 0, "clearmap-ros: "), line)
-            self.assertIn(said, line)
-
-
-class Interpreters(unittest.TestCase):
-    def test_one_without_pil(self):
-        """It is named: Debian's package is for another one."""
-        said = f"want python3-pil, which {sys.executable} doesn't have: Debian's is for /usr/bin/python3"
-        with mock.patch.dict(sys.modules, {"PIL": None, "PIL.Image": None}):
-            with self.assertRaisesRegex(ros.RosError, re.escape(said)):
-                ros.read_image(b"\x89PNG")
 
 
 if __name__ == "__main__":
