@@ -8,7 +8,7 @@ from fractions import Fraction
 import numpy as np
 
 import clearmap
-from footprint_model import CELL, axes_of, draw_case
+from footprint_model import CELL, axes_of, corners_at, draw_case, nearest
 
 FEW = 60  # obstacles of a map that the model goes through
 
@@ -24,7 +24,8 @@ def from_segment(point, a, b):
 
 
 def sides_of(corners):
-    return list(zip(corners, [*corners[1:], corners[0]]))
+    """The segments between all corners: those of the hull, and others inside it."""
+    return list(itertools.combinations(corners, 2))
 
 
 def between(corners, box):
@@ -43,6 +44,17 @@ def between(corners, box):
         for points, sides in ((corners, sides_of(box)), (box, sides_of(corners)))
         for side in sides
     )
+
+
+def corners_of(robot, points, resolution, pose):
+    """As `corners_at`, of the points that are a robot's corners: others lie on a side, or by
+    rounding a step or two inside of it."""
+
+    def steps(point):
+        return tuple(nearest(Fraction(float(length) / resolution) * CELL) for length in point)
+
+    kept = [point for point in points if steps(point) in robot._outline]
+    return corners_at(kept, resolution, pose)
 
 
 def cell_box(x, y, cell):

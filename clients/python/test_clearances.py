@@ -13,9 +13,10 @@ from fractions import Fraction
 import numpy as np
 
 import clearmap
-from clearance_model import between, cases, cell_box, is_root, model_square, sampled_way
+from clearance_model import (
+    between, cases, cell_box, corners_of, is_root, model_square, sampled_way,
+)  # fmt: skip
 from clearmap import gaps
-from footprint_model import corners_at
 
 ARRAYS = int(os.environ.get("ARRAYS", "150"))
 SQUARE = [(-1, -1), (1, -1), (1, 1), (-1, 1)]
@@ -28,7 +29,7 @@ class Poses(unittest.TestCase):
             area, robot = clearmap.Map(grid, edge), clearmap.Footprint(points, resolution)
             for pose in asked[:4]:
                 found = robot.clearance(area, *pose)
-                square = model_square(grid, edge, corners_at(points, resolution, pose))
+                square = model_square(grid, edge, corners_of(robot, points, resolution, pose))
                 if square is None:
                     self.assertEqual(found, math.inf)
                     continue
@@ -39,6 +40,22 @@ class Poses(unittest.TestCase):
                 told.append(found)
         self.assertGreater(sum(found > 0 for found in told), ARRAYS // 2)
         self.assertGreater(sum(found == 0 for found in told), ARRAYS // 2)
+
+    def test_wide_maps(self):
+        """Rows of several words, with obstacles on both sides of the robot and of words' ends."""
+        chance = random.Random(6)
+        for _ in range(max(ARRAYS // 5, 4)):
+            grid = np.zeros((chance.randint(1, 90), chance.randint(65, 300)), bool)
+            height, width = grid.shape
+            for _ in range(chance.randint(1, 12)):
+                grid[chance.randrange(height), chance.choice((0, 63, 64, 127, 128, width - 1))
+                     if chance.random() < 0.3 and width > 128 else chance.randrange(width)] = True
+            points = [(-4, -1.5), (3, -2), (5, 0.25), (2, 2)]
+            area, robot = clearmap.Map(grid), clearmap.Footprint(points)
+            for _ in range(4):
+                pose = chance.uniform(0, width), chance.uniform(0, height), chance.uniform(-4, 4)
+                square = model_square(grid, "open", corners_of(robot, points, 1, pose))
+                self.assertTrue(is_root(robot.clearance(area, *pose), square), pose)
 
     def test_by_hand(self):
         grid = np.zeros((20, 30), bool)

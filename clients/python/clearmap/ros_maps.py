@@ -6,7 +6,7 @@ import pathlib
 from dataclasses import dataclass
 from fractions import Fraction
 from itertools import chain
-from typing import List, Sequence, Union
+from typing import List, Union
 
 from .errors import RosError
 from .frames import Frame
