@@ -10,8 +10,10 @@ import clearmap_ros as ros
 import picture
 from bodies import BadRequest, Cell, body_of, cell_of_query, metric_of, points_of
 from following import Answers, Following, Shown
+from wording import counted
 
 MOST_RADIUS = 10_000  # cells
+UNKNOWN = "unknown, counted as an obstacle"
 
 
 class Way(NamedTuple):
@@ -46,6 +48,17 @@ def cells_of(corners: Sequence[Cell]) -> List[Cell]:
     return cells
 
 
+def root_above(number: int) -> Fraction:
+    """The square root of a whole number, rounded up to a billionth."""
+    below = ros.root_below(number)
+    return below if below * below == number else below + Fraction(1, 10**9)
+
+
+def label(length: str) -> str:
+    """A length as it stands on the map."""
+    return "unknown" if length == UNKNOWN else length
+
+
 class Asking:
     """The handlers of questions."""
 
@@ -54,19 +67,39 @@ class Asking:
 
     # ---- words
 
-    def length(self, distance: int, metric: str) -> str:
-        """A distance in cells or steps, and in metres if they are known; metres are rounded down.
-        """
+    def length(self, distance: int, metric: str, cell: Cell) -> str:
+        """A cell's distance in cells or steps, and in metres if they are known; metres are rounded
+        down."""
         if distance == 0:
-            return "in an obstacle"
+            return UNKNOWN if self.is_unknown(cell) else "in an obstacle"
         frame = self.following.frame_of(self.following.newest())
         if metric == "euclid2":
             words, cells = f"{math.sqrt(distance):.2f} cells", ros.root_below(distance)
         else:
-            words, cells = f"{distance} {'step' if distance == 1 else 'steps'}", Fraction(distance)
+            words, cells = counted(distance, "step"), Fraction(distance)
         if frame is None:
             return words
         return f"{words}, {math.floor(1000 * cells * frame.resolution) / 1000:.3f} m"
+
+    def needed_length(self, needed: int, metric: str) -> str:
+        """How far CLEAROF wants a cell to be, rounded up."""
+        frame = self.following.frame_of(self.following.newest())
+        cells = root_above(needed) if metric == "euclid2" else Fraction(needed)
+        if frame is not None:
+            length = f"{math.ceil(1000 * cells * frame.resolution) / 1000:.3f} m"
+        elif metric == "euclid2":
+            length = f"{math.ceil(100 * cells) / 100:.2f} cells"
+        else:
+            length = counted(needed, "step")
+        return f"{length} needed, middle to middle"
+
+    def is_unknown(self, cell: Cell) -> bool:
+        """Whether the yaml's image has a cell, and doesn't know it."""
+        known, frame = self.following.wanted.map, self.following.frame_of(self.following.newest())
+        if known is None or frame is None:
+            return False
+        has_it = 0 <= cell[0] < frame.width and 0 <= cell[1] < frame.height
+        return has_it and bool(known.unknown[cell[1], cell[0]])
 
     def place(self, cell: Cell) -> str:
         """A cell, and its centre in metres if they are known."""
@@ -86,16 +119,11 @@ class Asking:
             told["said"] = f"{self.place(cell)}: the map has no obstacle"
         else:
             told.update(distance=near.distance, obstacle=near.obstacle)
-            told["length"] = self.length(near.distance, metric)
-            told["said"] = f"{self.place(cell)}: {self.nearness(near, metric)}"
+            length = self.length(near.distance, metric, cell)
+            told["length"] = label(length)
+            whose = " from the obstacle at {}, {}".format(*near.obstacle) if near.distance else ""
+            told["said"] = f"{self.place(cell)}: {length}{whose}"
         return web.json_response(told)
-
-    def nearness(self, near: clearmap.Near, metric: str) -> str:
-        """How near an obstacle is."""
-        length = self.length(near.distance, metric)
-        if near.distance == 0:
-            return length
-        return f"{length} from the obstacle at {near.obstacle[0]}, {near.obstacle[1]}"
 
     # ---- a path
 
@@ -108,9 +136,17 @@ class Asking:
         shown = self.following.newest()
         version, found = await self.following.asked(way(corners, metric, needed))
         told = {"version": version, "corners": corners, **self.answer(found, needed, metric)}
+        told["long"] = self.long(points)
         if found.near is not None and version == shown.version:
             told["tight"] = await self.tight(shown, metric, corners, needed or 0)
         return web.json_response(told)
+
+    def long(self, points: Sequence[Cell]) -> str:
+        """How long the straight lines between the points are, in metres if they are known."""
+        frame = self.following.frame_of(self.following.newest())
+        cells = sum(math.dist(*pair) for pair in zip(points, points[1:]))
+        length = f"{cells * float(frame.resolution):.2f} m" if frame else f"{cells:.2f} cells"
+        return f"{counted(len(points), 'point')}, {length} long"
 
     def corners(self, points: List[Cell]) -> List[Cell]:
         """The staircase from centre to centre of the clicked cells."""
@@ -136,14 +172,17 @@ class Asking:
         tight, near = found
         if tight is None:
             return {"clear": True, "said": "the map has no obstacle"}
-        length = self.length(tight.distance, metric)
+        length = self.length(tight.distance, metric, tight.cell)
         told: Dict[str, object] = {"tightest": tight.cell, "obstacle": tight.obstacle}
-        told.update(distance=tight.distance, length=length)
+        told.update(distance=tight.distance, length=label(length))
         said = f"tightest at {self.place(tight.cell)}: {length}"
         if needed is not None:
             told["clear"] = near is None
-            no_room = near and f"; no room for the robot, first at {self.place(near.cell)}"
-            said += no_room or "; the robot has room"
+            if near is None:
+                said += "; the robot has room"
+            else:
+                said += f"; no room for the robot, first at {self.place(near.cell)}"
+                said += f": {self.needed_length(needed, metric)}"
         return {**told, "said": said}
 
     # ---- a robot's radius
@@ -154,8 +193,11 @@ class Asking:
         radius = request.query.get("radius", "")
         frame = self.following.frame_of(self.following.newest())
         needed = self.needed(radius, metric, request.query.get("unit"))
-        cells = None if needed is None else float(radius) / float(frame.resolution if frame else 1)
-        return web.json_response({"needed": needed, "cells": cells})
+        if needed is None:
+            return web.json_response({"needed": None, "cells": None, "said": ""})
+        cells = float(radius) / float(frame.resolution if frame else 1)
+        said = self.needed_length(needed, metric)
+        return web.json_response({"needed": needed, "cells": cells, "said": said})
 
     def needed(self, radius: object, metric: str, unit: object) -> Optional[int]:
         """The d of CLEAROF for a robot's radius, in metres if they are known, otherwise in cells;

@@ -8,15 +8,15 @@ from aiohttp import web
 
 import clearmap
 from bodies import BadRequest, body_of, rectangle_of
-from draft import QUESTION, Draft
+from draft import Draft
 from following import Following
+from wording import counted
 
 Command = Callable[[clearmap.Client], str]
-
-
-def counted(count: int, what: str) -> str:
-    """A number of something."""
-    return f"1 {what}" if count == 1 else f"{count} {what}s"
+UNDO = (
+    "undo makes the last rectangle's cells what they were in the newest version with the earlier"
+    " rectangles from here"
+)
 
 
 def drawing(draft: Draft, name: str, sides: Sequence[int]) -> Command:
@@ -61,6 +61,19 @@ def commands(draft: Draft) -> Dict[str, Command]:
     return {"publish": publish, "revert": revert, "collect": collect, "checkpoint": checkpoint}
 
 
+def undoing(following: Following) -> Command:
+    """What takes the last rectangle back: no command does, so its cells are stamped as they were.
+    """
+
+    def undo(client: clearmap.Client) -> str:
+        (x, y), image = following.before_last()
+        done = client.stamp(x, y, image)
+        following.draft.undid(done.place)
+        return f"The last rectangle is undone, place {done.place} of the log."
+
+    return undo
+
+
 class Changing:
     """The handler of commands."""
 
@@ -73,6 +86,8 @@ class Changing:
         name, draft = str(body.get("command")), self.following.draft
         if name in ("paint", "clear"):
             return drawing(draft, name, rectangle_of(body.get("rect")))
+        if name == "undo":
+            return undoing(self.following)
         if name not in commands(draft):
             raise BadRequest("no such command")
         return commands(draft)[name]
@@ -85,20 +100,50 @@ class Changing:
         if not hmac.compare_digest(token.encode(), self.token.encode()):
             raise BadRequest("A change wants the page's own token.", 403)
 
+    async def give(self, name: str, call: Command) -> str:
+        """Gives a command, and what it answers."""
+        try:
+            return await asyncio.to_thread(self.following.watched.change, call)
+        except clearmap.TimedOut:
+            self.following.draft.unanswered(name)
+            raise
+
+    async def look(self) -> None:
+        """Takes a place of the log, which tells whether others gave commands since our last one. A
+        collect changes no map."""
+        await self.give("collect", commands(self.following.draft)["collect"])
+
+    def question(self, name: str) -> str:
+        """What the page asks before a command; an empty text if it does it at once."""
+        draft = self.following.draft
+        if name == "revert":
+            ours = counted(draft.count, "rectangle")
+            return f"Revert drops {ours} from here, and what others changed in the draft. Revert?"
+        if name == "publish" and draft.asks:
+            return f"{draft.hidden}. Publish all of it?"
+        if name == "undo" and draft.asks:
+            return f"{draft.hidden}, and {UNDO}. Undo?"
+        return ""
+
     async def change(self, request: web.Request) -> web.Response:
         """A command."""
         self.check(request)
         body = await body_of(request)
-        following = self.following
-        asks = body.get("command") == "publish" and following.draft.asks
-        if asks and body.get("sure") is not True:
-            return web.json_response({"asks": QUESTION})
+        name, sure = str(body.get("command")), body.get("sure") is True
         call = self.command(body)
         try:
-            said = await asyncio.to_thread(following.watched.change, call)
-        except clearmap.TimedOut:
-            following.draft.lost()  # the command may have been accepted
-            raise
+            if name == "undo" or (name == "publish" and (sure or not self.following.draft.asks)):
+                await self.look()
+            asks = "" if sure else self.question(name)
+            if asks:
+                return web.json_response({"asks": asks})
+            return web.json_response({"said": await self.give(name, call)})
         finally:
-            await following.tell(following.fault)
-        return web.json_response({"said": said})
+            await self.following.tell(self.following.fault)
+
+    async def forget(self, request: web.Request) -> web.Response:
+        """Forgets the rectangles that were lost."""
+        self.check(request)
+        self.following.draft.forget_lost()
+        await self.following.tell(self.following.fault)
+        return web.json_response({"said": "The lost rectangles aren't shown any more."})

@@ -1,13 +1,14 @@
 """Follows the newest version of a server: what each page shows, and what it is sent."""
 import asyncio
 import time
-from typing import Callable, Dict, List, NamedTuple, Optional, Tuple, TypeVar, Union
+from typing import Callable, Dict, List, NamedTuple, Optional, Sequence, Tuple, TypeVar, Union
 
 import clearmap
 import clearmap_ros as ros
 import picture
 import tables
 from draft import Draft
+from shown import Copy, Shown, clock
 from watched import AFTER_A_QUESTION, Watched
 from yaml_map import YamlMap
 
@@ -33,32 +34,6 @@ class NothingShown(Exception):
     """There is no version to ask; its text says why."""
 
 
-class Copy(NamedTuple):
-    """A version as a server dumps it, its cells, and what its border is."""
-
-    version: int
-    image: bytes
-    bits: "picture.Cells"
-    edge: str
-
-
-class Shown:
-    """One version on the page, with its pictures by metric: each is made when a page first wants
-    it. `area` is the version as a map of this process, if the library is there."""
-
-    def __init__(self, serial: int, copy: Copy, here: bool) -> None:
-        self.serial, self.copy = serial, copy
-        self.version, self.edge = copy.version, copy.edge
-        self.height, self.width = copy.bits.shape
-        self.area = clearmap.Map(copy.bits, copy.edge) if here else None
-        self.pictures: Dict[str, "asyncio.Task[picture.Picture]"] = {}
-
-    def is_as(self, copy: Copy) -> bool:
-        """Whether another look found nothing new."""
-        same = (self.version, self.edge) == (copy.version, copy.edge)
-        return same and self.copy.image == copy.image
-
-
 class Following:
     """What is shown, and whether the server is there. `turn` counts its changes."""
 
@@ -68,7 +43,7 @@ class Following:
         self.watched = Watched(wanted.port, self.draft.lost)
         self.shown: List[Shown] = []  # the newest, and the one before it
         self.pinned = (0, 0)
-        self.serial = 0
+        self.serial, self.seen = 0, clock()
         self.fault = f"The server at port {wanted.port} is being asked."
         self.turn, self.listeners = 0, 0
         self.news = asyncio.Condition()
@@ -89,7 +64,7 @@ class Following:
         told.update(port=wanted.port, draft=self.draft.state())
         told["name"] = wanted.map.name if wanted.map else f"port {wanted.port}"
         if self.shown:
-            told.update(self.state_of(self.shown[0]))
+            told.update(self.state_of(self.shown[0]), age=clock() - self.seen)
         return told
 
     def state_of(self, shown: Shown) -> Dict[str, object]:
@@ -143,7 +118,7 @@ class Following:
     def holds(self) -> bool:
         """Whether the connection stays: for what is asked and changed, and for what was drawn, so
         that a server that ends is noticed."""
-        return self.watched.stays or (self.listeners > 0 and bool(self.draft.is_drawn))
+        return self.watched.stays or (self.listeners > 0 and self.draft.count > 0)
 
     async def look(self) -> None:
         """Moves to the newest version, if it is another one, and leaves the connection if nothing
@@ -158,6 +133,7 @@ class Following:
 
     async def renew(self) -> None:
         """Moves to the newest version, and reports a lost server."""
+        start = clock()
         try:
             pinned = await asyncio.to_thread(self.watched.renew, self.draft.saw)
             if pinned != self.pinned or not self.shown:
@@ -165,8 +141,11 @@ class Following:
                 self.pinned = pinned
             elif self.fault:
                 await self.tell("")
+            self.seen = start
         except clearmap.ClearmapError as fault:
-            said = f"The server at port {self.wanted.port} can't be asked: {fault}."
+            refused = isinstance(fault.__cause__, ConnectionRefusedError)
+            why = "nobody listens there" if refused else fault
+            said = f"The server at port {self.wanted.port} can't be asked: {why}."
             said += " It is tried again."
             if said != self.fault:
                 await self.tell(said)
@@ -204,6 +183,17 @@ class Following:
         before = self.shown[0].copy.bits
         if before.shape == copy.bits.shape:
             self.draft.found(copy.version, picture.differing(before, drawn, copy.bits))
+
+    def before_last(self) -> Tuple[Sequence[int], bytes]:
+        """Where the last rectangle from here begins, and an image of its cells as they were before
+        it: as in the newest version, with the earlier rectangles from here."""
+        drawn = self.draft.to_undo
+        if not drawn:
+            raise NothingShown("There is no rectangle to undo.")
+        shown = self.newest()
+        if shown.version != self.draft.version:
+            raise NothingShown("The newest version isn't shown yet: try it again.")
+        return drawn[-1][0][:2], picture.image_before_last(shown.copy.bits, drawn)
 
     # ---- questions
 

@@ -99,6 +99,16 @@ def differing(before: "Cells", drawn: Iterable[Tuple[Sequence[int], bool]], afte
     return int((cells != after).sum())
 
 
+def image_before_last(bits: "Cells", drawn: Sequence[Tuple[Sequence[int], bool]]) -> bytes:
+    """A raw PBM image of the last rectangle's cells as the others before it leave them."""
+    cells = bits.copy()
+    for (x0, y0, x1, y1), paints in drawn[:-1]:
+        cells[y0:y1, x0:x1] = paints
+    x0, y0, x1, y1 = drawn[-1][0]
+    rows = numpy.packbits(cells[y0:y1, x0:x1], axis=1)
+    return b"P4\n%d %d\n" % (x1 - x0, y1 - y0) + rows.tobytes()
+
+
 def telling_cell(bits: "Cells") -> Optional[Tuple[int, int]]:
     """A cell on the border of a map all of whose neighbours are free: its nearest obstacle is one
     step away by `chess` exactly if the edge is a wall. None if there is no such cell; then no cell

@@ -55,6 +55,7 @@ class Site:
         site.router.add_get("/room", asking.room)
         site.router.add_post("/path", asking.path)
         site.router.add_post("/change", self.changing.change)
+        site.router.add_post("/forget", self.changing.forget)
         site.cleanup_ctx.append(self.watch)
         site.on_shutdown.append(self.end)
         site.on_response_prepare.append(self.headers)

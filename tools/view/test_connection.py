@@ -21,7 +21,7 @@ class Stays(unittest.TestCase):
     def test_how_long(self):
         """A question keeps the connection for seconds, a change for a minute; none shortens it."""
         now = 100.0
-        it = watched.Watched(1, lambda: None, clock=lambda: now)
+        it = watched.Watched(1, lambda _: None, clock=lambda: now)
         self.assertFalse(it.stays)
         it.stay(watched.AFTER_A_CHANGE)
         it.stay(watched.AFTER_A_QUESTION)

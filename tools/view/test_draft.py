@@ -50,6 +50,47 @@ class Places(unittest.TestCase):
             draft.drew("paint", (1, 1, 2, 2), 4)
             getattr(draft, name)(*words)
             self.assertNotIn("paint", [it["command"] for it in draft.state()["drawn"]], name)
+            self.assertEqual([it["rect"] for it in draft.state()["lost"]], [(1, 1, 2, 2)], name)
+
+    def test_what_is_known_of_the_lost(self):
+        """Whether a server still has what was drawn is told as far as it is known: it hasn't, once
+        nobody listens or another server is seen."""
+        unknown, gone = "whether the server still has 1 rectangle", "was lost with the server"
+        rows = (
+            ((("lost",),), unknown, False),
+            ((("lost", True),), gone, False),
+            ((("lost",), ("saw", 3)), unknown, False),  # a gateway that ended the connection
+            ((("lost",), ("passed", 5)), unknown, False),
+            ((("lost",), ("passed", 4)), gone, True),  # its places count again
+            ((("lost",), ("saw", 2)), gone, True),
+            ((("lost",), ("published", 3)), gone, True),
+            ((("lost", True), ("saw", 3)), gone, True),  # of the same version, and another
+            ((("lost", True), ("drew", "clear", (0, 0, 1, 1), 9), ("saw", 3)), gone, True),
+            ((("passed", 2),), gone, True),
+        )
+        for events, said, another in rows:
+            draft = Draft()
+            draft.saw(3)
+            draft.drew("paint", (1, 1, 2, 2), 4)
+            for name, *words in events:
+                getattr(draft, name)(*words)
+            state = draft.state()
+            self.assertIn(said, state["said"], events)
+            self.assertNotIn("Nothing changed", state["said"], events)
+            self.assertEqual(bool(state["another"]), another, events)
+            self.assertEqual(len(state["drawn"]), int(len(events) == 3), events)
+            draft.forget_lost()
+            self.assertEqual(draft.state()["lost"], [], events)
+
+    def test_a_command_without_a_reply(self):
+        """It isn't taken for lost, nor for accepted."""
+        draft = Draft()
+        draft.drew("paint", (1, 1, 2, 2), 1)
+        draft.unanswered("publish")
+        self.assertTrue(draft.asks)
+        state = draft.state()
+        self.assertIn("didn't answer the publish in time: whether it was accepted", state["said"])
+        self.assertEqual((len(state["drawn"]), state["lost"]), (1, []))
 
 
 class DraftRequests(Viewing):
@@ -94,7 +135,10 @@ class DraftRequests(Viewing):
         )  # each place was our own
         self.assertEqual(self.loaded(viewed)["drawn"], [])
         self.give(viewed, "paint", rect=[0, 0, 2, 1])
-        self.give(viewed, "revert")
+        asked = "Revert drops 1 rectangle from here, and what others changed in the draft. Revert?"
+        self.assertEqual(self.give(viewed, "revert"), {"asks": asked})
+        self.assertEqual(len(self.loaded(viewed)["drawn"]), 1)
+        self.give(viewed, "revert", sure=True)
         self.assertEqual(self.loaded(viewed)["drawn"], [])
 
     def test_a_publish_of_what_is_not_shown_is_asked_about(self):
@@ -114,17 +158,23 @@ class DraftRequests(Viewing):
             other.paint(0, 2, 1, 3)
             self.give(viewed, "collect")
             self.assertIn("asks", self.give(viewed, "publish"))
-            self.give(viewed, "revert")
+            self.give(viewed, "revert", sure=True)
             self.assertNotIn("asks", self.give(viewed, "publish"))
 
     def test_what_others_changed_at_last(self):
-        """What came after the last place of this page is found in the version."""
+        """That others came after the last place of this page is told before a publish; what they
+        changed is found in the version."""
         viewed, _ = self.view()
         self.give(viewed, "paint", rect=[0, 0, 2, 1])
         with clearmap.Client(self.served.port) as other:
             other.paint(1, 0, 3, 1)
             other.clear(2, 1, 3, 2)
-            self.give(viewed, "publish")
+            asked = self.give(viewed, "publish")["asks"]
+            self.assertIn(": 2 commands of others came meanwhile. Publish all of it?", asked)
+            self.assertIn("2 commands of others came meanwhile.", self.loaded(viewed)["said"])
+            with other.pin() as pinned:
+                self.assertEqual(pinned.version, 0)  # nothing was published
+            self.give(viewed, "publish", sure=True)
             state = next(it for it in viewed.events() if it.get("version") == 1)
             self.assertIn(
                 "Version 1 was published with 2 cells that others changed.", state["draft"]["said"]
@@ -150,12 +200,19 @@ class DraftRequests(Viewing):
     def test_the_draft_of_a_server_that_ended(self):
         viewed, _ = self.view()
         self.give(viewed, "paint", rect=[0, 0, 1, 1])
+        self.give(viewed, "publish")
+        self.give(viewed, "paint", rect=[0, 0, 1, 1])
         self.served.end()
-        self.assertEqual(next(it for it in viewed.events() if it["fault"])["draft"]["drawn"], [])
+        draft = next(it for it in viewed.events() if it["fault"])["draft"]
+        painted = {"command": "paint", "rect": [0, 0, 1, 1], "place": 4}
+        self.assertEqual((draft["drawn"], draft["lost"]), ([], [painted]))
         again = Served(POST, port=self.served.port)
         self.addCleanup(again.end)
         self.served.process.stdout = io.BytesIO()
-        next(it for it in viewed.events() if not it["fault"])
+        draft = next(it for it in viewed.events() if not it["fault"])["draft"]
+        self.assertEqual(draft["lost"], [painted])
+        self.assertTrue(draft["said"].startswith("1 rectangle from here was lost with the server."))
+        self.assertIn("versions count from 0 again", draft["another"])
         self.assertIn("asks", self.give(viewed, "publish"))
         self.give(viewed, "paint", rect=[0, 0, 1, 1])
         self.assertEqual(self.loaded(viewed)["drawn"][0]["place"], 1)

@@ -96,13 +96,16 @@ class Requests(Viewing):
         """What a robot's radius asks of a cell is what CLEAROF is asked."""
         viewed, _ = self.view()
         rows = (
-            ("euclid2", "0.5", {"needed": 4, "cells": 0.5}),
-            ("city", "0.5", {"needed": 3, "cells": 0.5}),
-            ("chess", "2", {"needed": 3, "cells": 2}),
-            ("chess", "", {"needed": None, "cells": None}),
+            ("euclid2", "0.5", {"needed": 4, "cells": 0.5}, "2.00 cells"),
+            ("euclid2", "1.5", {"needed": 9, "cells": 1.5}, "3.00 cells"),
+            ("euclid2", "0.9", {"needed": 6, "cells": 0.9}, "2.45 cells"),  # 2.449..: rounded up
+            ("city", "0.5", {"needed": 3, "cells": 0.5}, "3 steps"),
+            ("chess", "2", {"needed": 3, "cells": 2}, "3 steps"),
+            ("chess", "", {"needed": None, "cells": None}, ""),
         )
-        for metric, radius, wanted in rows:
+        for metric, radius, wanted, length in rows:
             status, said = viewed.ask("GET", f"/room?metric={metric}&radius={radius}")
+            wanted["said"] = length and f"{length} needed, middle to middle"
             self.assertEqual((status, json.loads(said)), (200, wanted))
 
     def test_faults(self):
@@ -178,6 +181,11 @@ class Requests(Viewing):
             for radius, clear in (("0.75", True), ("0.8", False)):  # (1.6 + sqrt 2)^2 is 9.1
                 told = self.path(viewed, "euclid2", [[5, 1]], radius)
                 self.assertEqual((told["clear"], told["distance"]), (clear, 9))
+            # the root of 10 half metres is 1.581.., rounded up
+            self.assertTrue(told["said"].endswith(": 1.582 m needed, middle to middle"))
+            self.assertEqual(told["long"], "1 point, 0.00 m long")
+            told = self.path(viewed, "city", [[0, 0], [3, 0], [3, 3], [0, 0]])
+            self.assertEqual(told["long"], "4 points, 5.12 m long")
             pathlib.Path(folder, "map.pgm").write_bytes(b"P5\n4 3\n255\n" + b"\xcd" * 12)
             viewed, state = self.view("--map", str(yaml), "--radius", "0.3")
             told = [state[name] for name in ("resolution", "origin", "radius")]

@@ -33,11 +33,11 @@ def in_words(refusal: clearmap.Refused) -> str:
 class Watched:
     """The connection and its pin. Whatever fails drops both, and the next call connects again.
 
-    `lost` is called if the server may have ended.
+    `lost` is called if the server may have ended, with whether nobody listens at its port.
     """
 
     def __init__(
-        self, port: int, lost: Callable[[], None], clock: Callable[[], float] = time.monotonic
+        self, port: int, lost: Callable[[bool], None], clock: Callable[[], float] = time.monotonic
     ) -> None:
         self._port, self._lost, self._clock = port, lost, clock
         self._lock, self._staying = threading.Lock(), threading.Lock()
@@ -57,7 +57,7 @@ class Watched:
             except (clearmap.ConnectionLost, clearmap.WrongAnswer) as fault:
                 self._client = self._pinned = None
                 if not isinstance(fault, clearmap.TimedOut):
-                    self._lost()
+                    self._lost(isinstance(fault.__cause__, ConnectionRefusedError))
                 raise
 
     # ---- how long the connection stays: these wait for no reply of the server
