@@ -6,6 +6,7 @@ import time
 import unittest
 
 from testing import OBSTACLE, POST, ActionChains, By, InBrowser, Select, webdriver
+from testing import alert_is_present
 
 import clearmap
 import numpy
@@ -156,7 +157,9 @@ class Page(InBrowser):
 
     def test_paint_and_publish(self):
         self.open(POST, "--versions", "2")
+        keeping = self.enterContext(clearmap.Client(self.served.port))
         with clearmap.Client(self.served.port) as other:
+            kept = keeping.pin()
             self.mode("paint")
             dragged = self.to(4, 2).click_and_hold()
             self.to(5, 3, dragged).release().perform()
@@ -177,12 +180,14 @@ class Page(InBrowser):
             self.until(lambda: self.button("publish").text == "Publish")
             self.press("publish")
             self.said("Refused: as many versions are kept as may be")
+            kept.unpin()
             self.press("collect")
             self.said("Collected: 1 is the least version that is kept")
             self.press("revert")
-            self.said("The draft is the newest version again, place 5 of the log.")
+            self.until(lambda: alert_is_present()(self.driver)).accept()
+            self.said("The draft is the newest version again, place 7 of the log.")
             self.press("checkpoint")
-            self.said("The log's entries are dropped, place 6.")
+            self.said("The log's entries are dropped, place 8.")
 
     def said(self, text):
         """Waits for news, which are seen without scrolling."""

@@ -28,6 +28,7 @@ export const askRoom = (metric, radius, unit) => answer(`room?${words({ metric, 
 export const askPath = (metric, cells, radius, unit) =>
   post("path", { metric, radius, unit, points: cells.map(({ x, y }) => [x, y]) });
 export const change = (command, rect, sure) => post("change", { command, rect, sure });
+export const forgetLost = () => post("forget", {});
 
 /** Follows the state that the page is told, while the page is seen; `lost` is called where nothing
  * can be told. A page that is hidden asks for nothing. */

@@ -16,11 +16,11 @@ export function told(distance, metric, resolution) {
 }
 
 /** What a robot's radius asks of the scale: `needed` is a cell's distance with room, as CLEAROF
- * takes it, and `radius` the robot's in cells. */
+ * takes it, `said` the same in words, and `radius` the robot's in cells. */
 export async function roomOf(metric, radius, unit) {
-  if (radius === "") return { needed: null, radius: null };
-  const { needed, cells } = await askRoom(metric, radius, unit);
-  return { needed, radius: cells };
+  if (radius === "") return { needed: null, radius: null, said: "" };
+  const { needed, cells, said } = await askRoom(metric, radius, unit);
+  return { needed, radius: cells, said };
 }
 
 /** The farthest distance of a picture in cells or steps. */
@@ -73,5 +73,6 @@ export function drawLegend(picture, room, scale, position, resolution) {
   by("farther").hidden = farthest(picture) < scale.end && picture.most !== null;
   by("hatched").hidden = !picture.hasUnknown;
   by("contour").hidden = !scale.contour;
+  by("marker").hidden = !room.said;
+  by("far-enough").textContent = by("needed").title = room.said;
 }
-

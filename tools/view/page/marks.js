@@ -4,10 +4,13 @@ import { BELOW, LEFT } from "./rulers.js";
 
 const DARK = "#12151c";
 const LIGHT = "#ffffff";
+const INK = "rgba(18, 21, 28, 0.9)"; // of labels
 const DRAWN = { paint: "#7b1fa2", clear: "#006a5f" };
+const DASHES = [7, 5];
 const FONT = "600 13px system-ui, sans-serif";
 const HIGH = 22; // pixels of a label
-const WITHIN = { left: LEFT + 6, top: 52, right: 6, below: BELOW + 6 }; // where labels stand
+const WITHIN = { left: LEFT + 6, top: 56, right: 6, below: BELOW + 6 }; // where labels stand
+const NARROW = { width: 700, below: BELOW + 54 }; // a window that has tools below, too
 
 function line(context, points, colour, width) {
   context.beginPath();
@@ -35,64 +38,80 @@ function dot(context, [x, y], radius, colour, edge) {
 /** Where a box of text stands next to a place: inside the window, and on none of its rulers. */
 export function boxAt([x, y], width, sight) {
   const within = (at, least, most) => Math.max(Math.min(at, most), least);
+  const below = sight.width < NARROW.width ? NARROW.below : WITHIN.below;
   return {
     x: within(x + 12, WITHIN.left, sight.width - width - WITHIN.right),
-    y: within(y - 30, WITHIN.top, sight.height - HIGH - WITHIN.below),
+    y: within(y - 30, WITHIN.top, sight.height - HIGH - below),
   };
 }
 
-function label(context, sight, place, text, colour = "rgba(18, 21, 28, 0.9)") {
-  if (!text || off(sight, place)) return;
+/** A box of this width, moved off one that stands already. */
+function besides(box, width, other) {
+  const apart = !other || box.x + width < other.x || other.x + other.width < box.x;
+  if (apart || Math.abs(box.y - other.y) > HIGH) return box;
+  return { x: box.x, y: other.y + (other.y > 2 * WITHIN.top ? -1 : 1) * (HIGH + 3) };
+}
+
+/** Writes a label next to a place, and off another one; its box is returned. */
+function label(context, sight, place, text, { colour = INK, other } = {}) {
+  if (!text || off(sight, place)) return null;
   context.font = FONT;
   const width = context.measureText(text).width + 14;
-  const box = boxAt(place, width, sight);
+  const box = besides(boxAt(place, width, sight), width, other);
   context.fillStyle = colour;
   context.beginPath();
   context.roundRect(box.x, box.y, width, HIGH, 4);
   context.fill();
   context.fillStyle = LIGHT;
   context.fillText(text, box.x + 7, box.y + 15.5);
+  return { ...box, width };
 }
 
 const off = (sight, [x, y]) => x < 0 || y < 0 || x > sight.width || y > sight.height;
 
-function rectangle(context, sight, { rect: [x0, y0, x1, y1], command }) {
+/** A rectangle that was drawn; a lost one is dashed, and nothing fills it. */
+function rectangle(context, sight, { rect: [x0, y0, x1, y1], command }, isLost = false) {
   const [x, y] = sight.pixel(x0, y0);
   const size = [(x1 - x0) * sight.scale, (y1 - y0) * sight.scale];
   context.fillStyle = `${DRAWN[command]}66`;
-  context.fillRect(x, y, ...size);
+  if (!isLost) context.fillRect(x, y, ...size);
   Object.assign(context, { strokeStyle: LIGHT, lineWidth: 4 });
   context.strokeRect(x, y, ...size);
   Object.assign(context, { strokeStyle: DRAWN[command], lineWidth: 2 });
+  if (isLost) context.setLineDash(DASHES);
   context.strokeRect(x, y, ...size);
+  context.setLineDash([]);
 }
 
-/** A path: red just where the robot has no room. */
-function drawPath(context, sight, middle, path) {
+/** A path: red just where the robot has no room. The box of its label is returned. */
+function drawPath(context, sight, middle, path, uncounted) {
   if (path.corners) edged(context, path.corners.map(middle), LIGHT, DARK, 2.5);
   const without = path.tight ?? (path.clear === false ? [path.corners] : []);
   for (const cells of without) edged(context, cells.map(middle), NO_ROOM, LIGHT, 5);
   for (const cell of path.points) dot(context, middle([cell.x, cell.y]), 4.5, LIGHT, DARK);
-  if (!path.tightest) return;
+  if (!path.tightest) return null;
   const [cell, obstacle] = [middle(path.tightest), middle(path.obstacle)];
   edged(context, [cell, obstacle], DARK, LIGHT, 2);
   const colour = path.clear === false ? NO_ROOM : DARK;
   dot(context, cell, 5.5, colour, LIGHT);
-  label(context, sight, cell, path.length, path.clear === false ? NO_ROOM : undefined);
+  const inRed = path.clear === false ? { colour: NO_ROOM } : {};
+  return label(context, sight, cell, path.length + uncounted, inRed);
 }
 
-function drawPointed(context, sight, middle, { cell, obstacle, length }) {
+function drawPointed(context, sight, middle, { cell, obstacle, length }, uncounted, other) {
   if (!obstacle) return;
   const ends = [middle([cell.x, cell.y]), middle(obstacle)];
   edged(context, ends, DARK, LIGHT, 2);
   dot(context, ends[1], 4.5, "#ffc233", DARK);
-  label(context, sight, ends[0], length);
+  label(context, sight, ends[0], length + uncounted, { other });
 }
 
-/** Draws what lies over the picture. */
-export function drawMarks(context, sight, { drafts, dragged, path, pointed }) {
+/** Draws what lies over the picture. Where there is a draft, labels say what they are of. */
+export function drawMarks(context, sight, { drafts, lost, dragged, path, pointed }) {
   const middle = ([x, y]) => sight.pixel(x + 0.5, y + 0.5);
+  const of = ({ version }) => (drafts.length ? ` in version ${version}` : "");
+  for (const drawn of lost) rectangle(context, sight, drawn, true);
   for (const drawn of dragged ? [...drafts, dragged] : drafts) rectangle(context, sight, drawn);
-  drawPath(context, sight, middle, path);
-  if (pointed) drawPointed(context, sight, middle, pointed);
+  const other = drawPath(context, sight, middle, path, of(path));
+  if (pointed) drawPointed(context, sight, middle, pointed, of(pointed), other);
 }

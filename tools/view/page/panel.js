@@ -1,5 +1,8 @@
 // The panel next to the map: what is known of the server and of the draft, and the toast.
+import { tellNew, tellNoView, tellOld } from "./strip.js";
+
 const by = (id) => document.getElementById(id);
+const NO_POINTS = "No points yet: press P, and click on the map.";
 const SHOWN_FOR = { news: 6000, refusal: 12000 }; // milliseconds
 
 let timer = 0;
@@ -19,11 +22,13 @@ export function wait(text) {
   by("busy").hidden = !text;
 }
 
-/** Tells that the page's own server is gone. */
-export function tellLost() {
+/** Tells that the page's own server is gone, while a picture is shown. */
+export function tellLost(picture) {
   by("server").textContent = "clearmap-view has ended, or can't be reached.";
   by("server").classList.add("lost");
-  enable(false, false);
+  tellNoView(picture?.version);
+  enable(Boolean(picture), false);
+  by("undo").disabled = by("forget-lost").disabled = true;
 }
 
 /** Which buttons do something: those of a picture, and those that change a server's map. */
@@ -33,12 +38,21 @@ function enable(hasPicture, hasServer) {
   for (const button of document.querySelectorAll("[data-command]")) button.disabled = !hasServer;
 }
 
-function tellDraft({ drawn, said }) {
+function tellDraft({ drawn, lost, undo, said }, hasServer) {
   const count = drawn.length;
   const publish = document.querySelector("[data-command=publish]");
   const changes = count === 1 ? "1 change" : `${count} changes`;
   publish.textContent = count ? `Publish ${changes}` : "Publish";
   by("draft").textContent = said;
+  by("undo").disabled = !undo || !hasServer;
+  by("forget-lost").hidden = by("forget-lost").disabled = lost.length === 0;
+  by("gone").hidden = lost.length === 0;
+}
+
+/** Words that may be none: then nothing is shown. */
+function put(id, text) {
+  by(id).textContent = text;
+  by(id).hidden = !text;
 }
 
 /** What a radius is in. */
@@ -52,22 +66,30 @@ export function tellState(state, picture) {
   const size = `${state.width} by ${state.height} cells`;
   by("server").textContent = state.fault || `Server at port ${state.port}, ${size}`;
   by("server").classList.toggle("lost", Boolean(state.fault));
-  by("notice").textContent = state.notice ?? "";
-  by("notice").hidden = !state.notice;
+  put("notice", state.notice ?? "");
+  put("another", state.draft.another);
   by("unit").textContent = unitOf(state);
-  tellDraft(state.draft);
-  enable(Boolean(picture), Boolean(picture) && !state.fault);
+  if (state.fault && picture) tellOld("Server lost", picture.version, state.age);
+  else tellNew();
+  const hasServer = Boolean(picture) && !state.fault;
+  tellDraft(state.draft, hasServer);
+  enable(Boolean(picture), hasServer);
 }
 
-/** Shows what is pointed at: words, and where they are of another version, which. */
+/** Shows what is pointed at: words, and where they are of another version, which. Without words
+ * those before are hidden, and keep their room: nothing moves when the pointer leaves the map. */
 export function tellPointed(text) {
-  by("point").textContent = text;
+  by("point").style.visibility = text ? "visible" : "hidden";
+  if (text) by("point").textContent = text;
 }
 
-/** Shows what is known of the path. */
-export function tellPath({ points, said, clear }) {
+/** Shows what is known of the path, and of which version that is; `uncounted` says that a draft
+ * may change it. */
+export function tellPath({ points, said, clear, long }, of, uncounted) {
   const shown = by("path");
-  shown.textContent = said ?? "No points yet: press P, and click on the map.";
-  shown.className = said === undefined || clear === undefined ? "" : clear ? "clear" : "near";
+  const known = said !== undefined && clear !== undefined;
+  shown.textContent = said === undefined ? NO_POINTS : said + of;
+  shown.className = !known || (clear && uncounted) ? "" : clear ? "clear" : "near";
+  by("long").textContent = long ?? "";
   by("forget").disabled = points.length === 0;
 }

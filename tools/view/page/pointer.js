@@ -1,5 +1,6 @@
 // The pointer and the keys: they move the map, add points, and draw rectangles.
 const STEP = 80; // pixels of an arrow
+const MIDDLE = 1; // the button; the left one is 0
 const STILL = 4; // pixels within which a press is a click
 const rectOf = (a, b) => [
   Math.min(a.x, b.x), Math.min(a.y, b.y), Math.max(a.x, b.x) + 1, Math.max(a.y, b.y) + 1,
@@ -22,14 +23,17 @@ export function choose(name) {
 export function followPointer(canvas, sight, tell) {
   let press = null;
   const cellAt = (event) => sight.cell(event.offsetX, event.offsetY);
-  const draws = () => mode() === "paint" || mode() === "clear";
+  const draws = () => press?.button !== MIDDLE && ["paint", "clear"].includes(mode());
   const drawn = (cell) => ({ command: mode(), rect: rectOf(press.cell, cell) });
 
+  /** The middle button moves the map, whatever the pointer does otherwise. */
   function pressed(event) {
-    if (!event.isPrimary || event.button !== 0) return;
+    if (!event.isPrimary || event.button > MIDDLE) return;
     canvas.setPointerCapture(event.pointerId);
     const cell = cellAt(event);
-    press = { x: event.offsetX, y: event.offsetY, cell, last: cell, moved: false };
+    const { offsetX: x, offsetY: y, button } = event;
+    press = { x, y, button, cell, last: cell, moved: false };
+    tell.pointed(cell);
   }
 
   function pans(event) {
@@ -51,8 +55,9 @@ export function followPointer(canvas, sight, tell) {
   }
 
   function released() {
+    const clicks = press?.button !== MIDDLE && mode() === "path" && !press?.moved;
     if (press?.cell && draws()) tell.drawn(drawn(press.last));
-    else if (press?.cell && mode() === "path" && !press.moved) tell.clicked(press.cell);
+    else if (press?.cell && clicks) tell.clicked(press.cell);
     ended();
   }
 
@@ -65,7 +70,12 @@ export function followPointer(canvas, sight, tell) {
   canvas.addEventListener("pointermove", moved);
   canvas.addEventListener("pointerup", released);
   canvas.addEventListener("pointercancel", ended);
-  canvas.addEventListener("pointerleave", () => tell.pointed(null));
+  canvas.addEventListener("mousedown", (event) => {
+    if (event.button === MIDDLE) event.preventDefault(); // no scrolling by itself
+  });
+  canvas.addEventListener("pointerleave", ({ pointerType }) => {
+    if (pointerType !== "touch") tell.pointed(null); // a finger leaves with each tap
+  });
   canvas.addEventListener("wheel", (event) => {
     event.preventDefault();
     sight.zoom(2 ** (-event.deltaY / 300), event.offsetX, event.offsetY);
@@ -74,9 +84,13 @@ export function followPointer(canvas, sight, tell) {
   return ended;
 }
 
-/** Whether a key belongs to the field that it was pressed in. */
-function isTyped({ key, target, ctrlKey, metaKey, altKey }) {
-  if (ctrlKey || metaKey || altKey) return true;
+/** What a key is called here. */
+const named = ({ key, ctrlKey, metaKey, shiftKey }) =>
+  (ctrlKey || metaKey) && !shiftKey && key === "z" ? "Undo" : key;
+
+/** Whether a key belongs to the field that it was pressed in, or to the browser. */
+function isTyped({ key, target, ctrlKey, metaKey, altKey }, name) {
+  if ((ctrlKey || metaKey || altKey) && name !== "Undo") return true;
   if (target.matches("select, input:not([type=range])")) return true;
   return target.matches("[type=range]") && key.startsWith("Arrow");
 }
@@ -96,9 +110,10 @@ export function followKeys(sight, moved, others) {
     others[key]?.();
   };
   document.addEventListener("keydown", (event) => {
-    if (isTyped(event) || !(keys[event.key] || others[event.key])) return;
+    const name = named(event);
+    if (isTyped(event, name) || !(keys[name] || others[name])) return;
     event.preventDefault();
-    press(event.key);
+    press(name);
   });
   for (const button of document.querySelectorAll("[data-key]"))
     button.addEventListener("click", () => press(button.dataset.key));

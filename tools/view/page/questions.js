@@ -13,6 +13,7 @@ export class Questions {
   async point() {
     this.again = this.pointing;
     const cell = this.page.pointed?.cell;
+    if (!cell) tellPointed("");
     if (this.pointing || !cell) return;
     this.pointing = true;
     await this.pointAt(cell);
@@ -22,20 +23,36 @@ export class Questions {
   }
 
   async pointAt(cell) {
-    const { page } = this;
-    try {
-      const told = await askAt(page.metric, cell);
-      if (this.again) return;
-      page.pointed = { cell, ...told };
-      tellPointed(told.said + this.another(told.version));
-    } catch (fault) {
-      tellPointed(fault.message);
-    }
+    const fault = ({ message }) => ({ said: message });
+    const told = await askAt(this.page.metric, cell).catch(fault);
+    if (this.again) return;
+    this.page.pointed = { cell, ...told };
+    this.tellPoint();
   }
 
-  /** Says of which version an answer is, where it isn't the one that is shown. */
-  another(version) {
-    return version === this.page.picture?.version ? "" : `, in version ${version}`;
+  /** Says of which version an answer is, where it isn't the one that is shown, and where there is a
+   * draft, whose obstacles no answer counts. */
+  of(version) {
+    const { drafts, picture } = this.page;
+    if (version === undefined) return "";
+    if (drafts.length) return `, in version ${version}; the draft isn't counted`;
+    return version === picture?.version ? "" : `, in version ${version}`;
+  }
+
+  tellPoint() {
+    const { pointed } = this.page;
+    if (pointed?.said) tellPointed(pointed.said + this.of(pointed.version));
+  }
+
+  tellWay() {
+    const { path, drafts } = this.page;
+    tellPath(path, this.of(path.version), drafts.length > 0);
+  }
+
+  /** Tells the answers again, where the draft has changed. */
+  tell() {
+    this.tellPoint();
+    if (this.page.path.said) this.tellWay();
   }
 
   /** Asks about the path, and forgets what was known of it. */
@@ -52,7 +69,7 @@ export class Questions {
       if (asked !== this.ways) return;
       page.path = { points, ...told };
     }
-    tellPath(page.path);
+    this.tellWay();
     this.redraw();
   }
 }

@@ -1,6 +1,7 @@
 // The page: it follows the versions of a server, and does what pointer, keys and buttons say.
-import { askPicture, change, follow } from "./ask.js";
+import { askPicture, follow } from "./ask.js";
 import { dark, fading, Scale } from "./colours.js";
+import { followButtons, give, undo } from "./commands.js";
 import { drawLegend, endOf, firstRadius, roomOf } from "./legend.js";
 import { read, written } from "./link.js";
 import { drawMarks } from "./marks.js";
@@ -17,7 +18,7 @@ const FINEST = 3; // pixels of a robot's radius at which the contour is drawn
 const sight = new Sight();
 const page = {
   state: {}, unit: "", picture: null, room: { needed: null, radius: null }, frame: null,
-  linked: false, pointed: null, path: { points: [] }, drafts: [], dragged: null,
+  linked: false, pointed: null, path: { points: [] }, drafts: [], lost: [], dragged: null,
   get metric() { return by("metric").value; },
   get radius() { return by("radius").value.trim(); },
   get position() { return Number(by("position").value); },
@@ -81,7 +82,7 @@ async function room() {
     return { of, ...(await roomOf(page.metric, page.radius, page.unit)) };
   } catch (fault) {
     say(fault.message, true);
-    return { of, needed: null, radius: null };
+    return { of, needed: null, radius: null, said: "" };
   }
 }
 
@@ -121,7 +122,7 @@ function put(picture, needed) {
   by("version").textContent = `version ${picture.version}`;
   tellState(page.state, picture);
   redraw();
-  questions.point();
+  if (page.pointed) questions.point();
   questions.way();
   if (needed.of !== asked()) fieldsChanged();
 }
@@ -151,7 +152,9 @@ function take(state) {
   if (state.serial !== undefined && page.unit !== unitOf(state)) fillFields(state);
   page.state = state;
   page.drafts = state.draft.drawn;
+  page.lost = state.draft.lost;
   tellState(state, page.picture);
+  questions.tell();
   if (state.fault && ["paint", "clear"].includes(mode())) choose("look");
   if (!state.fault) showNewest();
   redraw("marks");
@@ -165,17 +168,6 @@ function keep() {
 }
 
 // ---- what one does
-
-/** Gives a command. What the page's server asks before it does so, the page asks once. */
-async function give(command, rect) {
-  try {
-    let told = await change(command, rect);
-    if (told.asks && confirm(told.asks)) told = await change(command, rect, true);
-    say(told.said ?? "Nothing was published.");
-  } catch (fault) {
-    say(fault.message, true);
-  }
-}
 
 function walk(points) {
   page.path = { points };
@@ -219,15 +211,15 @@ const stop = followPointer(by("marks"), sight, {
   },
   drawn: ({ command, rect }) => give(command, rect),
 });
-followKeys(sight, seen, { Escape: stop, Backspace: () => walk(page.path.points.slice(0, -1)) });
+const shorter = () => walk(page.path.points.slice(0, -1));
+followKeys(sight, seen, { Escape: stop, Backspace: shorter, Undo: undo });
 by("metric").addEventListener("change", () => { showNewest(); keep(); });
 by("radius").addEventListener("change", fieldsChanged);
 by("position").addEventListener("input", seen);
 by("forget").addEventListener("click", () => walk([]));
 by("link").addEventListener("click", copyLink);
-for (const button of document.querySelectorAll("[data-command]"))
-  button.addEventListener("click", () => give(button.dataset.command));
+followButtons();
 dark.addEventListener("change", () => redraw());
 new ResizeObserver(resize).observe(by("marks"));
 window.clearmapView = { pixel: (x, y) => sight.pixel(x, y) }; // where a cell is, for tests
-follow(take, tellLost);
+follow(take, () => tellLost(page.picture));
