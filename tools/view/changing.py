@@ -109,9 +109,14 @@ class Changing:
             raise
 
     async def look(self) -> None:
-        """Takes a place of the log, which tells whether others gave commands since our last one. A
-        collect changes no map."""
-        await self.give("collect", commands(self.following.draft)["collect"])
+        """Takes a place of the log, which tells whether others gave commands since our last one,
+        and whether it is another server: that one gets no command that was meant for the one
+        before. A collect changes no map."""
+        draft = self.following.draft
+        known = draft.replaced
+        await self.give("collect", commands(draft)["collect"])
+        if draft.replaced != known:
+            raise BadRequest("Another server runs now: nothing else was done there.", 409)
 
     def question(self, name: str) -> str:
         """What the page asks before a command; an empty text if it does it at once."""

@@ -38,7 +38,7 @@ class Draft:
         self._lost: List[Drawn] = []
         self._is_gone, self._has_ended = False, False  # the server of `lost`; the last one
         self._before = 0  # the last place before the connection was lost
-        self._another = ""
+        self._another, self._replaced = "", 0
         self._forget()
 
     def _forget(self) -> None:
@@ -59,7 +59,7 @@ class Draft:
     def _replace(self) -> None:
         """It is another server."""
         self._lose(True)
-        self._before, self._version = 0, None
+        self._before, self._version, self._replaced = 0, None, self._replaced + 1
         since = time.strftime("%H:%M:%S")
         self._another = f"Another server since {since}: versions count from 0 again."
 
@@ -176,6 +176,12 @@ class Draft:
         """The newest version that was seen or published."""
         with self._lock:
             return self._version
+
+    @property
+    def replaced(self) -> int:
+        """How often another server was noticed."""
+        with self._lock:
+            return self._replaced
 
     @property
     def count(self) -> int:

@@ -1,96 +1,18 @@
 #!/usr/bin/env python3
-"""Tests of what clearmap-view knows and tells of the draft: by places alone, by requests, and on
-the page in headless Chromium. CLEARMAP names the built program."""
+"""Tests of what clearmap-view knows and tells of the draft: by requests, and on the page in headless
+Chromium. CLEARMAP names the built program."""
 import io
 import json
+import time
 import unittest
 
 from testing import POST, InBrowser, Served, Viewing, alert_is_present
 
 import clearmap
-from draft import Draft
+import site_of_map
 
 
 OTHERS = "Changes of others may be in the draft, which no request shows."
-
-
-class Places(unittest.TestCase):
-    def test_alone(self):
-        """Whether a publish asks, after events of a draft: each is a call and its arguments."""
-        drew = lambda place: ("drew", "paint", (0, 0, 1, 1), place)
-        rows = (
-            ((), True),  # somebody may have drawn before
-            ((drew(1),), False),
-            ((drew(2),), True),
-            ((drew(1), drew(2), ("passed", 3)), False),
-            ((drew(1), drew(3)), True),
-            ((drew(1), drew(3), ("reverted", 4)), False),
-            ((drew(7), ("published", 1)), False),
-            ((drew(7), ("published", 1), drew(9)), False),
-            ((drew(7), ("published", 1), drew(10)), True),
-            ((drew(7), ("published", 1), ("saw", 1)), False),
-            ((drew(7), ("published", 1), ("saw", 2)), True),
-            ((("published", 1), ("saw", 1), drew(3)), True),
-            ((("reverted", 5), ("saw", 4), ("saw", 3)), True),  # another server
-            ((("reverted", 5), drew(1)), False),  # another server, and nobody before
-            ((("reverted", 5), drew(2)), True),
-            ((("reverted", 5), ("lost",)), True),
-        )
-        for events, asks in rows:
-            draft = Draft()
-            for name, *words in events:
-                getattr(draft, name)(*words)
-            self.assertEqual(draft.asks, asks, events)
-
-    def test_another_server(self):
-        """Rectangles of an earlier server aren't told."""
-        for name, *words in (("drew", "clear", (0, 0, 1, 1), 1), ("saw", 2), ("lost",)):
-            draft = Draft()
-            draft.saw(3)
-            draft.drew("paint", (1, 1, 2, 2), 4)
-            getattr(draft, name)(*words)
-            self.assertNotIn("paint", [it["command"] for it in draft.state()["drawn"]], name)
-            self.assertEqual([it["rect"] for it in draft.state()["lost"]], [(1, 1, 2, 2)], name)
-
-    def test_what_is_known_of_the_lost(self):
-        """Whether a server still has what was drawn is told as far as it is known: it hasn't, once
-        nobody listens or another server is seen."""
-        unknown, gone = "whether the server still has 1 rectangle", "was lost with the server"
-        rows = (
-            ((("lost",),), unknown, False),
-            ((("lost", True),), gone, False),
-            ((("lost",), ("saw", 3)), unknown, False),  # a gateway that ended the connection
-            ((("lost",), ("passed", 5)), unknown, False),
-            ((("lost",), ("passed", 4)), gone, True),  # its places count again
-            ((("lost",), ("saw", 2)), gone, True),
-            ((("lost",), ("published", 3)), gone, True),
-            ((("lost", True), ("saw", 3)), gone, True),  # of the same version, and another
-            ((("lost", True), ("drew", "clear", (0, 0, 1, 1), 9), ("saw", 3)), gone, True),
-            ((("passed", 2),), gone, True),
-        )
-        for events, said, another in rows:
-            draft = Draft()
-            draft.saw(3)
-            draft.drew("paint", (1, 1, 2, 2), 4)
-            for name, *words in events:
-                getattr(draft, name)(*words)
-            state = draft.state()
-            self.assertIn(said, state["said"], events)
-            self.assertNotIn("Nothing changed", state["said"], events)
-            self.assertEqual(bool(state["another"]), another, events)
-            self.assertEqual(len(state["drawn"]), int(len(events) == 3), events)
-            draft.forget_lost()
-            self.assertEqual(draft.state()["lost"], [], events)
-
-    def test_a_command_without_a_reply(self):
-        """It isn't taken for lost, nor for accepted."""
-        draft = Draft()
-        draft.drew("paint", (1, 1, 2, 2), 1)
-        draft.unanswered("publish")
-        self.assertTrue(draft.asks)
-        state = draft.state()
-        self.assertIn("didn't answer the publish in time: whether it was accepted", state["said"])
-        self.assertEqual((len(state["drawn"]), state["lost"]), (1, []))
 
 
 class DraftRequests(Viewing):
@@ -217,6 +139,26 @@ class DraftRequests(Viewing):
         self.give(viewed, "paint", rect=[0, 0, 1, 1])
         self.assertEqual(self.loaded(viewed)["drawn"][0]["place"], 1)
         self.assertEqual(self.give(viewed, "publish"), {"said": "Published as version 1."})
+
+
+    def test_a_publish_that_was_meant_for_another_server(self):
+        """One that was wanted before another server was noticed isn't done there."""
+        viewed, _ = self.view()
+        self.states.close()
+        time.sleep(site_of_map.HEARTBEAT + 0.5)  # no page looks on any more
+        self.give(viewed, "paint", rect=[0, 0, 1, 1])
+        self.served.end()
+        self.served = Served(POST, port=self.served.port)
+        self.addCleanup(self.served.end)
+        publish = json.dumps({"command": "publish", "sure": True})
+        for status, text in (
+            (503, "the connection"),
+            (409, "Another server runs now: nothing else was done there."),
+            (200, "Published as version 1."),
+        ):
+            got, said = viewed.ask("POST", "/change", publish, X_Clearmap_Token=self.token)
+            self.assertEqual(got, status, said)
+            self.assertIn(text, said.decode())
 
 
 class DraftPage(InBrowser):
