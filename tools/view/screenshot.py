@@ -21,6 +21,7 @@ TOP = tests.HERE.parent.parent
 FOLDER = pathlib.Path(sys.argv[1]) if len(sys.argv) > 1 else TOP / "docs" / "images"
 HOUSE = TOP / "examples" / "house.yaml"
 COLOURS = 255  # of a file
+WINDOW = 1100, 860  # with the bars of the window
 WAY = ((40, 70), (122, 73), (126, 108), (188, 112), (199, 90), (200, 69), (222, 69), (228, 82))
 OUT = ((40, 70), (122, 73), (126, 108), (161, 122), (162, 140), (166, 188))
 SIDE = 4096
@@ -44,6 +45,7 @@ class Screenshots(tests.InBrowser):
 
     def setUp(self):
         FOLDER.mkdir(exist_ok=True)
+        self.driver.set_window_size(*WINDOW)
         self.scheme("light")
 
     def scheme(self, name):
@@ -105,7 +107,7 @@ class Screenshots(tests.InBrowser):
         dragged = self.to(192, 24).click_and_hold()
         self.to(203, 53, dragged).release().perform()
         self.until(lambda: self.button("publish").text == "Publish 2 changes")
-        panel = "document.querySelector('aside').scrollTo(0, 1000)"
+        panel = "document.getElementById('panel').scrollTo(0, 1000)"
         self.driver.execute_script(panel)
         self.save("draft")
 

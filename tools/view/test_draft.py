@@ -1,6 +1,6 @@
 #!/usr/bin/env python3
-"""Tests of what clearmap-view knows and tells of the draft: by requests, and on the page in headless
-Chromium. CLEARMAP names the built program."""
+"""Tests of what clearmap-view knows and tells of the draft: by requests, and on the page in
+headless Chromium. CLEARMAP names the built program."""
 import io
 import json
 import time

@@ -75,13 +75,13 @@ class Undo(Viewing):
     def test_another_server(self):
         """A rectangle of an earlier server isn't undone on the next one of the same port."""
         viewed, _ = self.view()
-        following = self.give(viewed, "paint", rect=[2, 1, 3, 2])
-        self.assertEqual(following[0], 200)
+        self.give(viewed, "paint", rect=[2, 1, 3, 2])
         self.served.end()
         self.served = type(self.served)(PAINTED, port=self.served.port)
         self.addCleanup(self.served.end)
         next(it for it in self.states if it["draft"]["lost"] and not it["fault"])
-        self.assertEqual(self.give(viewed, "undo", sure=True)[0], 503)
+        for _ in range(2):  # the first notices the other server, if no look has
+            self.assertIn(self.give(viewed, "undo", sure=True)[0], (409, 503))
         self.assertEqual(self.publish(), PAINTED)
 
 
@@ -176,9 +176,10 @@ class Narrow(InBrowser):
         self.mode("paint")
         self.to(5, 2).click().perform()
         self.until(lambda: self.text("said").startswith("1 cell of the draft painted"))
-        legend = self.boxes("#legend")[0]
+        scale, swatches = self.boxes("#legend, #swatches")
+        self.assertLessEqual(scale["bottom"], swatches["top"])
         for name in ("#point", "#path", "[data-command=publish]", "#draft"):
-            self.assertLessEqual(self.boxes(name)[0]["bottom"], legend["top"], name)
+            self.assertLessEqual(self.boxes(name)[0]["bottom"], scale["top"], name)
         for box in self.boxes("button, select"):
             self.assertGreaterEqual(min(box["width"], box["height"]), 44, box)
         [news], [panel], [area] = (self.boxes(it) for it in ("#said", "#panel", "#map"))

@@ -62,7 +62,7 @@ function spanOf(text) {
 
 /** Shows what the colours mean. */
 export function drawLegend(picture, room, scale, position, resolution) {
-  by("legend").hidden = false;
+  by("legend").hidden = by("swatches").hidden = false;
   drawScale(picture, scale);
   const parts = [0, 0.5, 1].map((part) => told(part * scale.end, picture.metric, resolution));
   by("ticks").replaceChildren(...parts.map(spanOf));
