@@ -17,7 +17,7 @@ from tables import TableError
 from watched import in_words
 
 PAGE = pathlib.Path(__file__).resolve().parent / "page"
-HEARTBEAT = 2.0  # seconds; a browser that went away is noticed by it
+HEARTBEAT = 2.0  # seconds; a browser that went away is noticed by it, and so is this by a browser
 TYPES = {".css": "text/css", ".js": "text/javascript"}
 METRIC = "{metric:euclid2|city|chess}"
 SAFE = {
@@ -147,7 +147,7 @@ class Site:
                 news = following.news.wait_for(lambda: told != following.turn)
                 await asyncio.wait_for(news, HEARTBEAT)
         except asyncio.TimeoutError:
-            await response.write(b":\n\n")
+            await response.write(b"event: beat\ndata:\n\n")
         return told
 
     # ---- pictures

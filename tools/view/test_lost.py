@@ -85,7 +85,18 @@ class Lost(InBrowser):
         self.until(lambda: int(self.text("strip").split()[-3]) >= first + 2)
         commands = self.driver.find_elements(By.CSS_SELECTOR, ".changes button")
         self.assertFalse(any(it.is_enabled() for it in commands))
-        self.driver.get_log("browser")  # that there is no answer is in it
+
+    def test_the_page_server_hangs(self):
+        """Then it sends no heartbeat, which is noticed, and so is that it goes on."""
+        self.open()
+        self.viewed.process.send_signal(signal.SIGSTOP)
+        self.addCleanup(self.viewed.process.send_signal, signal.SIGCONT)
+        start = time.monotonic()
+        self.until(lambda: self.text("strip").startswith("clearmap-view lost: version 0, last"))
+        told = int(self.text("strip").split()[-3])
+        self.assertGreaterEqual(told + 1, time.monotonic() - start)
+        self.viewed.process.send_signal(signal.SIGCONT)
+        self.until(lambda: not self.shown("strip"))
 
     def white(self, x, y):
         """How many pixels of the marks on a cell's left side are white, and how many dark."""

@@ -1,5 +1,6 @@
 // What the page asks of its own server, and the commands that it sends.
 const token = document.querySelector("meta[name=token]").content;
+const SILENCE = 7000; // milliseconds, in which some heartbeats come
 const NO_ANSWER = "clearmap-view answered something else.";
 
 /** The JSON that answers a request. A refusal or a fault is thrown with its sentence. */
@@ -31,21 +32,31 @@ export const change = (command, rect, sure) => post("change", { command, rect, s
 export const forgetLost = () => post("forget", {});
 
 /** Follows the state that the page is told, while the page is seen; `lost` is called where nothing
- * can be told. A page that is hidden asks for nothing. */
+ * can be told, with the seconds since anything was. A page that is hidden asks for nothing. */
 export function follow(take, lost) {
-  let events = null;
+  let [events, waiting, last] = [null, 0, 0];
+  const lose = () => lost((performance.now() - last) / 1000);
+  const hear = () => {
+    clearTimeout(waiting);
+    last = performance.now();
+    waiting = setTimeout(() => { lose(); start(); }, SILENCE);
+  };
   const open = () => {
     events = new EventSource("events");
-    events.onmessage = (event) => take(JSON.parse(event.data));
+    events.onmessage = (event) => { hear(); take(JSON.parse(event.data)); };
+    events.addEventListener("beat", hear);
     events.onerror = () => {
-      lost();
+      lose();
       if (events?.readyState === EventSource.CLOSED) setTimeout(start, 1000);
     };
   };
   const start = () => {
+    clearTimeout(waiting);
     events?.close();
     events = null;
-    if (!document.hidden) open();
+    if (document.hidden) return;
+    waiting = setTimeout(() => { lose(); start(); }, SILENCE);
+    open();
   };
   document.addEventListener("visibilitychange", start);
   start();

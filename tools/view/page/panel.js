@@ -22,11 +22,11 @@ export function wait(text) {
   by("busy").hidden = !text;
 }
 
-/** Tells that the page's own server is gone, while a picture is shown. */
-export function tellLost(picture) {
+/** Tells that the page's own server is gone, or has said nothing for some seconds. */
+export function tellLost(picture, seconds) {
   by("server").textContent = "clearmap-view has ended, or can't be reached.";
   by("server").classList.add("lost");
-  tellNoView(picture?.version);
+  tellNoView(picture?.version, seconds);
   enable(Boolean(picture), false);
   by("undo").disabled = by("forget-lost").disabled = true;
 }

@@ -39,9 +39,9 @@ export function tellNew() {
   by("version").classList.remove("old");
 }
 
-/** Tells that what tells of the server is lost too: if a version was the newest until now, its age
- * counts from here. */
-export function tellNoView(version) {
-  const age = lost ? lost.age + since(lost.at) : 0;
+/** Tells that what tells of the server is lost too: if a version was the newest until some seconds
+ * ago, its age counts from there. */
+export function tellNoView(version, seconds) {
+  const age = lost ? lost.age + since(lost.at) : seconds;
   if (version !== undefined) tellOld("clearmap-view lost", version, age);
 }

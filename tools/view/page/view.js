@@ -222,4 +222,4 @@ followButtons();
 dark.addEventListener("change", () => redraw());
 new ResizeObserver(resize).observe(by("marks"));
 window.clearmapView = { pixel: (x, y) => sight.pixel(x, y) }; // where a cell is, for tests
-follow(take, () => tellLost(page.picture));
+follow(take, (seconds) => tellLost(page.picture, seconds));
