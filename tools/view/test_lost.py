@@ -79,12 +79,15 @@ class Lost(InBrowser):
     def test_the_page_server_ends(self):
         """Then the age counts from what it told last, and no command can be given."""
         self.open()
+        self.mode("paint")
         self.viewed.end()
         self.until(lambda: self.text("strip").startswith("clearmap-view lost: version 0, last"))
         first = int(self.text("strip").split()[-3])
         self.until(lambda: int(self.text("strip").split()[-3]) >= first + 2)
         commands = self.driver.find_elements(By.CSS_SELECTOR, ".changes button")
         self.assertFalse(any(it.is_enabled() for it in commands))
+        chosen = self.driver.find_element(By.CSS_SELECTOR, "[data-mode][aria-pressed=true]")
+        self.assertEqual(chosen.get_attribute("data-mode"), "look")
 
     def test_the_page_server_hangs(self):
         """Then it sends no heartbeat, which is noticed, and so is that it goes on."""

@@ -166,12 +166,26 @@ class Narrow(InBrowser):
             or other["bottom"] <= one["top"]
         )
 
+    def resize(self, width):
+        """Makes the window of this width, until the test ends."""
+        metrics = {"width": width, "height": 800, "deviceScaleFactor": 1, "mobile": False}
+        self.driver.execute_cdp_cmd("Emulation.setDeviceMetricsOverride", metrics)
+        self.addCleanup(self.driver.execute_cdp_cmd, "Emulation.clearDeviceMetricsOverride", {})
+
+    def test_the_tools_over_the_map(self):
+        """None covers another one, in a window of any width."""
+        self.open()
+        for width in (360, 400, 699, 701, 899, 901, 1400):
+            self.resize(width)
+            area = self.boxes("#map")[0]
+            for box in self.boxes("#modes, #zoom"):
+                self.assertLessEqual(box["right"], area["right"], width)
+            self.assertTrue(self.apart(*self.boxes("#modes, #zoom")), width)
+
     def test_a_narrow_window(self):
         """Answers and Publish stand above the legend, a finger meets each button, and news cover
         nothing."""
-        metrics = {"width": 400, "height": 800, "deviceScaleFactor": 1, "mobile": False}
-        self.driver.execute_cdp_cmd("Emulation.setDeviceMetricsOverride", metrics)
-        self.addCleanup(self.driver.execute_cdp_cmd, "Emulation.clearDeviceMetricsOverride", {})
+        self.resize(400)
         self.open()
         self.mode("paint")
         self.to(5, 2).click().perform()

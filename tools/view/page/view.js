@@ -148,6 +148,16 @@ function fillFields({ radius, resolution, width, height }) {
   if (metrics.includes(found.metric)) by("metric").value = found.metric;
 }
 
+/** Leaves the modes that want a server. */
+function stopDrawing() {
+  if (["paint", "clear"].includes(mode())) choose("look");
+}
+
+function lose(seconds) {
+  tellLost(page.picture, seconds);
+  stopDrawing();
+}
+
 function take(state) {
   if (state.serial !== undefined && page.unit !== unitOf(state)) fillFields(state);
   page.state = state;
@@ -155,7 +165,7 @@ function take(state) {
   page.lost = state.draft.lost;
   tellState(state, page.picture);
   questions.tell();
-  if (state.fault && ["paint", "clear"].includes(mode())) choose("look");
+  if (state.fault) stopDrawing();
   if (!state.fault) showNewest();
   redraw("marks");
 }
@@ -222,4 +232,4 @@ followButtons();
 dark.addEventListener("change", () => redraw());
 new ResizeObserver(resize).observe(by("marks"));
 window.clearmapView = { pixel: (x, y) => sight.pixel(x, y) }; // where a cell is, for tests
-follow(take, (seconds) => tellLost(page.picture, seconds));
+follow(take, lose);
