@@ -158,6 +158,46 @@ check_ask() {
     ended; expect 'a server of six clients, to which two others sent nothing' "$status" 0 "$text" 'SERVED 6 3'
 }
 
+# What standard error says of a run whose standard output is this: one line with these words, or no
+# line if there are none.
+hint() { # hint WHAT STATUS OUTPUT WORDS WORD_OF_THE_RUN ..
+    what=$1 status=$2 answer=$3 words=$4
+    shift 4
+    text=$(timeout 20 "$program" "$@" 2> "$room/errors"); expect "$what" $? "$status" "$text" "$answer"
+    lines=$(wc -l < "$room/errors")
+    told=$(grep -c "^clearmap: .*$words" "$room/errors")
+    [ -n "$words" ] && wanted='1 of 1' || wanted='0 of 0'
+    expect "what standard error says of $what" 0 0 "$told of $lines" "$wanted"
+}
+
+# A person's mistake gets one more line, on standard error.
+check_hints() {
+    printf '\211PNG\r\n\032\n' > "$room/png"
+    printf 'P5\n1 1\n255\n\0' > "$room/pgm"
+    hint 'a PNG' 1 'ERR 15 BadImage BadMagic' 'clearmap-ros pbm' dist < "$room/png"
+    hint 'a PGM and a query' 1 'ERR 15 BadImage BadMagic' 'pgmtopbm' dist --query 'AT city 0 0' < "$room/pgm"
+    hint 'a PGM to serve' 1 'ERR 15 BadImage BadMagic' 'P1 or P4' serve --connections 1 < "$room/pgm"
+    hint 'a query without a metric' 1 'ERR 12 BadArguments' 'AT METRIC X Y' dist --query 'AT 1 1' < "$room/map"
+    hint 'a command that is no query' 1 'ERR 11 UnknownCommand' 'AT METRIC X Y' dist --query PIN < "$room/map"
+    hint 'a cell off the map' 1 'ERR 1 OutOfRange' '' dist --query 'AT city 3 0' < "$room/map"
+    hint 'an empty input' 1 'ERR 15 BadImage Truncated' '' dist < /dev/null
+    hint 'a good table' 0 "$(printf '0 1 4\n1 2 5')" '' dist < "$room/map"
+    serve --connections 1
+    hint 'a taken port' 1 'FAULT net' "can't listen on port $port" serve --connections 1 --port "$port" < "$room/map"
+    hint 'an answer' 0 BYE '' ask --port "$port" << 'LINES'
+QUIT
+LINES
+    ended; expect 'a server of one client' "$status" 0 "$text" 'SERVED 1 0'
+    hint 'a server that has ended' 1 'FAULT net' "no server answers on port $port" ask --port "$port" < /dev/null
+    if command -v script > /dev/null; then
+        { sleep 1; printf 'P1 1 1 1\n\004'; sleep 1; } | timeout 20 script -qec "'$program' dist" /dev/null > "$room/said"
+        told=$(grep -c 'waiting for a PBM image .*clearmap dist < map.pbm' "$room/said")
+        expect 'dist on a terminal' 0 0 "$told" 1
+    else
+        echo 'dist on a terminal left out: there is no script'
+    fi
+}
+
 # With no descriptor left nothing can be accepted: such a connection counts, and the server waits
 # before it tries again, twice as long each time, so that eight of twenty fit in two seconds. It has
 # four for itself.
@@ -203,6 +243,7 @@ check_steps
 check_words
 check_serve
 check_ask
+check_hints
 check_descriptors
 echo "tried $tried, wrong $wrong"
 [ "$wrong" = 0 ]

@@ -7,6 +7,7 @@ mod PuttingLemmas
 mod QuadLemmas
 mod RowLemmas
 mod CommandLines
+mod CutLines
 mod Gathering
 mod RefusalLines
 mod Hearing

@@ -1,6 +1,6 @@
 -- Requests that are read and sent.
 use Rattle.std.proofs.Common.{◌≡◌, ◌≢◌, ◌+◌, ◌<◌, ℕ, Bool, true, List, [], ◌∷◌, ◌++◌, Option}
-use Rattle.std.proofs.Common.{Result, Ok, Err, OnOk, inl, inr, refl, sym, ap, subst, codes, length}
+use Rattle.std.proofs.Common.{Result, Ok, Err, OnOk, inl, inr, refl, sym, ap, subst, length}
 use Rattle.std.proofs.Common.{◌∙◌, append_assoc}
 use Rattle.std.specs.Prelude.{◌⊎◌, bytes_eq}
 use Rattle.std.specs.List.{concat}
@@ -15,6 +15,7 @@ use Rattle.metric.proofs.Taking.{Takes-nothing, Takes-behind}
 use Rattle.engines.specs.ask.Asking.{IsCounted, IsRequest, IsUnended, counted_by}
 use Rattle.engines.specs.streams.Passing.{Asks, AsksAll, EndsByBye, EndsCut, Gathers, GathersAll}
 use Rattle.engines.specs.streams.Passing.{PassesOn, PutsCount, PutsFewer, PutsLine, PutsUnended}
+use Rattle.engines.specs.streams.Passing.{bye}
 use Rattle.engines.proofs.Gathering.{Gathers-both, Gathers-taken}
 
 -- where a part was gathered, and then all that was left, all was gathered
@@ -101,7 +102,7 @@ line_and_bytes before middle after line part empty first second =
     ∙ append_assoc line (10 ∷ []) part)
 
 -- the count of a line, taken from the line without its end, is the line's
-counts_so : (counts : List ℕ → ℕ) (before middle line stripped : List ℕ) (count : ℕ) → before ≡ []
+pub counts_so : (counts : List ℕ → ℕ) (before middle line stripped : List ℕ) (count : ℕ) → before ≡ []
     → middle ≡ before ++ (line ++ 10 ∷ [])
     → ((front : List ℕ) → middle ≡ front ++ 10 ∷ [] → stripped ≡ strip_carriage_return front)
     → count ≡ counts stripped → count ≡ counts (strip_carriage_return line)
@@ -210,13 +211,12 @@ AsksAll-ended unread left held before after cut =
 
 -- where a reply is BYE, requests were read and sent up to that reply
 pub AsksAll-bye : (unread left before after printed_before printed_after : Option (List ℕ))
-    (reply : List ℕ) (bye : Bool) → bye ≡ true → bye ≡ bytes_eq reply (codes "BYE" ++ 10 ∷ [])
+    (reply : List ℕ) (said : Bool) → said ≡ true → said ≡ bytes_eq reply bye
     → Asks unread left before after
     → Appends printed_before reply printed_after
     → AsksAll unread left before after printed_before printed_after
-AsksAll-bye unread left before after printed_before printed_after reply bye bade is asked printed =
-    let same : reply ≡ codes "BYE" ++ 10 ∷ [] =
-    (bytes_eq-Decides reply (codes "BYE" ++ 10 ∷ [])).0 (sym is ∙ bade) in
+AsksAll-bye unread left before after printed_before printed_after reply said so is asked printed =
+    let same : reply ≡ bye = (bytes_eq-Decides reply bye).0 (sym is ∙ so) in
     record {
       between = left;
       asked = asked;
@@ -245,13 +245,13 @@ AsksAll-both unread between left before middle after printed_before printed_midd
     over_both : ((left ≡ all.between) × EndsByBye printed_middle printed_after)
         ⊎ EndsCut all.between left → ((left ≡ all.between) × EndsByBye printed_before printed_after)
         ⊎ EndsCut all.between left
-    over_both (inl (same, bye)) = inl (
+    over_both (inl (same, last)) = inl (
       same,
       record {
-        front = printed ++ bye.front;
-        written = rw (append_assoc printed bye.front (codes "BYE" ++ 10 ∷ []))
-            (Appends-more printed_before printed_middle printed_after printed
-            (bye.front ++ (codes "BYE" ++ 10 ∷ [])) first bye.written);
+        front = printed ++ last.front;
+        written = rw (append_assoc printed last.front bye)
+            (Appends-more printed_before printed_middle printed_after printed (last.front ++ bye)
+            first last.written);
       },
     )
     over_both (inr cut) = inr cut

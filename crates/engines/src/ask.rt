@@ -1,11 +1,11 @@
 //! The command `ask`: sends lines to a server, and prints its replies.
 
 ghost use Rattle.std.specs.Prelude.{◌≡◌, ◌≢◌, ◌≤◌, ◌+◌, ◌++◌, ◌∷◌, [], IfOk, OnOk, OnErr, IfErr};
-ghost use Rattle.std.specs.Prelude.{Err, Ok, true, false, bytes_eq, codes};
+ghost use Rattle.std.specs.Prelude.{Err, Ok, true, false, bytes_eq};
 ghost use Rattle.metric.specs.Stream.{Appends, AppendsFront, CanFail, Counts};
-ghost use Rattle.engines.specs.ask.Talking.{Breaks, Converses, Exchanges, talk_at};
+ghost use Rattle.engines.specs.ask.Talking.{Breaks, Completes, Converses, Exchanges, talk_at};
 ghost use Rattle.engines.specs.streams.Passing.{Asks, AsksAll, BreaksOff, EndsEarly, PassesFront};
-ghost use Rattle.engines.specs.streams.Passing.{PassesOn, stop_text};
+ghost use Rattle.engines.specs.streams.Passing.{PassesOn, bye, stop_text};
 ghost use Rattle.engines.specs.declared.ask.Stop.TheVariants.{Net, Standard};
 
 mod exchange;
@@ -86,7 +86,14 @@ pub fn ask_run<S: Stream, R: Source, W: Sink>(
         × (S.failed_writes stream.new ≡ S.failed_writes stream.old))
         (S.rest stream.old) (S.rest stream.new) (W.held writer.old) (W.held writer.new)
         × (result ≡ 1) }
-    // Each request was sent after the reply to the one before it was received and printed.
+
+    // A run that succeeds consists of whole exchanges, up to a reply BYE or to the reader's end.
+    ensures whole { result ≡ 0 → Completes
+        (talk_at (R.rest reader.old) (S.held stream.old) (S.rest stream.old) (W.held writer.old))
+        (talk_at (R.rest reader.new) (S.held stream.new) (S.rest stream.new) (W.held writer.new)) }
+
+    // Each request was sent after the reply to the one before it was received and printed, and none
+    // after a reply BYE.
     ensures order { Converses
         (talk_at (R.rest reader.old) (S.held stream.old) (S.rest stream.old) (W.held writer.old))
         (talk_at (R.rest reader.new) (S.held stream.new) (S.rest stream.new) (W.held writer.new)) }
@@ -176,6 +183,9 @@ fn ask_lines<S: Stream, R: Source, W: Sink>(
     ensures asked { OnOk result
         (AsksAll (R.rest reader.old) (R.rest reader.new) (S.held stream.old) (S.held stream.new)
         (W.held writer.old) (W.held writer.new)) }
+    ensures whole { OnOk result (Completes
+        (talk_at (R.rest reader.old) (S.held stream.old) (S.rest stream.old) (W.held writer.old))
+        (talk_at (R.rest reader.new) (S.held stream.new) (S.rest stream.new) (W.held writer.new))) }
     ensures order { Breaks
         (talk_at (R.rest reader.old) (S.held stream.old) (S.rest stream.old) (W.held writer.old))
         (talk_at (R.rest reader.new) (S.held stream.new) (S.rest stream.new) (W.held writer.new)) }
@@ -222,6 +232,9 @@ fn ask_line<S: Stream, R: Source, W: Sink>(
         → W.failed_writes writer.new ≡ W.failed_writes writer.old }
     ensures failed { result ≡ Err Standard → R.failed_reads reader.new + W.failed_writes writer.new
         ≡ R.failed_reads reader.old + W.failed_writes writer.old + 1 }
+    ensures whole { result ≡ Ok false → Completes
+        (talk_at (R.rest reader.old) (S.held stream.old) (S.rest stream.old) (W.held writer.old))
+        (talk_at (R.rest reader.new) (S.held stream.new) (S.rest stream.new) (W.held writer.new)) }
     ensures exchanged { result ≡ Ok true → Exchanges
         (talk_at (R.rest reader.old) (S.held stream.old) (S.rest stream.old) (W.held writer.old))
         (talk_at (R.rest reader.new) (S.held stream.new) (S.rest stream.new) (W.held writer.new)) }
@@ -239,7 +252,7 @@ fn ask_line<S: Stream, R: Source, W: Sink>(
 
 /// Whether a reply ends the stream.
 fn is_bye(reply: &[u8]) -> bool
-    ensures { result ≡ bytes_eq reply.now (codes "BYE" ++ 10 ∷ []) }
+    ensures { result ≡ bytes_eq reply.now bye }
 {
     reply == b"BYE\n".as_slice()
 }

@@ -6,6 +6,7 @@ mod ask;
 mod command_line;
 mod dist;
 mod engine;
+mod hints;
 pub mod net;
 mod run;
 mod serve;

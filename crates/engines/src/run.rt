@@ -1,16 +1,20 @@
 //! Runs the process's words on its standard streams.
 
 ghost use Rattle.std.specs.Prelude.{◌≡◌};
+ghost use Rattle.metric.specs.Stream.{CanFail};
 
 use crate::REFUSED;
 use crate::command_line::arguments::{Fault, Options};
 use crate::command_line::options;
 use crate::command_line::refusing::tell;
 use crate::engine::run_said;
+use crate::hints::{Asked, Typed, tell_cure, tell_waiting};
 use crate::net::{ask, serve};
 use crate::streams::errors::ErrorSink;
+use crate::streams::noted::Noted;
 use crate::streams::standard::Held;
-use metric::{ReaderSource, Refusal, WriterSink};
+use metric::{ReaderSource, Refusal, Sink, Source, WriterSink};
+use std::alloc::Global;
 use std::fs::{File, Files};
 use std::net::{Net, TcpListener, TcpStream};
 use std::rt::Env;
@@ -36,6 +40,7 @@ where
         + Net<Listener = TcpListener, Stream = TcpStream>
         + Wait
         + Threads
+        + Typed
         + Sync,
 {
     let held = Held::open(rt);
@@ -64,6 +69,7 @@ where
         + Net<Listener = TcpListener, Stream = TcpStream>
         + Wait
         + Threads
+        + Typed
         + Sync,
 {
     let alloc = rt.alloc();
@@ -72,20 +78,38 @@ where
         .map(|word| word.as_str())
         .collect::<Vec<&str>>(alloc)?;
     let mut reader = ReaderSource::new(alloc, rt.reader())?;
-    let mut writer = WriterSink::new(alloc, io::writer(rt))?;
-    Ok(match options(alloc, texts.as_slice()) {
-        Ok(_) if held.lacks_input_or_output() => REFUSED,
-        Ok(Options::Serve(options)) => serve(rt, alloc, &options, &mut reader, &mut writer),
-        Ok(Options::Ask(options)) => ask(rt, alloc, &options, &mut reader, &mut writer),
-        said => run_said(
-            rt,
-            alloc,
-            said,
-            &mut reader,
-            &mut writer,
-            &mut ErrorSink::new(rt),
-        ),
-    })
+    let mut writer = Noted::new(WriterSink::new(alloc, io::writer(rt))?);
+    let said = options(alloc, texts.as_slice());
+    if held.lacks_input_or_output() && said.is_ok() {
+        return Ok(REFUSED);
+    }
+    let asked = Asked::by(&said);
+    tell_waiting(rt, asked);
+    let status = run_options(rt, alloc, said, &mut reader, &mut writer);
+    if status == REFUSED {
+        tell_cure(rt, asked, writer.start());
+    }
+    Ok(status)
+}
+
+/// Runs what words have said, or reports why they are refused. Returns the exit status.
+fn run_options<R, S: Source, W: Sink>(
+    rt: &R,
+    alloc: Global,
+    said: Result<Options<'_>, Fault<'_>>,
+    reader: &mut S,
+    writer: &mut W,
+) -> u8
+where
+    R: Eprint + Clock + Net<Listener = TcpListener, Stream = TcpStream> + Wait + Threads + Sync,
+    requires reader { CanFail (S.failed_reads reader.old) }
+    requires writer { CanFail (W.failed_writes writer.old) }
+{
+    match said {
+        Ok(Options::Serve(options)) => serve(rt, alloc, &options, reader, writer),
+        Ok(Options::Ask(options)) => ask(rt, alloc, &options, reader, writer),
+        said => run_said(rt, alloc, said, reader, writer, &mut ErrorSink::new(rt)),
+    }
 }
 
 /// Reports why the process's words can't be read.

@@ -3,6 +3,7 @@
 pub mod errors;
 pub mod gather;
 pub mod input;
+pub mod noted;
 pub mod output;
 pub mod socket;
 pub mod standard;

@@ -33,13 +33,21 @@ abbrev pub IsRequest : List ℕ → Type 0
 IsRequest = IsCounted counted_by
 
 -- these bytes are a line with its LF, and fewer bytes than it counts
-pub record LacksBytes (bytes : List ℕ) : Type 0 where
+pub record LacksBytes (counts : List ℕ → ℕ) (bytes : List ℕ) : Type 0 where
   pub line : List ℕ
   pub counted : List ℕ
   pub unended : IsUnended line
-  pub few : length counted < counted_by (strip_carriage_return line)
+  pub few : length counted < counts (strip_carriage_return line)
   pub bytes_are : bytes ≡ line ++ (10 ∷ counted)
+
+-- these bytes are less than a line with its LF and the bytes that it counts
+abbrev pub IsLessThanCounted : (List ℕ → ℕ) → List ℕ → Type 0
+IsLessThanCounted counts bytes = IsUnended bytes ⊎ LacksBytes counts bytes
+
+-- these bytes are a line with its LF and the bytes that it counts, or less
+abbrev pub IsAtMostCounted : (List ℕ → ℕ) → List ℕ → Type 0
+IsAtMostCounted counts bytes = IsCounted counts bytes ⊎ IsLessThanCounted counts bytes
 
 -- these bytes are less than a request
 abbrev pub IsLessThanRequest : List ℕ → Type 0
-IsLessThanRequest bytes = IsUnended bytes ⊎ LacksBytes bytes
+IsLessThanRequest = IsLessThanCounted counted_by

@@ -1,7 +1,7 @@
 -- A conversation of `ask`: each request is sent after the reply to the one before it was received
 -- and printed. This project's own rule.
-use Rattle.std.specs.Prelude.{◌≡◌, ℕ, ◌⊎◌, All, Bool, false, true, List, [], ◌∷◌, map, Option, Some}
-use Rattle.std.specs.Prelude.{bytes_eq, codes, unwrap_or, if◌then◌else◌}
+use Rattle.std.specs.Prelude.{◌≡◌, ◌≢◌, ℕ, ◌⊎◌, All, Bool, false, true, List, [], ◌∷◌, map, Option}
+use Rattle.std.specs.Prelude.{Some, bytes_eq, codes, unwrap_or, if◌then◌else◌}
 use Rattle.std.specs.List.{concat}
 use Rattle.metric.specs.Stream.{Appends, AppendsFront, Takes}
 use Rattle.proto.specs.Numbers.{numbers, only_number}
@@ -9,7 +9,8 @@ use Rattle.proto.specs.Said.{verb_in}
 use Rattle.proto.specs.Words.{words}
 use Rattle.proto.specs.declared.verb.Verb.{Verb}
 use Rattle.proto.specs.declared.verb.Verb.TheVariants as verbs
-use Rattle.engines.specs.ask.Asking.{IsCounted, IsRequest}
+use Rattle.engines.specs.ask.Asking.{IsAtMostCounted, IsCounted, IsRequest, counted_by}
+use Rattle.engines.specs.streams.Passing.{EndsCut, bye}
 use Rattle.engines.specs.streams.TextLines.{lines_of}
 use Rattle.engines.specs.words.Refusals.{memory_text, net_text}
 
@@ -34,9 +35,13 @@ abbrev pub bytes_promised : Bool → List ℕ → ℕ
 bytes_promised false line = 0
 bytes_promised true line = count_told (words line)
 
+-- how many bytes follow a line of the reply to a request
+abbrev pub counted_for : List ℕ → List ℕ → ℕ
+counted_for request = bytes_promised (asks_for_bytes (lines_of request))
+
 -- a whole reply to a request: a line with its LF, and the bytes that it counts if asked for bytes
 abbrev pub IsReplyTo : List ℕ → List ℕ → Type 0
-IsReplyTo request = IsCounted (bytes_promised (asks_for_bytes (lines_of request)))
+IsReplyTo request = IsCounted (counted_for request)
 
 -- a request and its reply
 pub record Exchange : Type 0 where
@@ -68,18 +73,21 @@ abbrev pub talk_at : Option (List ℕ) → Option (List ℕ) → Option (List �
 talk_at unread sent unheard printed =
     record { unread = unread; sent = sent; unheard = unheard; printed = printed }
 
--- requests were read and sent, and their replies received and printed, all of them whole
+-- requests were read and sent, and their replies received and printed, all of them whole; none of
+-- the replies ends the stream
 pub record Exchanges (before after : Talk) : Type 0 where
   pub exchanges : List Exchange
   pub are : All IsExchange exchanges
+  pub going : All (λ e. e.reply ≢ bye) exchanges
   pub read : Takes before.unread (requests_of exchanges) after.unread
   pub sent : Appends before.sent (requests_of exchanges) after.sent
   pub heard : Takes before.unheard (replies_of exchanges) after.unheard
   pub printed : Appends before.printed (replies_of exchanges) after.printed
 
--- at most a part of a request was read
+-- a request or less was read, and none was sent
 pub record IsCutReading (before after : Talk) : Type 0 where
   pub part : List ℕ
+  pub most : IsAtMostCounted counted_by part
   pub read : Takes before.unread part after.unread
   pub sent : after.sent ≡ before.sent
   pub heard : after.unheard ≡ before.unheard
@@ -94,10 +102,11 @@ pub record IsCutSending (before after : Talk) : Type 0 where
   pub heard : after.unheard ≡ before.unheard
   pub printed : after.printed ≡ before.printed
 
--- a request was read and sent, and then some bytes were received, but no whole reply
+-- a request was read and sent, and then a reply or less was received, but none was printed
 pub record IsCutHearing (before after : Talk) : Type 0 where
   pub request : List ℕ
   pub part : List ℕ
+  pub most : IsAtMostCounted (counted_for request) part
   pub request_is : IsRequest request
   pub read : Takes before.unread request after.unread
   pub sent : Appends before.sent request after.sent
@@ -119,7 +128,30 @@ IsCutOff before after =
     IsCutReading before after
     ⊎ (IsCutSending before after ⊎ (IsCutHearing before after ⊎ IsCutPrinting before after))
 
--- exchanges, and then one that was cut off
+-- one last exchange, whose reply ends the stream
+pub record SaysBye (before after : Talk) : Type 0 where
+  pub exchange : Exchange
+  pub whole : IsExchange exchange
+  pub reply_is : exchange.reply ≡ bye
+  pub read : Takes before.unread exchange.request after.unread
+  pub sent : Appends before.sent exchange.request after.sent
+  pub heard : Takes before.unheard exchange.reply after.unheard
+  pub printed : Appends before.printed exchange.reply after.printed
+
+-- the reader ends with less than a request, of which nothing was sent
+pub record RunsOut (before after : Talk) : Type 0 where
+  pub ended : EndsCut before.unread after.unread
+  pub sent : after.sent ≡ before.sent
+  pub heard : after.unheard ≡ before.unheard
+  pub printed : after.printed ≡ before.printed
+
+-- exchanges, up to one whose reply ends the stream or to the end of the reader
+pub record Completes (before after : Talk) : Type 0 where
+  pub between : Talk
+  pub exchanges : Exchanges before between
+  pub over : SaysBye between after ⊎ RunsOut between after
+
+-- exchanges, and then one that was cut off or whose reply ends the stream
 pub record Breaks (before after : Talk) : Type 0 where
   pub between : Talk
   pub exchanges : Exchanges before between

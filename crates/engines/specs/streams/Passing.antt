@@ -1,8 +1,8 @@
 -- Bytes read from one stream and written to another: this project's own rule.
-use Rattle.std.specs.Prelude.{◌≡◌, ◌<◌, ℕ, ◌⊎◌, All, List, [], ◌∷◌, ◌++◌, codes, length, Option}
+use Rattle.std.specs.Prelude.{◌≡◌, ◌≤◌, ◌<◌, ℕ, ◌⊎◌, All, List, [], ◌∷◌, ◌++◌, codes, length, Option}
 use Rattle.std.specs.List.{concat}
 use Rattle.metric.specs.Stream.{AreAll, Takes, Appends, AppendsFront}
-use Rattle.engines.specs.ask.Asking.{IsLessThanRequest, IsRequest, IsUnended}
+use Rattle.engines.specs.ask.Asking.{IsAtMostCounted, IsLessThanRequest, IsRequest, IsUnended}
 use Rattle.engines.specs.words.Refusals.{memory_text, net_text}
 use Rattle.engines.specs.declared.ask.Stop.{Stop}
 use Rattle.engines.specs.declared.ask.Stop.TheVariants as stops
@@ -43,6 +43,18 @@ pub record PutsFewer (count : ℕ) (before after : List ℕ) : Type 0 where
   pub part : List ℕ
   pub few : length part < count
   pub after_is : after ≡ before ++ part
+
+-- at most this many bytes were taken
+pub record TakesFew (count : ℕ) (unread left : Option (List ℕ)) : Type 0 where
+  pub bytes : List ℕ
+  pub few : length bytes ≤ count
+  pub taken : Takes unread bytes left
+
+-- at most a line with its LF and the bytes that it counts were taken
+pub record TakesAtMost (counts : List ℕ → ℕ) (unread left : Option (List ℕ)) : Type 0 where
+  pub bytes : List ℕ
+  pub most : IsAtMostCounted counts bytes
+  pub taken : Takes unread bytes left
 
 -- all that was read was written
 pub record PassesOn (unread left held_before held_after : Option (List ℕ)) : Type 0 where
@@ -97,10 +109,14 @@ pub record Asks (unread left held_before held_after : Option (List ℕ)) : Type 
   pub taken : Takes unread (concat requests) left
   pub sent : Appends held_before (concat requests) held_after
 
+-- the reply that ends a stream
+abbrev pub bye : List ℕ
+bye = codes "BYE" ++ 10 ∷ []
+
 -- what was written ends with the line that ends a stream
 pub record EndsByBye (held_before held_after : Option (List ℕ)) : Type 0 where
   pub front : List ℕ
-  pub written : Appends held_before (front ++ (codes "BYE" ++ 10 ∷ [])) held_after
+  pub written : Appends held_before (front ++ bye) held_after
 
 -- less than a request was read, and the reader has ended
 pub record EndsCut (unread left : Option (List ℕ)) : Type 0 where

@@ -4,7 +4,8 @@ ghost use Rattle.std.specs.Prelude.{◌≡◌, ◌≢◌, ◌⊎◌, ℕ, List, 
 ghost use Rattle.metric.specs.Stream.{Appends, AppendsFront, CanFail, Takes};
 ghost use Rattle.engines.specs.ask.Asking.{IsCounted};
 ghost use Rattle.engines.specs.ask.Talking.{IsReplyTo, asks_for_bytes, bytes_promised};
-ghost use Rattle.engines.specs.streams.Passing.{Gathers};
+ghost use Rattle.engines.specs.ask.Talking.{counted_for};
+ghost use Rattle.engines.specs.streams.Passing.{Gathers, TakesAtMost};
 ghost use Rattle.engines.specs.streams.TextLines.{lines_of};
 ghost use Rattle.engines.specs.declared.ask.Stop.TheVariants.{Net, Standard};
 ghost use Rattle.engines.specs.declared.streams.gather.PartStop.TheVariants.{Failed};
@@ -29,6 +30,8 @@ pub fn exchange<S: Stream>(stream: &mut S, request: &[u8], reply: &mut Vec<u8>) 
         × (S.failed_writes stream.new ≡ S.failed_writes stream.old) }
     ensures net { result ≢ Err Standard }
     ensures reply { OnOk result (IsReplyTo request.now reply.new.items) }
+    ensures part { OnErr result
+        (TakesAtMost (counted_for request.now) (S.rest stream.old) (S.rest stream.new)) }
     ensures cut { OnErr result ((S.rest stream.new ≡ S.rest stream.old)
         ⊎ Appends (S.held stream.old) request.now (S.held stream.new)) }
 {
@@ -73,6 +76,8 @@ fn read_reply<S: Stream>(stream: &mut S, dump: bool, reply: &mut Vec<u8>) -> Res
     ensures net { result ≢ Err Standard }
     ensures reply { reply.old.items ≡ []
         → OnOk result (IsCounted (bytes_promised dump) reply.new.items) }
+    ensures part { reply.old.items ≡ [] → OnErr result
+        (TakesAtMost (bytes_promised dump) (S.rest stream.old) (S.rest stream.new)) }
 {
     match read_whole(stream, dump, reply) {
         Ok(()) => Ok(()),
@@ -91,6 +96,8 @@ fn read_whole<S: Stream>(stream: &mut S, dump: bool, reply: &mut Vec<u8>) -> Res
     ensures reads { result ≢ Err Failed → S.failed_reads stream.new ≡ S.failed_reads stream.old }
     ensures reply { reply.old.items ≡ []
         → OnOk result (IsCounted (bytes_promised dump) reply.new.items) }
+    ensures part { reply.old.items ≡ [] → OnErr result
+        (TakesAtMost (bytes_promised dump) (S.rest stream.old) (S.rest stream.new)) }
 {
     read_line(stream, reply)?;
     let count = promised(without_end(reply.as_slice()), dump);

@@ -1,11 +1,11 @@
 //! A line of `ask`, with the bytes that it counts.
 
-ghost use Rattle.std.specs.Prelude.{◌≡◌, ◌≢◌, ◌++◌, ◌∷◌, [], ℕ, List, ◌+◌, OnOk, Ok, Err, true};
-ghost use Rattle.std.specs.Prelude.{false};
+ghost use Rattle.std.specs.Prelude.{◌≡◌, ◌≢◌, ◌++◌, ◌∷◌, [], ℕ, List, ◌+◌, OnOk, OnErr, Ok, Err};
+ghost use Rattle.std.specs.Prelude.{false, true};
 ghost use Rattle.std.specs.Str.Lines.{strip_carriage_return};
 ghost use Rattle.metric.specs.Stream.{CanFail, Takes};
 ghost use Rattle.engines.specs.ask.Asking.{IsRequest, counted_by};
-ghost use Rattle.engines.specs.streams.Passing.{EndsCut, Gathers};
+ghost use Rattle.engines.specs.streams.Passing.{EndsCut, Gathers, TakesAtMost};
 ghost use Rattle.engines.specs.declared.ask.Stop.TheVariants.{Standard};
 ghost use Rattle.engines.specs.declared.streams.gather.PartStop.TheVariants.{Ended, Failed};
 
@@ -26,6 +26,7 @@ pub fn read_request<R: Source>(reader: &mut R, request: &mut Vec<u8>) -> Result<
         → R.failed_reads reader.new ≡ R.failed_reads reader.old + 1 }
     ensures request { result ≡ Ok true → IsRequest request.new.items }
     ensures ended { result ≡ Ok false → EndsCut (R.rest reader.old) (R.rest reader.new) }
+    ensures part { OnErr result (TakesAtMost counted_by (R.rest reader.old) (R.rest reader.new)) }
 {
     request.clear();
     match read_whole(reader, request) {
@@ -48,6 +49,8 @@ fn read_whole<R: Source>(reader: &mut R, request: &mut Vec<u8>) -> Result<(), Pa
     ensures request { request.old.items ≡ [] → OnOk result (IsRequest request.new.items) }
     ensures ended { request.old.items ≡ [] → result ≡ Err Ended
         → EndsCut (R.rest reader.old) (R.rest reader.new) }
+    ensures part { request.old.items ≡ []
+        → OnErr result (TakesAtMost counted_by (R.rest reader.old) (R.rest reader.new)) }
 {
     read_line(reader, request)?;
     let count = counted(without_end(request.as_slice()));

@@ -4,7 +4,7 @@ ghost use Rattle.std.specs.Prelude.{◌≡◌, ◌≢◌, ◌+◌, ◌++◌, ◌
 ghost use Rattle.std.specs.Prelude.{OnErr, Err};
 ghost use Rattle.metric.specs.Stream.{CanFail, Takes};
 ghost use Rattle.engines.specs.streams.Passing.{Gathers, GathersAll, PutsCount, PutsFewer};
-ghost use Rattle.engines.specs.streams.Passing.{PutsLine, PutsUnended};
+ghost use Rattle.engines.specs.streams.Passing.{PutsLine, PutsUnended, TakesAtMost, TakesFew};
 ghost use Rattle.engines.specs.declared.streams.gather.PartStop.{PartStop};
 ghost use Rattle.engines.specs.declared.streams.gather.PartStop.TheVariants.{Ended, Failed};
 
@@ -44,6 +44,7 @@ pub fn read_line<R: Source>(reader: &mut R, bytes: &mut Vec<u8>) -> Result<(), P
         → R.failed_reads reader.new ≡ R.failed_reads reader.old + 1 }
     ensures written { R.written reader.new ≡ R.written reader.old }
     ensures line { OnOk result (PutsLine bytes.old.items bytes.new.items) }
+    ensures part { OnErr result (TakesAtMost (λ line. 0) (R.rest reader.old) (R.rest reader.new)) }
     ensures ended { result ≡ Err Ended → PutsUnended bytes.old.items bytes.new.items
         × GathersAll (R.rest reader.old) bytes.old.items bytes.new.items (R.rest reader.new) }
 {
@@ -70,6 +71,7 @@ pub fn read_count<R: Source>(
         → R.failed_reads reader.new ≡ R.failed_reads reader.old + 1 }
     ensures written { R.written reader.new ≡ R.written reader.old }
     ensures count { OnOk result (PutsCount count bytes.old.items bytes.new.items) }
+    ensures part { OnErr result (TakesFew count (R.rest reader.old) (R.rest reader.new)) }
     ensures ended { result ≡ Err Ended → PutsFewer count bytes.old.items bytes.new.items
         × GathersAll (R.rest reader.old) bytes.old.items bytes.new.items (R.rest reader.new) }
 {
@@ -91,6 +93,7 @@ fn read_byte<R: Source>(reader: &mut R, bytes: &mut Vec<u8>) -> Result<u8, PartS
     ensures written { R.written reader.new ≡ R.written reader.old }
     ensures byte { IfOk result (λ byte. bytes.new.items ≡ bytes.old.items ++ byte ∷ []) }
     ensures len { OnOk result (vec_len bytes.new ≡ vec_len bytes.old + 1) }
+    ensures part { OnErr result (TakesFew 1 (R.rest reader.old) (R.rest reader.new)) }
     ensures ended { result ≡ Err Ended → (bytes.new.items ≡ bytes.old.items)
         × GathersAll (R.rest reader.old) bytes.old.items bytes.new.items (R.rest reader.new) }
 {

@@ -1,11 +1,12 @@
 -- One request goes out and its reply is written; after `BYE`, or where no whole request is left,
 -- all have been asked.
-use Rattle.std.proofs.Common.{inl, refl, rules}
+use Rattle.std.proofs.Common.{refl, rules}
 use Rattle.std.proofs.lemmas.Result.{err_from_is_err_and}
 use Rattle.engines.proofs.Gathering.{PassesOn-nothing, PassesFront-read, PassesFront-whole}
 use Rattle.engines.proofs.Requests.{Asks-one, AsksAll-bye, AsksAll-ended}
-use Rattle.engines.proofs.Talks.{Exchanges-one, Breaks-first, Breaks-none, cut_off_printing}
-use Rattle.engines.proofs.Talks.{cut_off_wire}
+use Rattle.engines.proofs.Talks.{Exchanges-one, Breaks-complete, Breaks-first, Completes-bye}
+use Rattle.engines.proofs.Talks.{Completes-ended, cut_off_printing, cut_off_reading, cut_off_wire}
+use Rattle.engines.proofs.Talks.{no_bye}
 use Rattle.engines.proofs.ask.ask_line.Goals as goal
 
 pub returns-in_err-read_request-clause-cut : goal.returns-in_err-read_request-clause-cut
@@ -42,27 +43,34 @@ returns-clause-exchanged g c = λ more.
     Exchanges-one _ _ c.read_request.new.request.items c.exchange.new.reply.items
     (c.read_request.ensures.request (search rules))
     (rw (← c.as_slice.ensures.value) c.in_ok-exchange.ensures.reply)
+    (no_bye _ c.is_bye.result (search rules) (rw (← c.as_slice-3.ensures.value) c.is_bye.ensures))
     (c.read_request.ensures.all (search rules))
     (rw (← c.as_slice.ensures.value) c.in_ok-exchange.ensures.sent) c.in_ok-exchange.ensures.all
     (search rules)
 
 pub returns-in_err-read_request-clause-order : goal.returns-in_err-read_request-clause-order
 returns-in_err-read_request-clause-order g c = λ other.
-    let some = c.read_request.ensures.taken in
-    Breaks-first _ _
-    (inl record { part = some.0; read = some.1; sent = refl; heard = refl; printed = refl })
+    Breaks-first _ _ (cut_off_reading _ _ c.in_err-read_request.ensures.part refl refl refl)
+
+pub returns-then-not-branch-clause-whole : goal.returns-then-not-branch-clause-whole
+returns-then-not-branch-clause-whole g c = λ over.
+    Completes-ended _ _ record {
+      ended = c.read_request.ensures.ended (search rules);
+      sent = refl;
+      heard = refl;
+      printed = refl;
+    }
 
 pub returns-then-not-branch-clause-order : goal.returns-then-not-branch-clause-order
 returns-then-not-branch-clause-order g c = λ other.
-    let some = c.read_request.ensures.taken in
-    Breaks-first _ _
-    (inl record { part = some.0; read = some.1; sent = refl; heard = refl; printed = refl })
+    Breaks-complete _ _ (returns-then-not-branch-clause-whole g c refl)
 
 pub returns-in_err-exchange-clause-order : goal.returns-in_err-exchange-clause-order
 returns-in_err-exchange-clause-order g c = λ other.
     Breaks-first _ _ (cut_off_wire _ _ c.read_request.new.request.items
     (c.read_request.ensures.request (search rules)) (c.read_request.ensures.all (search rules))
-    (rw (← c.as_slice.ensures.value) c.exchange.ensures.front) c.exchange.ensures.taken
+    (rw (← c.as_slice.ensures.value) c.exchange.ensures.front)
+    (rw (← c.as_slice.ensures.value) c.in_err-exchange.ensures.part)
     (rw (← c.as_slice.ensures.value) c.in_err-exchange.ensures.cut) refl)
 
 pub returns-in_err-print-clause-order : goal.returns-in_err-print-clause-order
@@ -74,11 +82,19 @@ returns-in_err-print-clause-order g c = λ other.
     (rw (← c.as_slice.ensures.value) c.in_ok-exchange.ensures.sent) c.in_ok-exchange.ensures.all
     (rw (← c.as_slice-2.ensures.value) c.print.ensures.front))
 
-pub returns-clause-order : goal.returns-clause-order
-returns-clause-order g c = λ over.
-    Breaks-none _ _ (Exchanges-one _ _ c.read_request.new.request.items c.exchange.new.reply.items
+pub returns-clause-whole : goal.returns-clause-whole
+returns-clause-whole g c = λ over.
+    Completes-bye _ _ c.read_request.new.request.items c.exchange.new.reply.items c.is_bye.result
+    (search rules) (rw (← c.as_slice-3.ensures.value) c.is_bye.ensures)
     (c.read_request.ensures.request (search rules))
     (rw (← c.as_slice.ensures.value) c.in_ok-exchange.ensures.reply)
     (c.read_request.ensures.all (search rules))
     (rw (← c.as_slice.ensures.value) c.in_ok-exchange.ensures.sent) c.in_ok-exchange.ensures.all
-    (search rules))
+    (search rules)
+
+pub returns-clause-order : goal.returns-clause-order
+returns-clause-order g c = λ over.
+    Breaks-complete _ _ (returns-clause-whole g c (search rules))
+
+pub returns-in_err-read_request-clause-sent : goal.returns-in_err-read_request-clause-sent
+returns-in_err-read_request-clause-sent g c = PassesFront-read _ _ _ c.read_request.ensures.taken

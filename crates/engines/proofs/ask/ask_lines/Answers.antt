@@ -4,7 +4,7 @@ use Rattle.std.proofs.Common.{◌∙◌, rules}
 use Rattle.std.proofs.lemmas.Result.{err_from_is_err_and}
 use Rattle.engines.proofs.Gathering.{PassesOn-both, PassesFront-both}
 use Rattle.engines.proofs.Requests.{Asks-both, Asks-passes, AsksAll-both}
-use Rattle.engines.proofs.Talks.{Exchanges-both, Breaks-behind, Breaks-none}
+use Rattle.engines.proofs.Talks.{Exchanges-both, Breaks-behind, Breaks-none, Completes-behind}
 use Rattle.engines.proofs.ask.ask_lines.Goals as goal
 
 pub returns-in_err-ask_line-clause-sent : goal.returns-in_err-ask_line-clause-sent
@@ -46,6 +46,11 @@ returns-then-not-branch-clause-asked g c =
     AsksAll-both _ _ _ _ _ _ _ _ _ c.lines.invariant.printed.bytes c.lines.invariant.asked
     c.lines.invariant.printed.written (c.in_ok-ask_line.ensures.over (search rules))
 
+pub returns-then-not-branch-clause-whole : goal.returns-then-not-branch-clause-whole
+returns-then-not-branch-clause-whole g c =
+    Completes-behind _ _ _ c.lines.invariant.order
+    (c.in_ok-ask_line.ensures.whole (search rules))
+
 pub returns-in_err-ask_line-clause-order : goal.returns-in_err-ask_line-clause-order
 returns-in_err-ask_line-clause-order g c =
     Breaks-behind _ _ _ c.lines.invariant.order (c.in_err-ask_line.ensures.order (λ e. absurd cc))
@@ -56,3 +61,19 @@ returns-then-not-branch-clause-order g c =
 
 pub returns-clause-order : goal.returns-clause-order
 returns-clause-order g c = Breaks-none _ _ c.lines.invariant.order
+
+pub returns-in_err-ask_line-clause-stream_reads : goal.returns-in_err-ask_line-clause-stream_reads
+returns-in_err-ask_line-clause-stream_reads g c =
+    λ other. c.in_err-ask_line.ensures.stream_reads (search rules) ∙ c.lines.invariant.stream_reads
+
+pub returns-in_err-ask_line-clause-stream_writes : goal.returns-in_err-ask_line-clause-stream_writes
+returns-in_err-ask_line-clause-stream_writes g c =
+    λ other. c.in_err-ask_line.ensures.stream_writes (search rules) ∙ c.lines.invariant.stream_writes
+
+pub returns-in_err-ask_line-clause-reader : goal.returns-in_err-ask_line-clause-reader
+returns-in_err-ask_line-clause-reader g c =
+    λ other. c.in_err-ask_line.ensures.reader (search rules) ∙ c.lines.invariant.reader
+
+pub returns-in_err-ask_line-clause-writer : goal.returns-in_err-ask_line-clause-writer
+returns-in_err-ask_line-clause-writer g c =
+    λ other. c.in_err-ask_line.ensures.writer (search rules) ∙ c.lines.invariant.writer

@@ -1,7 +1,9 @@
 -- What is read is a line and the bytes that it counts, or less where the reader ends before.
 use Rattle.std.proofs.Common.{◌∙◌, rules}
+use Rattle.std.proofs.lemmas.Result.{err_from_is_err_and}
 use Rattle.engines.specs.ask.Asking.{counted_by}
 use Rattle.engines.proofs.Gathering.{taken_behind}
+use Rattle.engines.proofs.CutLines.{TakesAtMost-line, counted_cut}
 use Rattle.engines.proofs.Requests.{counted_read, cut_bytes, cut_line, gathered_both}
 use Rattle.engines.proofs.ask.request.read_whole.Goals as goal
 
@@ -31,3 +33,15 @@ returns-clause-ended g c = λ empty ended.
 pub returns-in_err-read_line-clause-ended : goal.returns-in_err-read_line-clause-ended
 returns-in_err-read_line-clause-ended g c =
     λ empty ended. cut_line _ _ _ _ empty (c.read_line.ensures.ended (search rules))
+
+pub returns-in_err-read_line-clause-part : goal.returns-in_err-read_line-clause-part
+returns-in_err-read_line-clause-part g c =
+    λ empty. let p = err_from_is_err_and c.from_residual.result c.from_residual.ensures.1 in
+    rw p.1 (TakesAtMost-line counted_by _ _ c.in_err-read_line.ensures.part)
+
+pub returns-clause-part : goal.returns-clause-part
+returns-clause-part g c = λ empty.
+    counted_cut counted_by _ _ _ _ _ c.without_end.result.now _ c.read_count.result empty
+    c.in_ok-read_line.ensures.line c.in_ok-read_line.ensures.all
+    (λ front is. c.without_end.ensures front (c.as_slice.ensures.value ∙ is))
+    c.counted-count.ensures c.read_count.ensures.part

@@ -2,6 +2,8 @@
 -- for, and at the reader's end fewer.
 use Rattle.std.proofs.Common.{◌≡◌, ◌∙◌, ℕ, arith, rules, subst}
 use Rattle.engines.specs.streams.Passing.{PutsCount}
+use Rattle.std.proofs.lemmas.Result.{err_from_is_err_and}
+use Rattle.engines.proofs.CutLines.{few_behind}
 use Rattle.engines.proofs.Gathering.{Gathers-both, taken_behind}
 use Rattle.engines.proofs.Requests.{PutsCount-more, ended_fewer}
 use Rattle.engines.proofs.streams.gather.read_count.Goals as goal
@@ -30,3 +32,9 @@ pub returns-in_err-read_byte-clause-ended : goal.returns-in_err-read_byte-clause
 returns-in_err-read_byte-clause-ended g c = λ ended.
     ended_fewer c.args.count c.bytes.counter _ _ _ _ _ _ c.bytes-test.true
     c.bytes.invariant.gathered c.bytes.invariant.count (c.read_byte.ensures.ended (search rules))
+
+pub returns-in_err-read_byte-clause-part : goal.returns-in_err-read_byte-clause-part
+returns-in_err-read_byte-clause-part g c =
+    let p = err_from_is_err_and c.from_residual.result c.from_residual.ensures.1 in
+    rw p.1 (few_behind c.bytes.counter c.args.count _ _ _ _ _ c.bytes-test.true
+    c.bytes.invariant.gathered c.bytes.invariant.count c.in_err-read_byte.ensures.part)

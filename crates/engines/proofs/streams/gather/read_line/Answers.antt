@@ -1,6 +1,8 @@
 -- Another byte joins what was gathered, and the line ends at the first LF; at the reader's end
 -- there was none.
 use Rattle.std.proofs.Common.{◌∙◌, arith, rules}
+use Rattle.std.proofs.lemmas.Result.{err_from_is_err_and}
+use Rattle.engines.proofs.CutLines.{line_behind}
 use Rattle.engines.proofs.Gathering.{Gathers-both, taken_behind}
 use Rattle.engines.proofs.Requests.{PutsLine-end, PutsUnended-more, ended_unended}
 use Rattle.engines.proofs.streams.gather.read_line.Goals as goal
@@ -36,3 +38,9 @@ pub returns-in_err-read_byte-clause-ended : goal.returns-in_err-read_byte-clause
 returns-in_err-read_byte-clause-ended g c = λ ended.
     ended_unended _ _ _ _ _ _ c.bytes.invariant.gathered c.bytes.invariant.unended
     (c.read_byte.ensures.ended (search rules))
+
+pub returns-in_err-read_byte-clause-part : goal.returns-in_err-read_byte-clause-part
+returns-in_err-read_byte-clause-part g c =
+    let p = err_from_is_err_and c.from_residual.result c.from_residual.ensures.1 in
+    rw p.1 (line_behind _ _ _ _ _ c.bytes.invariant.gathered c.bytes.invariant.unended
+    c.in_err-read_byte.ensures.part)
