@@ -27,9 +27,11 @@ try() { # try WHAT COMMAND ..: says how it ended, and what it wrote if it failed
 
 flags='-std=c11 -Wall -Wextra -Wshadow -Wconversion -Wpedantic -Werror -g -Iclients/c'
 cpp_flags='-std=c++17 -Wall -Wextra -Werror -g1 -pthread -Iclients/c -Iclients/cpp'
+needs='' # of the processor, as the library says it
+case $(gcc -dumpmachine) in x86_64*) needs=-Wl,-z,x86-64-v2 ;; esac
 gcc $flags -O2 -fPIC -c clients/c/weak_model.c -o "$scratch/model.o" &&
     gcc $flags -O2 -fPIC -c clients/c/weak_duties.c -o "$scratch/duties.o" &&
-    gcc -shared -Wl,-soname,libclearmap.so.1 -Wl,--version-script=clients/c/clearmap.map \
+    gcc -shared $needs -Wl,-soname,libclearmap.so.1 -Wl,--version-script=clients/c/clearmap.map \
         -Wl,-z,defs -o "$scratch/libclearmap.so.1" "$scratch/model.o" "$scratch/duties.o" || exit 1
 
 # In C. The test tries the heap of clearmap.c too, whose other calls are the model's.
