@@ -1,10 +1,10 @@
 #!/bin/sh
 # Builds libclearmap where it has to, and tries it from C and C++: the header against the source,
-# what the shared library shows, the callers over a weak model, the memory and the names of the
-# library, the tests (also under valgrind, the sanitizers and, for ARM, qemu), and the programs of
-# docs/use/LIBRARY.md. Skips, with a message, what isn't installed here. MAPS is
-# how many random maps. The C++ test asks servers of the built program too; CLEARMAP names another
-# one. Footprints are tried on cases that the model in Python has answered.
+# what the shared library shows, the memory and the names of the library, the tests (also under
+# valgrind, the sanitizers and, for ARM, qemu), and the programs of docs/use/LIBRARY.md. Skips, with
+# a message, what isn't installed here. MAPS is how many random maps. The C++ test asks servers of
+# the built program too; CLEARMAP names another one. Footprints are tried on cases that the model in
+# Python has answered.
 set -u
 cd "$(dirname "$0")/../.." || exit 1
 library=$PWD/crates/libclearmap/out
@@ -39,7 +39,6 @@ wants gcc 'the library' && wants make 'the library' || exit "$failed"
 timeout 1100 make -s lib > "$scratch/log" 2>&1 || { tail -n 30 "$scratch/log"; exit 1; }
 
 try 'uses' tools/gate/check_uses.sh
-tools/gate/check_weak_model.sh || failed=1
 tools/gate/check_library_promises.py || failed=1
 
 flags="-std=c11 -Wall -Wextra -Wshadow -Wconversion -Wpedantic -Werror -g -Iclients/c"
