@@ -29,25 +29,14 @@ chain-set : (bs : List Content) (f n k : ℕ) (c : Content) → NotIn k (chain b
     → chain (set bs k c) f n ≡ chain bs f n
 chain-set bs f zero k c gone = refl
 chain-set bs f (suc n) k c gone =
-    let same : next (set bs k c) f ≡ next bs f =
-    ap link_of (get_or-set_other bs k f c out (λ e. gone.0 (sym e))) in
-    ap (λ (g : ℕ). f ∷ chain (set bs k c) g n) same
-    ∙ ap (λ (xs : List ℕ). f ∷ xs) (chain-set bs (next bs f) n k c gone.1)
+    grind (arith, get_or-set_other, chain-set bs (next bs f) n k c gone.1)
 
 -- the blocks of a chain stay in, and none twice, where a block that isn't on it changes
 linked-set : (bs : List Content) (f n k : ℕ) (c : Content) → NotIn k (chain bs f n) → Linked bs f n
     → Linked (set bs k c) f n
 linked-set bs f zero k c gone l = l
 linked-set bs f (suc n) k c gone l =
-    let as_before : get_or (set bs k c) f out ≡ get_or bs f out =
-    get_or-set_other bs k f c out (λ e. gone.0 (sym e)) in
-    let same : next (set bs k c) f ≡ next bs f = ap link_of as_before in (
-      ap here as_before ∙ l.0,
-      subst (λ (g : ℕ). NotIn f (chain (set bs k c) g n)) (sym same)
-          (subst (NotIn f) (sym (chain-set bs (next bs f) n k c gone.1)) l.1),
-      subst (λ (g : ℕ). Linked (set bs k c) g n) (sym same)
-          (linked-set bs (next bs f) n k c gone.1 l.2),
-    )
+    grind (arith, get_or-set_other, chain-set, linked-set bs (next bs f) n k c gone.1 l.2)
 
 -- a block that is gone isn't on the chain
 out_not_in : (bs : List Content) (f n k : ℕ) → get_or bs k out ≡ out → Linked bs f n
@@ -123,10 +112,7 @@ module _ (bs : List Content) (f n : ℕ) (a : IsArena bs f n) where
     -- the chain after the front stays linked once the front is out
     take_linked : (m : ℕ) → m ≢ 0 → Linked bs f m → Linked (set bs f out) (get_or ws 0 0) (m - 1)
     take_linked zero s l = absurd (s refl)
-    take_linked (suc m) s l = let less : m ≡ suc m - 1 = omega arith in
-        subst (Linked (set bs f out) (get_or ws 0 0)) less
-        (subst (λ (c : Content). Linked (set bs f out) (link_of c) m) is
-        (linked-set bs (next bs f) m f out l.1 l.2))
+    take_linked (suc m) s l = grind (arith, linked-set)
 
     -- a front with words is in
     front_here : here (get_or bs f out) ≡ true
@@ -134,21 +120,13 @@ module _ (bs : List Content) (f n : ℕ) (a : IsArena bs f n) where
 
     -- an arena whose front goes out is an arena with one free block fewer
     pub take_whole : (bs' : List Content) → bs' ≡ set bs f out → IsArena bs' (get_or ws 0 0) (n - 1)
-    take_whole bs' e = subst (λ (cs : List Content). IsArena cs (get_or ws 0 0) (n - 1)) (sym e)
-        (record {
-          linked = take_linked n some a.linked;
-          counted = (let one = count-out bs f front_here in let was = a.counted in omega arith);
-          few = (let same = length-set bs f out in let few = a.few in omega arith);
-        })
+    take_whole bs' e = grind (arith, take_linked, count-out, front_here, length-set)
 
     -- a chain is its front and the chain that is left once the front is out
     take_chain : (m : ℕ) → m ≢ 0 → Linked bs f m
         → chain bs f m ≡ f ∷ chain (set bs f out) (get_or ws 0 0) (m - 1)
     take_chain zero s l = absurd (s refl)
-    take_chain (suc m) s l = let less : m ≡ suc m - 1 = omega arith in
-        ap (λ (xs : List ℕ). f ∷ xs) (sym (chain-set bs (next bs f) m f out l.1)
-        ∙ ap (λ (c : Content). chain (set bs f out) (link_of c) m) is
-        ∙ ap (chain (set bs f out) (get_or ws 0 0)) less)
+    take_chain (suc m) s l = grind (arith, chain-set)
 
     -- the free list is its front and the free list that is left once the front is out
     pub take_gives : (bs' : List Content) → bs' ≡ set bs f out
@@ -158,9 +136,7 @@ module _ (bs : List Content) (f n : ℕ) (a : IsArena bs f n) where
 
     -- the number of the block after the front fits in 32 bits
     pub take_fits : get_or ws 0 0 < 2 ^ 32
-    take_fits = let whole = take_whole (set bs f out) refl in
-        let small = front_small (set bs f out) (get_or ws 0 0) (n - 1) whole.few whole.linked in
-        omega arith
+    take_fits = grind (arith, take_whole, front_small)
 
   module _ (k : ℕ) (ws : List ℕ) (inside : k < length bs) (gone : get_or bs k out ≡ out)
       (links : get_or ws 0 0 ≡ f) where
@@ -179,18 +155,8 @@ module _ (bs : List Content) (f n : ℕ) (a : IsArena bs f n) where
     -- an arena into which a block comes as the front is an arena with one free block more
     pub give_whole : (bs' : List Content) (m : ℕ) → bs' ≡ set bs k (held ws) → m ≡ suc n
         → IsArena bs' k m
-    give_whole bs' m e e' = subst (λ (cs : List Content). IsArena cs k m) (sym e)
-        (subst (IsArena after k) (sym e') (record {
-          linked = (
-            ap here (get_or-set_same bs k (held ws) out inside),
-            subst (λ (g : ℕ). NotIn k (chain after g n)) (sym onward)
-                (subst (NotIn k) (sym (chain-set bs f n k (held ws) off)) off),
-            subst (λ (g : ℕ). Linked after g n) (sym onward)
-                (linked-set bs f n k (held ws) off a.linked),
-          );
-          counted = count-in bs k ws inside gone ∙ ap suc a.counted;
-          few = (let same = length-set bs k (held ws) in let few = a.few in omega arith);
-        }))
+    give_whole bs' m e e' =
+        grind (arith, get_or-set_same, onward, chain-set, off, linked-set, count-in, length-set)
 
     -- the free list is the block that has come in and the free list that was there before
     pub give_gives : (bs' : List Content) (m : ℕ) → bs' ≡ set bs k (held ws) → m ≡ suc n
@@ -204,8 +170,7 @@ either zero zero l = inl refl
 either zero (suc d) l = inr (omega arith)
 either (suc k) zero l = absurd (let no : suc k < 1 = l in omega arith)
 either (suc k) (suc d) l =
-    ⊎_elim (λ e. inl (ap suc e)) (λ lt. inr (let below : k < d = lt in omega arith))
-    (either k d (let up : suc k < suc (suc d) = l in omega arith))
+    grind (arith, either k d (let up : suc k < suc (suc d) = l in omega arith))
 
 module _ (bs : List Content) (done count : ℕ) (f : Filled bs done count)
     (under : done < count) where
@@ -252,10 +217,8 @@ count-all (held ws ∷ bs) all =
 -- where as many blocks are in as there are, each is
 pub all_in : (bs : List Content) → in_count bs ≡ length bs → All IsHeld bs
 all_in [] e k d l = absurd (not-suc-le-zero l)
-all_in (out ∷ bs) e k d l =
-    absurd (let few = count-few bs in let same : in_count bs ≡ suc (length bs) = e in omega arith)
-all_in (bare ∷ bs) e k d l =
-    absurd (let few = count-few bs in let same : in_count bs ≡ suc (length bs) = e in omega arith)
+all_in (out ∷ bs) e k d l = grind (arith, count-few)
+all_in (bare ∷ bs) e k d l = grind (arith, count-few)
 all_in (held ws ∷ bs) e zero d l = tt
 all_in (held ws ∷ bs) e (suc k) d l =
     all_in bs (let same : suc (in_count bs) ≡ suc (length bs) = e in omega arith) k d
@@ -270,14 +233,12 @@ module _ (bs : List Content) (count : ℕ) (f : Filled bs count count) (few : co
   -- where all blocks are filled, the chain from block k to the end is the numbers from k on
   whole_from : (n k : ℕ) → k + n ≡ count → chain bs k n ≡ range_with_len k n
   whole_from zero k e = refl
-  whole_from (suc n) k e = ap (λ (j : ℕ). k ∷ chain bs j n) (steps k (omega arith))
-      ∙ ap (λ (xs : List ℕ). k ∷ xs) (whole_from n (k + 1) (omega arith))
+  whole_from (suc n) k e = grind (arith, steps, whole_from n (k + 1) (omega arith))
 
   -- a number below k isn't one of the numbers from k on
   above_not_in : (j n k : ℕ) → j < k → NotIn j (range_with_len k n)
   above_not_in j zero k l = tt
-  above_not_in j (suc n) k l =
-      ((λ e. let no : j ≡ k = e in omega arith), above_not_in j n (k + 1) (omega arith))
+  above_not_in j (suc n) k l = grind (arith, above_not_in j n (k + 1) (omega arith))
 
   -- where all blocks are filled, the chain from block k to the end is linked
   whole_linked : (n k : ℕ) → k + n ≡ count → Linked bs k n
@@ -303,3 +264,6 @@ module _ (bs : List Content) (count : ℕ) (f : Filled bs count count) (few : co
         ∙ f.long;
     few = (let long = f.long in omega arith);
   }
+
+-- what the return of a block gives
+pub ruleset giving = (room_left, give_gives, get_or-set_same)

@@ -87,8 +87,7 @@ module _ {M : Type 1} {𝓤 : Ura M} (𝓛 : Logic 𝓤) (b : ℕ) where
   puts : (cs : List Content) (k : ℕ) (c : Content) (o : ℕ) → k < length cs
       → ⟦ block_at b (place 512 o k) c ⟧ ∗ ⟦ besides b o cs k ⟧ ⊢ ⟦ blocks_from b o (set cs k c) ⟧
   puts [] k c o l = absurd (not-suc-le-zero l)
-  puts (d ∷ cs) zero c o l = qed 𝓛 (‵ (block_at b o c) ∷ ‵ (blocks_from b (o + 512) cs) ∷ [])
-      ∵ done !
+  puts (d ∷ cs) zero c o l = grind arith
   puts (d ∷ cs) (suc k) c o l =
       qed 𝓛 (‵ (block_at b (place 512 (o + 512) k) c) ∷ ‵ (besides b o (d ∷ cs) (suc k)) ∷ [])
       ∵ move ! (1 ∷ []) $ fsplit ! $ move ! (2 ∷ 1 ∷ []) $

@@ -46,6 +46,7 @@ impl Arena {
     /// An arena of `count` blocks, at most 16,384, all of them free, in the order of their numbers.
     ///
     /// Fails only when out of memory.
+    #[tactic(auto, using(crate::proofs::Chains::one_filled))]
     pub fn new(alloc: Global, count: u32) -> Result<Arena, Refusal>
         requires { count ≤ 16384 }
         ensures count { IfOk result (λ a. a.home.count ≡ count) }
@@ -106,6 +107,7 @@ impl Arena {
 
     /// Makes the block the front of the free list. Requires that it came from this arena. It
     /// allocates no memory.
+    #[tactic(auto, using(crate::proofs::Chains::giving))]
     pub fn give(&mut self, tile: Tile)
         requires { tile.home ≡ self.old.home }
         ensures { (self.new.home ≡ self.old.home) × (self.new.free ≡ tile.number ∷ self.old.free) }

@@ -1,13 +1,11 @@
 -- Bitmaps as sets of cells: what crates above need, so that none of them sees the rows.
 use Rattle.std.proofs.Common.{◌≡◌, ◌≢◌, ℕ, ◌<◌, ◌≤◌, ◌==◌, ◌&&◌, if◌then◌else◌, Bool, true, false}
-use Rattle.std.proofs.Common.{List, [], map, get_or, length, ap, sym, ◌∙◌, arith}
+use Rattle.std.proofs.Common.{List, [], map, ap, sym, ◌∙◌, arith}
 use Rattle.std.specs.List.{range_with_len}
 use Rattle.std.proofs.lemmas.List.FromFn.{get_or-map-range_with_len, length-map-range_with_len}
 use Rattle.std.proofs.lemmas.List.FromFn.{fill_by_all}
 use Rattle.std.proofs.Math.ListN.{get_or-eq_default}
-use Rattle.std.proofs.lemmas.Bool.{cases_lt}
 use Rattle.std.proofs.lemmas.Bool.Decides.{nat_tests}
-use mathlib.Core.Logic.{inl, inr}
 use Rattle.bits.specs.Cells.{Cells, has, rows_where, cells_where, with_cell, IsSide, IsBitmap}
 use Rattle.bits.specs.Cells.{IsInside}
 
@@ -15,40 +13,21 @@ use Rattle.bits.specs.Cells.{IsInside}
 pub has-cells_where : (width height : ℕ) (test : ℕ → ℕ → Bool) (x y : ℕ) → x < width → y < height
     → has (cells_where width height test) x y ≡ test x y
 unfolding has rows_where
-has-cells_where width height test x y hx hy =
-    ap (λ (row : List Bool). get_or row x false)
-    (get_or-map-range_with_len (λ b. map (λ a. test a b) (range_with_len 0 width)) 0 height y y []
-    hy (omega arith))
-    ∙ get_or-map-range_with_len (λ a. test a y) 0 width x x false hx (omega arith)
+has-cells_where width height test x y hx hy = grind (arith, get_or-map-range_with_len, nat_tests)
 
 -- a bitmap of given cells has no obstacle below its last row
 pub has-cells_where_below : (width height : ℕ) (test : ℕ → ℕ → Bool) (x y : ℕ) → height ≤ y
     → has (cells_where width height test) x y ≡ false
 unfolding has rows_where
 has-cells_where_below width height test x y hy =
-    let row : ℕ → List Bool = λ b. map (λ a. test a b) (range_with_len 0 width) in
-    let few : length (map row (range_with_len 0 height)) ≤ y =
-    omega (arith, length-map-range_with_len row 0 height) in
-    ap (λ (r : List Bool). get_or r x false)
-    (get_or-eq_default (map row (range_with_len 0 height)) [] few)
-    ∙ (let none : length {A = Bool} [] ≤ x = omega arith in
-    get_or-eq_default {A = Bool} [] false none)
+    grind (arith, length-map-range_with_len, get_or-eq_default, nat_tests)
 
 -- no cell right of the last column is an obstacle
 pub has-cells_where_right : (width height : ℕ) (test : ℕ → ℕ → Bool) (x y : ℕ) → width ≤ x
     → has (cells_where width height test) x y ≡ false
 unfolding has rows_where
 has-cells_where_right width height test x y hx =
-    elim (cases_lt y height) [
-      | inl hy ↦
-          let few : length (map (λ a. test a y) (range_with_len 0 width)) ≤ x =
-          omega (arith, length-map-range_with_len (λ a. test a y) 0 width) in
-          ap (λ (row : List Bool). get_or row x false)
-          (get_or-map-range_with_len (λ b. map (λ a. test a b) (range_with_len 0 width)) 0 height y
-          y [] hy (omega arith))
-          ∙ get_or-eq_default (map (λ a. test a y) (range_with_len 0 width)) false few
-      | inr hy ↦ has-cells_where_below width height test x y hy
-    ]
+    grind (arith, length-map-range_with_len, get_or-map-range_with_len, get_or-eq_default)
 
 -- a choice by one cell gives the first value at that cell
 if_here : (x y : ℕ) (value other : Bool) → (if x == x && y == y then value else other) ≡ value
@@ -97,36 +76,19 @@ IsBitmap-cells_where width height test hw hh = record {
 -- a bitmap is what its own set of obstacles makes
 pub cells_where-has : (cells : Cells) → IsBitmap cells
     → cells ≡ cells_where cells.width cells.height (has cells)
-cells_where-has cells h =
-    let as_cells : List (List Bool)
-    → Cells = λ rows. record { width = cells.width; height = cells.height; rows = rows } in
-    ap as_cells h.whole
+cells_where-has cells h = grind (arith, nat_tests)
 
 -- an obstacle lies in its bitmap
 pub has-outside : (cells : Cells) → IsBitmap cells → (x y : ℕ) → has cells x y ≡ true
     → IsInside cells x y
 has-outside cells h x y is =
-    let at_whole = ap (λ (whole : Cells). has whole x y) (cells_where-has cells h) in
-    record {
-      column = elim (cases_lt x cells.width) [
-        | inl hx ↦ hx
-        | inr hx ↦ let no = has-cells_where_right cells.width cells.height
-            (has cells) x y hx in cc
-      ];
-      row = elim (cases_lt y cells.height) [
-        | inl hy ↦ hy
-        | inr hy ↦ let no = has-cells_where_below cells.width cells.height
-            (has cells) x y hy in cc
-      ];
-    }
+    grind (arith, cells_where-has, has-cells_where_right, has-cells_where_below)
 
 -- a bitmap with one cell written has the new value there, and the old one elsewhere
 has-with_cell : (cells : Cells) (x y : ℕ) (value : Bool) (a b : ℕ) → a < cells.width
     → b < cells.height
     → has (with_cell cells x y value) a b ≡ (if a == x && b == y then value else has cells a b)
-has-with_cell cells x y value a b ha hb =
-    has-cells_where cells.width cells.height
-    (λ c d. if c == x && d == y then value else has cells c d) a b ha hb
+has-with_cell cells x y value a b ha hb = grind (arith, has-cells_where, nat_tests)
 
 -- a bitmap with one cell written has the new value there
 pub has-with_cell_same : (cells : Cells) (x y : ℕ) (value : Bool) → x < cells.width
@@ -147,8 +109,4 @@ pub with_cell-same : (cells : Cells) → IsBitmap cells → (x y : ℕ) (value :
     → has cells x y ≡ value
     → with_cell cells x y value ≡ cells
 with_cell-same cells h x y value is =
-    cells_where-same cells.width cells.height
-    (λ a b. if a == x && b == y then value else has cells a b) (has cells)
-    (λ a b ha hb. if_same x y a b value (has cells a b)
-    (λ column row. ap (λ (k : ℕ). has cells k b) column ∙ (ap (has cells x) row ∙ is)))
-    ∙ sym (cells_where-has cells h)
+    grind (arith, cells_where-same, if_same, cells_where-has, nat_tests)

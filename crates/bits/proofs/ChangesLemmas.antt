@@ -76,42 +76,23 @@ differs-other false false apart = absurd (apart refl)
 -- nothing changes from a bitmap to itself
 pub changes-self : (cells : Cells) → changes cells cells ≡ 0
 unfolding changes
-changes-self cells =
-    sum_by-zero (λ y. changes_in_row cells cells y) 0 cells.height (λ y lo hi.
-    sum_by-zero (λ x. one (differs (has cells x y) (has cells x y))) 0 cells.width (λ x lo hi.
-    ap one (differs-self (has cells x y))))
+changes-self cells = grind (arith, sum_by-zero, differs-self)
 
 -- a sum of this many terms, each with a bound
 sum_by-le_range : (f : ℕ → ℕ) (most a n : ℕ) → ((j : ℕ) → f j ≤ most)
     → sum_by f (range_with_len a n) ≤ n * most
 sum_by-le_range f most a zero few = omega arith
 sum_by-le_range f most a (suc n) few =
-    omega (
-      arith,
-      sum_by-cons f a (range_with_len (a + 1) n),
-      few a,
-      sum_by-le_range f most (a + 1) n few,
-    )
+    grind (arith, sum_by-cons, sum_by-le_range f most (a + 1) n few)
 
 -- a row has at most as many changes as columns
 changes_in_row-le : (old now : Cells) (y : ℕ) → changes_in_row old now y ≤ old.width
-changes_in_row-le old now y =
-    omega (
-      arith,
-      count_by-le-length (λ x. differs (has old x y) (has now x y))
-          (range_with_len 0 old.width),
-      length-range_with_len 0 old.width,
-    )
+changes_in_row-le old now y = grind (arith, count_by-le-length, length-range_with_len)
 
 -- the number of changes is at most the number of cells
 pub changes-le : (old now : Cells) → changes old now ≤ old.height * old.width
 unfolding changes
-changes-le old now =
-    omega (
-      arith,
-      sum_by-le_range (changes_in_row old now) old.width 0 old.height
-          (λ y. changes_in_row-le old now y),
-    )
+changes-le old now = grind (arith, sum_by-le_range, changes_in_row-le)
 
 -- after one cell is written: the changes and what that cell counted before are the changes before
 -- and what it counts now
@@ -149,9 +130,4 @@ pub changes-with_cell_more : (old now : Cells) (x y : ℕ) (black : Bool) → no
     → has now x y ≡ has old x y → has now x y ≢ black
     → changes old (with_cell now x y black) ≡ changes old now + 1
 changes-with_cell_more old now x y black width_same height_same hx hy same other =
-    let parts = changes-with_cell old now x y black width_same height_same hx hy in
-    let none : one (differs (has old x y) (has now x y)) ≡ 0 =
-    ap (λ (b : Bool). one (differs (has old x y) b)) same ∙ ap one (differs-self (has old x y)) in
-    let some : one (differs (has old x y) black) ≡ 1 =
-    ap one (differs-other (has old x y) black (λ e. other (same ∙ e))) in
-    omega (arith, parts, none, some)
+    grind (arith, changes-with_cell, differs-self, differs-other)

@@ -62,32 +62,10 @@ row_more : (x0 y0 x1 y x a b : ℕ) (value other : Bool) → y0 ≤ y → x ≡ 
 row_more x0 y0 x1 y x a b value other hy end = grind (arith, nat_tests)
 
 -- after the last row a cell is filled exactly where the rectangle has it
-all_filled : (x0 y0 x1 y1 y a b : ℕ) (value other : Bool) → y ≡ y1
-    → (if is_filled x0 y0 x1 y x0 a b then value else other)
+all_filled : (x0 y0 x1 y1 y x a b : ℕ) (value other : Bool) → y ≡ y1 → x ≡ x0
+    → (if is_filled x0 y0 x1 y x a b then value else other)
     ≡ (if is_within x0 y0 x1 y1 a b then value else other)
-all_filled x0 y0 x1 y1 y a b value other end = grind (arith, nat_tests)
-
--- the old bitmap is the one where nothing is filled yet
-filled-none : (old : Cells) → IsBitmap old → (x0 y0 x1 : ℕ) (value : ℕ → ℕ → Bool)
-    → old ≡ filled old x0 y0 x1 y0 x0 value
-filled-none old bitmap x0 y0 x1 value =
-    cells_where-has old bitmap
-    ∙ cells_where-same old.width old.height (has old) (filled_cell old x0 y0 x1 y0 x0 value)
-    (λ a b ha hb. sym (none_filled x0 y0 x1 a b (value a b) (has old a b)))
-
--- with the next cell written, one more cell is filled
-with_cell-filled : (old : Cells) (x0 y0 x1 y x : ℕ) (value : ℕ → ℕ → Bool) → x0 ≤ x
-    → with_cell (filled old x0 y0 x1 y x value) x y (value x y)
-    ≡ filled old x0 y0 x1 y (x + 1) value
-with_cell-filled old x0 y0 x1 y x value hx =
-    cells_where-same old.width old.height
-    (λ a b. if a == x && b == y then value x y else has (filled old x0 y0 x1 y x value) a b)
-    (filled_cell old x0 y0 x1 y (x + 1) value)
-    (λ a b ha hb.
-    ap (λ (other : Bool). if a == x && b == y then value x y else other)
-    (has-cells_where old.width old.height (filled_cell old x0 y0 x1 y x value) a b ha hb)
-    ∙ one_more x0 y0 x1 y x a b (value x y) (value a b) (has old a b) hx
-    (λ column row. ap (λ (c : ℕ). value c y) (sym column) ∙ ap (value a) (sym row)))
+all_filled x0 y0 x1 y1 y x a b value other end begin = grind (arith, nat_tests)
 
 -- how far the filling of a rectangle has come, and what it has counted
 pub record IsFilling (old now : Cells) (x0 y0 x1 y x : ℕ) (value : ℕ → ℕ → Bool) (changed : ℕ) :
@@ -105,105 +83,89 @@ filling_none old bitmap x0 y0 x1 value = record {
   bitmap = bitmap;
   width_same = refl;
   height_same = refl;
-  is = filled-none old bitmap x0 y0 x1 value;
+  is = cells_where-has old bitmap
+      ∙ cells_where-same old.width old.height (has old) (filled_cell old x0 y0 x1 y0 x0 value)
+      (λ a b ha hb. sym (none_filled x0 y0 x1 a b (value a b) (has old a b)));
   count = sym (changes-self old);
 }
 
--- what is being filled is a bitmap
-pub filling_bitmap : (old now : Cells) (x0 y0 x1 y x : ℕ) (value : ℕ → ℕ → Bool) (changed : ℕ)
-    → IsFilling old now x0 y0 x1 y x value changed → IsBitmap now
-filling_bitmap old now x0 y0 x1 y x value changed so_far =
-    subst IsBitmap (sym so_far.is)
-    (IsBitmap-cells_where old.width old.height (filled_cell old x0 y0 x1 y x value)
-    so_far.bitmap.width_is so_far.bitmap.height_is)
+module _ (old now : Cells) (x0 y0 x1 y x : ℕ) (value : ℕ → ℕ → Bool) (changed : ℕ)
+    (so_far : IsFilling old now x0 y0 x1 y x value changed) where
+  -- what is being filled is a bitmap
+  pub filling_bitmap : IsBitmap now
+  filling_bitmap =
+      subst IsBitmap (sym so_far.is)
+      (IsBitmap-cells_where old.width old.height (filled_cell old x0 y0 x1 y x value)
+      so_far.bitmap.width_is so_far.bitmap.height_is)
 
--- the next cell has the value already
-pub filling_kept : (old now : Cells) (x0 y0 x1 y x : ℕ) (value : ℕ → ℕ → Bool) (changed : ℕ)
-    → IsFilling old now x0 y0 x1 y x value changed → x0 ≤ x → has now x y ≡ value x y
-    → IsFilling old now x0 y0 x1 y (x + 1) value changed
-filling_kept old now x0 y0 x1 y x value changed so_far hx same =
-    let bitmap = filling_bitmap old now x0 y0 x1 y x value changed so_far in
-    record {
-      bitmap = so_far.bitmap;
-      width_same = so_far.width_same;
-      height_same = so_far.height_same;
-      is = sym (with_cell-same now bitmap x y (value x y) same)
-          ∙ (ap (λ (cells : Cells). with_cell cells x y (value x y)) so_far.is
-          ∙ with_cell-filled old x0 y0 x1 y x value hx);
-      count = so_far.count;
-    }
+  -- with the next cell written, one more cell is filled
+  written : (new : Cells) (black : Bool) → x0 ≤ x → black ≡ value x y
+      → new ≡ with_cell now x y black → new ≡ filled old x0 y0 x1 y (x + 1) value
+  written new black hx read is =
+      is
+      ∙ (ap (λ (cells : Cells). with_cell cells x y black) so_far.is
+      ∙ cells_where-same old.width old.height _ (filled_cell old x0 y0 x1 y (x + 1) value)
+      (λ a b ha hb.
+      ap (λ (other : Bool). if a == x && b == y then black else other)
+      (has-cells_where old.width old.height (filled_cell old x0 y0 x1 y x value) a b ha hb)
+      ∙ one_more x0 y0 x1 y x a b black (value a b) (has old a b) hx
+      (λ column row. read ∙ (λ i. value (sym column i) (sym row i)))))
 
--- the next cell is written
-pub filling_set : (old now : Cells) (x0 y0 x1 y x : ℕ) (value : ℕ → ℕ → Bool) (changed : ℕ)
-    (new : Cells)
-    → IsFilling old now x0 y0 x1 y x value changed → x0 ≤ x → x < old.width → y < old.height
-    → has now x y ≢ value x y
-    → new ≡ with_cell now x y (value x y)
-    → IsFilling old new x0 y0 x1 y (x + 1) value (changed + 1)
-filling_set old now x0 y0 x1 y x value changed new so_far hx width height other written =
-    let as_old : has now x y ≡ has old x y =
-    ap (λ (cells : Cells). has cells x y) so_far.is
-    ∙ (has-cells_where old.width old.height (filled_cell old x0 y0 x1 y x value) x y width height
-    ∙ not_yet x0 y0 x1 y x (value x y) (has old x y)) in
-    let more = changes-with_cell_more old now x y
-    (value x y) so_far.width_same so_far.height_same width height as_old other in
-    record {
-      bitmap = so_far.bitmap;
-      width_same = ap (λ (cells : Cells). cells.width) written ∙ so_far.width_same;
-      height_same = ap (λ (cells : Cells). cells.height) written ∙ so_far.height_same;
-      is = written
-          ∙ (ap (λ (cells : Cells). with_cell cells x y (value x y)) so_far.is
-          ∙ with_cell-filled old x0 y0 x1 y x value hx);
-      count = ap (λ (n : ℕ). n + 1) so_far.count ∙ (sym more ∙ ap (changes old) (sym written));
-    }
+  -- the next cell has the value already
+  pub filling_kept : x0 ≤ x → has now x y ≡ value x y
+      → IsFilling old now x0 y0 x1 y (x + 1) value changed
+  filling_kept hx same = record {
+    bitmap = so_far.bitmap;
+    width_same = so_far.width_same;
+    height_same = so_far.height_same;
+    is = written now (value x y) hx refl (sym (with_cell-same now filling_bitmap x y _ same));
+    count = so_far.count;
+  }
 
--- at the end of a row the next one begins
-pub filling_row : (old now : Cells) (x0 y0 x1 y x : ℕ) (value : ℕ → ℕ → Bool) (changed : ℕ)
-    → IsFilling old now x0 y0 x1 y x value changed → y0 ≤ y → x ≡ x1
-    → IsFilling old now x0 y0 x1 (y + 1) x0 value changed
-filling_row old now x0 y0 x1 y x value changed so_far hy end = record {
-  bitmap = so_far.bitmap;
-  width_same = so_far.width_same;
-  height_same = so_far.height_same;
-  is = so_far.is
-      ∙ cells_where-same old.width old.height
-      (filled_cell old x0 y0 x1 y x value)
-      (filled_cell old x0 y0 x1 (y + 1) x0 value)
-      (λ a b ha hb. row_more x0 y0 x1 y x a b (value a b) (has old a b) hy end);
-  count = so_far.count;
-}
+  -- the next cell is written, with a value that was read
+  pub filling_set : (new : Cells) (black : Bool) → x0 ≤ x → x < old.width → y < old.height
+      → black ≡ value x y → has now x y ≢ black → new ≡ with_cell now x y black
+      → IsFilling old new x0 y0 x1 y (x + 1) value (changed + 1)
+  filling_set new black hx width height read other is =
+      let as_old : has now x y ≡ has old x y =
+      ap (λ (cells : Cells). has cells x y) so_far.is
+      ∙ (has-cells_where old.width old.height (filled_cell old x0 y0 x1 y x value) x y width height
+      ∙ not_yet x0 y0 x1 y x (value x y) (has old x y)) in
+      record {
+        bitmap = so_far.bitmap;
+        width_same = ap (λ (cells : Cells). cells.width) is ∙ so_far.width_same;
+        height_same = ap (λ (cells : Cells). cells.height) is ∙ so_far.height_same;
+        is = written new black hx read is;
+        count = ap (λ (n : ℕ). n + 1) so_far.count
+            ∙ (sym (changes-with_cell_more old now x y black so_far.width_same so_far.height_same
+            width height as_old other) ∙ ap (changes old) (sym is));
+      }
 
--- after the last row the rectangle is filled
-pub filling_all : (old now : Cells) (x0 y0 x1 y1 y : ℕ) (value : ℕ → ℕ → Bool) (changed : ℕ)
-    → IsFilling old now x0 y0 x1 y x0 value changed → y ≡ y1
-    → now ≡ cells_where old.width old.height
-    (λ a b. if is_within x0 y0 x1 y1 a b then value a b else has old a b)
-filling_all old now x0 y0 x1 y1 y value changed so_far end =
-    so_far.is
-    ∙ cells_where-same old.width old.height
-    (filled_cell old x0 y0 x1 y x0 value)
-    (λ a b. if is_within x0 y0 x1 y1 a b then value a b else has old a b)
-    (λ a b ha hb. all_filled x0 y0 x1 y1 y a b (value a b) (has old a b) end)
+  -- at the end of a row the next one begins
+  pub filling_row : y0 ≤ y → x ≡ x1 → IsFilling old now x0 y0 x1 (y + 1) x0 value changed
+  filling_row hy end = record {
+    bitmap = so_far.bitmap;
+    width_same = so_far.width_same;
+    height_same = so_far.height_same;
+    is = so_far.is
+        ∙ cells_where-same old.width old.height (filled_cell old x0 y0 x1 y x value)
+        (filled_cell old x0 y0 x1 (y + 1) x0 value)
+        (λ a b ha hb. row_more x0 y0 x1 y x a b (value a b) (has old a b) hy end);
+    count = so_far.count;
+  }
 
--- a count fits 32 bits, and one more does
-pub filling_fits : (old now : Cells) (x0 y0 x1 y x : ℕ) (value : ℕ → ℕ → Bool) (changed : ℕ)
-    → IsFilling old now x0 y0 x1 y x value changed → changed + 1 < 2 ^ 32
-filling_fits old now x0 y0 x1 y x value changed so_far =
-    omega (
-      arith,
-      so_far.count,
-      changes-le old now,
-      mul-le old.height old.width 4096 4096 so_far.bitmap.height_is.few so_far.bitmap.width_is.few,
-    )
+  -- after the last row the rectangle is filled
+  pub filling_all : (y1 : ℕ) → y ≡ y1 → x ≡ x0
+      → now ≡ cells_where old.width old.height
+      (λ a b. if is_within x0 y0 x1 y1 a b then value a b else has old a b)
+  filling_all y1 end begin =
+      so_far.is
+      ∙ cells_where-same old.width old.height (filled_cell old x0 y0 x1 y x value) _
+      (λ a b ha hb. all_filled x0 y0 x1 y1 y x a b (value a b) (has old a b) end begin)
 
--- the next cell is written, with a value that was read
-pub filling_set_read : (old now : Cells) (x0 y0 x1 y x : ℕ) (value : ℕ → ℕ → Bool) (changed : ℕ)
-    (new : Cells) (black : Bool)
-    → IsFilling old now x0 y0 x1 y x value changed → x0 ≤ x → x < old.width → y < old.height
-    → black ≡ value x y → has now x y ≢ black
-    → new ≡ with_cell now x y black
-    → IsFilling old new x0 y0 x1 y (x + 1) value (changed + 1)
-filling_set_read old now x0 y0 x1 y x value changed new black so_far hx width height read other
-    written =
-    filling_set old now x0 y0 x1 y x value changed new so_far hx width height
-    (λ e. other (e ∙ sym read)) (written ∙ ap (λ (b : Bool). with_cell now x y b) read)
+  -- a count fits 32 bits, and one more does
+  pub filling_fits : changed + 1 < 2 ^ 32
+  filling_fits = grind (arith, changes-le, mul-le, nat_tests)
+
+-- what each step of a filling leaves
+pub ruleset filling = (filling_row, filling_bitmap, filling_fits)

@@ -29,9 +29,7 @@ apart_less x (suc a) = omega arith
 -- the distance to a spot is the one counted with the frame
 pub distance_less : (d : ℕ → ℕ → ℕ) (x y a b : ℕ)
     → spot_distance d x y (less_one a) (less_one b) ≡ distance_between d (x + 1) (y + 1) a b
-distance_less d x y a b =
-    same_distance d (apart x (less_one a)) (abs_diff (x + 1) a) (apart y (less_one b))
-    (abs_diff (y + 1) b) (apart_less x a) (apart_less y b)
+distance_less d x y a b = grind (arith, same_distance, apart_less, nat_tests)
 
 -- the lesser count is that of the lesser spot
 less_less : (a b : ℕ) → a < b → less_one a <ℤ less_one b
@@ -79,33 +77,10 @@ count_of (suc n) m same = omega (arith, ints)
 -- an obstacle of a map with its frame is one by its spot
 pub framed_blocked : (cells : Cells) (a b : ℕ) → IsFramed cells a b
     → IsBlocked cells Wall (less_one a) (less_one b)
-framed_blocked cells a b (inl frame) =
-    let column = frame.column in
-    let row = frame.row in
-    inr (record {
-      left = less_most 0 a (omega arith);
-      right = less_most a (suc cells.width) (omega arith);
-      top = less_most 0 b (omega arith);
-      bottom = less_most b (suc cells.height) (omega arith);
-      outside = λ x y inside across down.
-          let before = inside.column in
-          let above = inside.row in
-          let own : a ≡ suc x = count_of a x across in
-          let own_row : b ≡ suc y = count_of b y down in
-          elim frame.edge [
-            | inl first ↦ omega arith
-            | inr (inl last) ↦ omega arith
-            | inr (inr (inl top)) ↦ omega arith
-            | inr (inr (inr end)) ↦ omega arith
-          ];
-    })
-framed_blocked cells zero b (inr own) = let some = own.0 in absurd (omega arith)
-framed_blocked cells (suc a) zero (inr own) = let some = own.1 in absurd (omega arith)
-framed_blocked cells (suc a) (suc b) (inr own) =
-    let columns : suc a - 1 ≡ a = omega arith in
-    let rows : suc b - 1 ≡ b = omega arith in
-    inl (subst (λ (n : ℕ). IsObstacle cells a n) rows
-    (subst (λ (m : ℕ). IsObstacle cells m (suc b - 1)) columns own.2))
+framed_blocked cells a b (inl frame) = grind (arith, less_most, count_of, nat_tests)
+framed_blocked cells zero b (inr own) = absurd (omega arith)
+framed_blocked cells (suc a) zero (inr own) = absurd (omega arith)
+framed_blocked cells (suc a) (suc b) (inr own) = grind (arith, nat_tests)
 
 -- a column or row of a spot, counted with the frame
 abbrev pub count : ℤ → ℕ
@@ -153,8 +128,6 @@ frame_edge cells c e frame =
             | inl above ↦
                 let column = count_some c some in
                 let row = count_some e some_row in
-                let m_is = column.2 in
-                let n_is = row.2 in
                 absurd (frame.outside column.0 row.0
                 (record { column = omega arith; row = omega arith }) column.1 row.1)
           ]
@@ -258,19 +231,8 @@ open_nearest d cells x y dist a b nearest = record {
 -- an obstacle of a map with its frame has small numbers
 pub framed_small : (cells : Cells) (a b : ℕ) → IsBitmap cells → IsFramed cells a b → (a ≤ 4097)
     × (b ≤ 4097)
-framed_small cells a b bitmap (inl frame) =
-    let column = frame.column in
-    let row = frame.row in
-    let wide = bitmap.width_is.few in
-    let high = bitmap.height_is.few in
-    (omega arith, omega arith)
-framed_small cells a b bitmap (inr (left, top, black)) =
-    let inside = has-outside cells bitmap (a - 1) (b - 1) black in
-    let column = inside.column in
-    let row = inside.row in
-    let wide = bitmap.width_is.few in
-    let high = bitmap.height_is.few in
-    (omega arith, omega arith)
+framed_small cells a b bitmap (inl frame) = grind (arith, nat_tests)
+framed_small cells a b bitmap (inr (left, top, black)) = grind (arith, has-outside, nat_tests)
 
 -- whether a cell of a map with its frame is an obstacle
 abbrev pub wall_test : Cells → ℕ → ℕ → Bool
@@ -327,31 +289,14 @@ wall_framed cells a b obstacle =
 -- the frame and the own obstacles of the map are obstacles of the walled one
 pub framed_wall : (cells : Cells) (a b : ℕ) → IsBitmap cells → IsFramed cells a b
     → IsObstacle (framed Wall cells) a b
-framed_wall cells a b bitmap (inl frame) =
-    let column = frame.column in
-    let row = frame.row in
-    has-cells_where (cells.width + 2) (cells.height + 2) (wall_test cells) a b (omega arith)
-    (omega arith) ∙ test_frame cells.width cells.height a b (has cells (a - 1) (b - 1)) frame.edge
+framed_wall cells a b bitmap (inl frame) = grind (arith, has-cells_where, test_frame, nat_tests)
 framed_wall cells a b bitmap (inr (left, top, black)) =
-    let inside = has-outside cells bitmap (a - 1) (b - 1) black in
-    let column = inside.column in
-    let row = inside.row in
-    has-cells_where (cells.width + 2) (cells.height + 2) (wall_test cells) a b (omega arith)
-    (omega arith) ∙ test_own cells.width cells.height a b (has cells (a - 1) (b - 1)) black
+    grind (arith, has-outside, has-cells_where, test_own, nat_tests)
 
 -- a map, with its frame where its border is a wall
 pub framed_map : (edge : Edge) (cells : Cells) → IsBitmap cells → IsMap (framed edge cells)
-framed_map Open cells bitmap =
-    let wide = bitmap.width_is.few in
-    let high = bitmap.height_is.few in
-    record {
-      width_few = omega arith;
-      height_few = omega arith;
-      inside = λ x y obstacle. has-outside cells bitmap x y obstacle;
-    }
+framed_map Open cells bitmap = grind (arith, has-outside, nat_tests)
 framed_map Wall cells bitmap =
-    let wide = bitmap.width_is.few in
-    let high = bitmap.height_is.few in
     record {
       width_few = omega arith;
       height_few = omega arith;
@@ -374,17 +319,8 @@ test_inner w h x y black column row = grind (arith, nat_tests)
 -- a cell of a map is an obstacle of the map with its border where it is one of the map
 pub has-framed : (edge : Edge) (cells : Cells) (x y : ℕ) → x < cells.width → y < cells.height
     → has (framed edge cells) (x + shift edge) (y + shift edge) ≡ has cells x y
-has-framed Open cells x y column row =
-    let across : x + 0 ≡ x = omega arith in
-    let down : y + 0 ≡ y = omega arith in
-    rw (across, down) refl
-has-framed Wall cells x y column row =
-    let across : x + 1 - 1 ≡ x = omega arith in
-    let down : y + 1 - 1 ≡ y = omega arith in
-    let test = has-cells_where (cells.width + 2) (cells.height + 2) (wall_test cells) (x + 1)
-    (y + 1) (omega arith) (omega arith) in
-    test ∙ (test_inner cells.width cells.height x y (has cells (x + 1 - 1) (y + 1 - 1)) column row
-    ∙ rw (across, down) refl)
+has-framed Open cells x y column row = grind (arith, nat_tests)
+has-framed Wall cells x y column row = grind (arith, has-cells_where, test_inner, nat_tests)
 
 -- by one column or row at most cells are moved
 pub shift_few : (edge : Edge) → shift edge ≤ 1
@@ -421,4 +357,4 @@ spot_seen d Open x y a b =
     let column : x + 0 ≡ x = omega arith in
     let row : y + 0 ≡ y = omega arith in
     rw (column, row) refl
-spot_seen d Wall x y a b = sym (distance_less d x y a b)
+spot_seen d Wall x y a b = grind (arith, distance_less, nat_tests)

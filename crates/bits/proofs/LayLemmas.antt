@@ -1,7 +1,7 @@
 -- A part of a bitmap is laid on a tile: shifted words, and rows written by them.
 use Rattle.std.proofs.Common.{◌≡◌, ℕ, ◌+◌, ◌-◌, ◌*◌, ◌/◌, ◌%◌, ◌^◌, ◌<◌, ◌≤◌, ◌==◌, ◌&&◌, nat_le}
 use Rattle.std.proofs.Common.{nat_lt, Bool, true, false, cond, if◌then◌else◌, List, get_or, min}
-use Rattle.std.proofs.Common.{max, bit_and, bit_or, refl, ap, sym, ◌∙◌, arith}
+use Rattle.std.proofs.Common.{max, bit_and, bit_or, ap, sym, ◌∙◌, arith}
 use Rattle.std.specs.Int.{bit_at, w64}
 use Rattle.std.proofs.lemmas.Nat.{mod_below, div-add-mod', or_lt, and_le_l, pow_pos}
 use Rattle.std.proofs.lemmas.Nat.Bits.{bit_at_and, bit_at_or, bit_at_not, bit_at-lt, bit_at-zero}
@@ -12,7 +12,7 @@ use Rattle.std.proofs.lemmas.Bool.{cases_lt}
 use Rattle.std.proofs.lemmas.Bool.Decides.{nat_tests}
 use mathlib.Core.Logic.{inl, inr}
 use Rattle.bits.specs.Cells.{Cells, has, IsBitmap}
-use Rattle.bits.specs.Words.{words_across, IsRowOf}
+use Rattle.bits.specs.Words.{IsRowOf}
 use Rattle.bits.specs.TileWords.{is_bit, filled_word}
 use Rattle.bits.proofs.TileLemmas.{word_where-lt, bit_at-word_where}
 use Rattle.bits.proofs.TileBitsLemmas.{IsMask}
@@ -78,15 +78,7 @@ joined_bits left right s j fits small some h =
 row_cell : (cells : Cells) (y : ℕ) (words : List ℕ) → IsBitmap cells → IsRowOf cells y words
     → (k i : ℕ) → i < 64 → is_bit (get_or words k 0) i ≡ has cells (64 * k + i) y
 row_cell cells y words is row k i h =
-    elim (cases_lt k (words_across cells.width)) [
-      | inl inside ↦ ap (λ (n : ℕ). n == 1) (row.bits k i inside h)
-          ∙ test_of_bit _ (has cells (64 * k + i) y) refl
-      | inr past ↦
-          ap (λ (w : ℕ). is_bit w i)
-          (get_or-eq_default words 0 (let many = row.as_many in omega arith))
-          ∙ (ap (λ (n : ℕ). n == 1) (bit_at-zero i)
-          ∙ sym (out_of cells is (64 * k + i) y (λ no. absurd (omega arith))))
-    ]
+    grind (arith, cases_lt, test_of_bit, get_or-eq_default, bit_at-zero, out_of, nat_tests)
 
 -- a choice by a place in the left word is the left value
 from_left : (s j a b : ℕ) → s + j < 64 → (if nat_lt (s + j) 64 then a else b) ≡ a

@@ -9,8 +9,6 @@ mod PutLemmas
 pub mod BandLemmas
 mod LayLemmas
 pub mod RegroupLemmas
-mod RowLemmas
 pub mod TileBitsLemmas
 pub mod TileDrawLemmas
 pub mod WordBits
-pub mod RenewLemmas

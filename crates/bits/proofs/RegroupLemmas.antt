@@ -1,6 +1,6 @@
 -- A count over the cells of a bitmap is the sum of the counts over its tiles.
 use Rattle.std.proofs.Common.{◌≡◌, ℕ, zero, suc, ◌+◌, ◌-◌, ◌*◌, ◌/◌, ◌%◌, ◌<◌, ◌≤◌, Bool, true}
-use Rattle.std.proofs.Common.{false, [], refl, ap, sym, ◌∙◌, arith}
+use Rattle.std.proofs.Common.{false, refl, ap, sym, ◌∙◌, arith}
 use Rattle.std.specs.List.{range_with_len, sum_by}
 use Rattle.std.proofs.lemmas.List.Sums.{sum_by-cons}
 use Rattle.std.proofs.lemmas.Nat.{div-mul-add, mod-mul-add}
@@ -21,12 +21,7 @@ total f n = sum_by f (range_with_len 0 n)
 split_range : (f : ℕ → ℕ) (a n m : ℕ)
     → sum_by f (range_with_len a (n + m)) ≡ sum_by f (range_with_len a n)
     + sum_by f (range_with_len (a + n) m)
-split_range f a zero m =
-    let start : a + 0 ≡ a = omega arith in
-    let count : 0 + m ≡ m = omega arith in
-    let whole = ap (λ (k : ℕ). sum_by f (range_with_len a k)) count in
-    let tail = ap (λ (k : ℕ). sum_by f (range_with_len k m)) start in
-    omega (arith, whole, tail)
+split_range f a zero m = grind arith
 split_range f a (suc n) m =
     let longer : suc n + m ≡ suc (n + m) = omega arith in
     let start : a + 1 + n ≡ a + suc n = omega arith in
@@ -59,12 +54,7 @@ moved_range f s a (suc n) =
 
 -- a further number adds its value to a total
 pub total-suc : (f : ℕ → ℕ) (n : ℕ) → total f (suc n) ≡ total f n + f n
-total-suc f n =
-    let longer : suc n ≡ n + 1 = omega arith in
-    let whole = ap (total f) longer in
-    let start : 0 + n ≡ n = omega arith in
-    let last = ap (λ (k : ℕ). sum_by f (range_with_len k 1)) start in
-    omega (arith, whole, last, split_range f 0 n 1, sum_by-cons f n [])
+total-suc f n = grind (arith, split_range, sum_by-cons)
 
 -- past a bound all values are 0
 total_wider : (f : ℕ → ℕ) (n m : ℕ) → n ≤ m → ((j : ℕ) → n ≤ j → f j ≡ 0) → total f n ≡ total f m
@@ -133,7 +123,7 @@ module _ (old new : Cells) (old_is : IsBitmap old) (new_is : IsBitmap new)
   out cells is x y outside =
       elim (has cells x y) as (λ test. has cells x y ≡ test → test ≡ false) [
         | true ↦ λ e. let inside = has-outside cells is x y e in
-            absurd (let no = outside inside.column in let yes' = inside.row in omega arith)
+            absurd (let no = outside inside.column in omega arith)
         | false ↦ λ e. refl
       ] refl
 

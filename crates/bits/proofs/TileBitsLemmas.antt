@@ -115,8 +115,7 @@ ones_small (suc (suc r)) l = absurd (let no : suc (suc r) < 2 = l in omega arith
 
 -- a number's ones are its bits, added up
 ones_bits : (k n : ℕ) → n < 2 ^ k → ones n ≡ sum_by (bit_at n) (range_with_len 0 k)
-ones_bits zero n l = ap ones (let small : n < 1 = l in let none : n ≡ 0 = omega arith in none)
-    ∙ ones_small 0 (omega arith)
+ones_bits zero n l = grind (arith, ones_small, nat_tests)
 ones_bits (suc k) n l =
     let cut : n ≡ n / 2 * 2 ^ 1 + n % 2 = omega arith in
     let low : n % 2 < 2 ^ 1 = omega arith in
@@ -178,9 +177,7 @@ filled_words-row old x0 y0 x1 y value i h =
 pub filled_words-length : (old : List ℕ) (x0 y0 x1 y : ℕ) (value : ℕ → ℕ → Bool)
     → length (filled_words old x0 y0 x1 y value) ≡ 64
 unfolding filled_words
-filled_words-length old x0 y0 x1 y value =
-    length-map-range_with_len (λ i. if nat_le y0 i && nat_lt i y
-    then filled_word (get_or old i 0) x0 x1 (λ j. value j i) else get_or old i 0) 0 64
+filled_words-length old x0 y0 x1 y value = grind (arith, length-map-range_with_len, nat_tests)
 
 -- words with these rows are the filled ones
 filled_words_is : (old now : List ℕ) (x0 y0 x1 y : ℕ) (value : ℕ → ℕ → Bool) → length now ≡ 64
@@ -216,16 +213,12 @@ other_row y0 y i a b apart = grind (arith, nat_tests)
 -- a word differs from itself in no bit
 bits_changed-self : (a : ℕ) → bits_changed a a ≡ 0
 unfolding bits_changed
-bits_changed-self a =
-    sum_by-zero (λ j. one (differs (is_bit a j) (is_bit a j))) 0 64
-    (λ j lo hi. ap one (differs-self (is_bit a j)))
+bits_changed-self a = grind (arith, sum_by-zero, one, differs-self, nat_tests)
 
 -- a tile differs from itself in no cell
 pub words_changed-self : (words : List ℕ) → words_changed words words ≡ 0
 unfolding words_changed
-words_changed-self words =
-    sum_by-zero (λ i. bits_changed (get_or words i 0) (get_or words i 0)) 0 64
-    (λ i lo hi. bits_changed-self (get_or words i 0))
+words_changed-self words = grind (arith, sum_by-zero, bits_changed-self, nat_tests)
 
 -- one row that was as at first is written
 words_changed-set : (old now : List ℕ) (i word : ℕ) → i < 64 → length now ≡ 64
@@ -258,8 +251,7 @@ tile_filling_read : (old now : List ℕ) (x0 y0 x1 y : ℕ) (value : ℕ → ℕ
     → IsTileFilling old now x0 y0 x1 y value changed → y < 64
     → get_or now y 0 ≡ get_or old y 0
 tile_filling_read old now x0 y0 x1 y value changed so_far h =
-    ap (λ (ws : List ℕ). get_or ws y 0) so_far.is
-    ∙ (filled_words-row old x0 y0 x1 y value y h ∙ next_row y0 y _ _)
+    grind (arith, filled_words-row, next_row, nat_tests)
 
 -- with one more row the filling has come to the next row, and has counted its changes
 pub tile_filling_more : (old now : List ℕ) (x0 y0 x1 y : ℕ) (value : ℕ → ℕ → Bool) (changed : ℕ)
@@ -314,9 +306,7 @@ any_in_range p n i h passes =
 none_in_range : (p : ℕ → Bool) (n : ℕ) → ((i : ℕ) → i < n → p i ≡ false)
     → list_any p (range_with_len 0 n) ≡ false
 none_in_range p n fails =
-    list_any_none p (range_with_len 0 n) (λ i d h.
-    let low : i < n = omega (arith, length-range_with_len 0 n) in
-    ap p (get_or-range_with_len 0 n i d low ∙ plain i) ∙ fails i low)
+    grind (arith, list_any_none, length-range_with_len, get_or-range_with_len, plain, nat_tests)
 
 -- the test that two numbers are unequal is true where they differ
 unequal : (a b : ℕ) → a ≢ b → not (a == b) ≡ true
@@ -391,3 +381,6 @@ words_differ_not a b la lb none =
               absurd (let both = sym some ∙ none in cc)
           | false ↦ λ e. refl
         ] refl
+
+-- how many columns of two words differ
+pub ruleset columns_changed = (ones_changed, ones_few)

@@ -7,7 +7,6 @@ use Rattle.std.proofs.lemmas.List.FromFn.{get_or-map-range_with_len, length-map-
 use Rattle.std.proofs.lemmas.List.FromFn.{fill_by_all}
 use Rattle.std.proofs.lemmas.Bool.{cases_lt}
 use Rattle.std.proofs.lemmas.Bool.Decides.{nat_tests}
-use mathlib.Core.Logic.{inl, inr}
 use Rattle.bits.specs.Cells.{Cells, has, with_values, is_within, IsBitmap}
 use Rattle.bits.specs.Changes.{differs}
 use Rattle.bits.specs.Words.{words_across}
@@ -43,9 +42,7 @@ tile_words_is cells k words long rows = fill_by_all (row_word cells k) words 64 
 -- a bit of a row is the cell
 pub is_bit-row_word : (cells : Cells) (k i j : ℕ) → j < 64
     → is_bit (row_word cells k i) j ≡ tile_has cells k i j
-is_bit-row_word cells k i j h =
-    ap (λ (n : ℕ). n == 1) (bit_at-row_word cells k i j h)
-    ∙ test_of_bit _ (tile_has cells k i j) refl
+is_bit-row_word cells k i j h = grind (arith, bit_at-row_word, test_of_bit, nat_tests)
 
 -- the changes of a tile are those of its words
 pub tile_changes_words : (old new : Cells) (k : ℕ)
@@ -77,10 +74,7 @@ picture_cell : (value : ℕ → ℕ → Bool) (a b x0 y0 i j : ℕ) → i < 64 �
     → y0 ≤ 64 * b + i
     → value (64 * a + j - x0) (64 * b + i - y0)
     ≡ laid value (64 * a - x0) (64 * b - y0) (min (x0 - 64 * a) 64) (min (y0 - 64 * b) 64) j i
-picture_cell value a b x0 y0 i j hi hj right below =
-    let column : 64 * a + j - x0 ≡ 64 * a - x0 + (j - min (x0 - 64 * a) 64) = omega arith in
-    let row : 64 * b + i - y0 ≡ 64 * b - y0 + (i - min (y0 - 64 * b) 64) = omega arith in
-    λ k. value (column k) (row k)
+picture_cell value a b x0 y0 i j hi hj right below = grind (arith, nat_tests)
 
 -- outside the map no rectangle is
 not_in : (w h x0 y0 x1 y1 x y : ℕ) (value : Bool) → x1 ≤ w → y1 ≤ h → (x < w → h ≤ y)
@@ -90,12 +84,7 @@ not_in w h x0 y0 x1 y1 x y value hx hy out = grind (arith, nat_tests)
 -- outside of a bitmap no cell is an obstacle
 pub out_of : (cells : Cells) → IsBitmap cells → (x y : ℕ) → (x < cells.width → cells.height ≤ y)
     → has cells x y ≡ false
-out_of cells is x y outside =
-    elim (has cells x y) as (λ test. has cells x y ≡ test → test ≡ false) [
-      | true ↦ λ e. let inside = has-outside cells is x y e in
-          absurd (let up = outside inside.column in let down = inside.row in omega arith)
-      | false ↦ λ e. refl
-    ] refl
+out_of cells is x y outside = grind (arith, has-outside, nat_tests)
 
 -- a bitmap with a picture in it has the cells of the picture in its rectangle, and its own
 -- elsewhere, also past the edge
@@ -104,22 +93,7 @@ pub has-with_values_all : (cells : Cells) (x0 y0 x1 y1 : ℕ) (value : ℕ → �
     → has (with_values cells x0 y0 x1 y1 value) x y
     ≡ (if is_within x0 y0 x1 y1 x y then value (x - x0) (y - y0) else has cells x y)
 has-with_values_all cells x0 y0 x1 y1 value x y is hx hy =
-    let test : ℕ → ℕ → Bool = λ a b. if is_within x0 y0 x1 y1 a b then value (a - x0) (b - y0)
-    else has cells a b in
-    let written : IsBitmap (with_values cells x0 y0 x1 y1 value) =
-    IsBitmap-cells_where cells.width cells.height _ is.width_is is.height_is in
-    let outside = λ (out : x < cells.width → cells.height ≤ y).
-    out_of (with_values cells x0 y0 x1 y1 value) written x y out
-    ∙ (sym (not_in cells.width cells.height x0 y0 x1 y1 x y (value (x - x0) (y - y0)) hx hy out)
-    ∙ ap (λ (o : Bool). if is_within x0 y0 x1 y1 x y then value (x - x0) (y - y0) else o)
-    (sym (out_of cells is x y out))) in
-    elim (cases_lt x cells.width) [
-      | inl column ↦ elim (cases_lt y cells.height) [
-        | inl row ↦ has-cells_where cells.width cells.height test x y column row
-        | inr past ↦ outside (λ h. past)
-      ]
-      | inr past ↦ outside (λ h. absurd (omega arith))
-    ]
+    grind (arith, IsBitmap-cells_where, out_of, not_in, cases_lt, has-cells_where, nat_tests)
 
 -- a row of the written bitmap, where the rectangle's part reaches it and where not
 row_reached : (test : Bool) (a b : ℕ) (c : ℕ) → (test ≡ true → c ≡ a) → (test ≡ false → c ≡ b)

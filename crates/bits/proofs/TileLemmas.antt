@@ -27,10 +27,7 @@ bit_of false = refl
 pub word_where-lt : (test : ℕ → Bool) (n : ℕ) → word_where test n < 2 ^ n
 unfolding word_where
 word_where-lt test zero = omega arith
-word_where-lt test (suc n) =
-    let few : cond (test n) 1 0 ≤ 1 = few_of (test n) in
-    let low = word_where-lt test n in
-    omega (arith, pow-suc 2 n, mul-le-mul_right (2 ^ n) few)
+word_where-lt test (suc n) = grind (arith, few_of, pow-suc, mul-le-mul_right, word_where-lt test n)
 
 -- each bit is the answer at its place
 pub bit_at-word_where : (test : ℕ → Bool) (n i : ℕ) → i < n
@@ -77,31 +74,18 @@ row_word-same a b k i same =
 -- a cell is found again in its tile
 pub tile_has-tile_of : (cells : Cells) (x y : ℕ) → x < cells.width
     → tile_has cells (tile_of cells x y) (y % 64) (x % 64) ≡ has cells x y
-tile_has-tile_of cells x y hx =
-    let across = words_across cells.width in
-    let within : x / 64 < across = omega arith in
-    let column : 64 * (tile_of cells x y % across) + x % 64 ≡ x =
-    omega (arith, mod-mul-add (y / 64) across (x / 64) within) in
-    let row : 64 * (tile_of cells x y / across) + y % 64 ≡ y =
-    omega (arith, div-mul-add (y / 64) across (x / 64) within) in
-    ap (λ (a : ℕ). has cells a (64 * (tile_of cells x y / across) + y % 64)) column
-    ∙ ap (has cells x) row
+tile_has-tile_of cells x y hx = grind (arith, mod-mul-add, div-mul-add)
 
 -- the tile of a cell is one of the bitmap's
 pub tile_of-lt : (cells : Cells) (x y : ℕ) → x < cells.width → y < cells.height
     → tile_of cells x y < tile_count cells
-tile_of-lt cells x y hx hy =
-    let column : x / 64 < words_across cells.width = omega arith in
-    let row : y / 64 < tiles_down cells.height = omega arith in
-    mul-add-lt (y / 64) (words_across cells.width) (x / 64) (tiles_down cells.height) row column
+tile_of-lt cells x y hx hy = grind (arith, mul-add-lt)
 
 -- the rows above a tile are rows of the bitmap
 pub tile_above : (cells : Cells) (k across : ℕ) → k < tile_count cells
     → across ≡ words_across cells.width
     → k / across < tiles_down cells.height
-tile_above cells k across within across_is =
-    let below : k < across * tiles_down cells.height = rw across_is within in
-    (row-Below k across across (tiles_down cells.height) below (omega arith)).1
+tile_above cells k across within across_is = grind (arith, row-Below)
 
 -- row i of a tile that the bitmap's rows reach, read from the words of its row
 pub tile_row_read : (cells : Cells) (k i across y : ℕ) (words : List ℕ) (word : ℕ) → 1 ≤ across
@@ -118,12 +102,7 @@ tile_row_read cells k i across y words word some across_is y_is row read fits =
 
 -- no bitmap has an obstacle below its last row
 has-below : (cells : Cells) → IsBitmap cells → (x y : ℕ) → cells.height ≤ y → has cells x y ≡ false
-has-below cells bitmap x y past =
-    elim (has cells x y) as (λ test. has cells x y ≡ test → test ≡ false) [
-      | true ↦ λ is. let inside = has-outside cells bitmap x y is in
-          absurd (omega (arith, inside.row))
-      | false ↦ λ is. refl
-    ] refl
+has-below cells bitmap x y past = grind (arith, has-outside)
 
 -- a row of a tile past the bitmap's last row has no obstacle
 pub tile_row_past : (cells : Cells) → IsBitmap cells → (k i across y : ℕ)

@@ -64,6 +64,7 @@ impl Bitmap {
     }
 
     /// The number of columns.
+    #[tactic(auto, using(crate::proofs::StoredLemmas::kept_bitmap))]
     pub fn width(&self) -> u16
         ensures width { result ≡ self.now.width }
         ensures bitmap { IsBitmap self.now }
@@ -72,6 +73,7 @@ impl Bitmap {
     }
 
     /// The number of rows.
+    #[tactic(auto, using(crate::proofs::StoredLemmas::kept_bitmap))]
     pub fn height(&self) -> u16
         ensures height { result ≡ self.now.height }
         ensures bitmap { IsBitmap self.now }
@@ -80,6 +82,7 @@ impl Bitmap {
     }
 
     /// Whether the cell is in the bitmap.
+    #[tactic(auto, using(crate::proofs::StoredLemmas::kept_bitmap))]
     pub fn holds(&self, cell: Cell) -> bool
         ensures holds { IsTrue result ↔ IsInside self.now cell.x cell.y }
         ensures bitmap { IsBitmap self.now }
@@ -88,6 +91,7 @@ impl Bitmap {
     }
 
     /// Whether the rectangle is wholly within the bitmap.
+    #[tactic(auto, using(crate::proofs::StoredLemmas::kept_bitmap))]
     pub fn holds_rect(&self, rect: Rect) -> bool
         ensures holds { IsTrue result ↔ ((rect.x1 ≤ self.now.width) × (rect.y1 ≤ self.now.height)) }
         ensures bitmap { IsBitmap self.now }
@@ -123,6 +127,7 @@ impl Bitmap {
     }
 
     /// Makes the cell an obstacle, or free.
+    #[tactic(auto, using(crate::proofs::StoredLemmas::bitmaps))]
     pub fn set(&mut self, cell: Cell, black: bool)
         requires { IsInside self.old cell.x cell.y }
         ensures written { self.new ≡ with_cell self.old cell.x cell.y black }
@@ -137,6 +142,7 @@ impl Bitmap {
 
     /// Writes the cells of row `y` in word `index`: bit i is the cell of column 64 `index` + i.
     /// Ignores bits past the edge.
+    #[tactic(auto, using(crate::proofs::StoredLemmas::bitmaps))]
     pub fn set_word(&mut self, y: u16, index: u16, word: u64)
         requires row { y < self.old.height }
         requires index { index < words_across self.old.width }
@@ -150,6 +156,7 @@ impl Bitmap {
     }
 
     /// Writes row `y`, each word of it as `set_word` does, as many as it needs.
+    #[tactic(auto, using(crate::proofs::StoredLemmas::bitmaps))]
     pub fn set_row(&mut self, y: u16, row: &[u64; 64])
         requires { y < self.old.height }
         ensures written { self.new ≡ with_row self.old y row.now }

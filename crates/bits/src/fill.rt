@@ -9,6 +9,7 @@ use metric::{Cell, Rect};
 
 impl Bitmap {
     /// Sets each cell of the rectangle to this value, and returns how many cells changed.
+    #[tactic(auto, using(crate::proofs::FillLemmas::filling))]
     pub fn fill(&mut self, rect: Rect, black: bool) -> u32
         requires columns { rect.x1 ≤ self.old.width }
         requires rows { rect.y1 ≤ self.old.height }

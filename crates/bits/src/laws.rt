@@ -31,6 +31,7 @@ pub fn nearest_is_least()
 {}
 
 /// Counted by rows or by tiles, two bitmaps of the same size differ in the same number of cells.
+#[tactic(auto, using(crate::proofs::RegroupLemmas::changes_regrouped))]
 pub fn tiles_count_all_changes()
     ensures { (old new : Cells) → IsBitmap old → IsBitmap new → new.width ≡ old.width
         → new.height ≡ old.height
@@ -38,12 +39,14 @@ pub fn tiles_count_all_changes()
 {}
 
 /// Counted on the words of its tile, the same number of cells differ.
+#[tactic(auto, using(crate::proofs::TileDrawLemmas::tile_changes_words))]
 pub fn words_count_changes()
     ensures { (old new : Cells) (k : ℕ)
         → tile_changes old new k ≡ words_changed (tile_words old k) (tile_words new k) }
 {}
 
 /// Filling the part of a picture in each tile, on the words of the tile, lays the picture.
+#[tactic(auto, using(crate::proofs::TileDrawLemmas::filled_tile))]
 pub fn tiles_fill_their_part()
     ensures { (cells : Cells) (x0 y0 x1 y1 k : ℕ) (value : ℕ → ℕ → Bool) → IsBitmap cells
         → x1 ≤ cells.width → y1 ≤ cells.height

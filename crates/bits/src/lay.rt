@@ -34,6 +34,7 @@ impl TileBits {
     }
 
     /// Whether `lay` would change a cell.
+    #[tactic(auto, using(crate::proofs::TileBitsLemmas::nothing_would_change))]
     pub fn would_lay(words: &[u64; 64], rect: Rect, stamp: &Bitmap, from: Cell) -> bool
         requires columns { rect.x1 ≤ TILE_SIDE }
         requires rows { rect.y1 ≤ TILE_SIDE }
@@ -53,6 +54,7 @@ impl TileBits {
 }
 
 /// Row `y` of a tile after the bitmap is laid on the rectangle.
+#[tactic(auto, using(crate::proofs::LayLemmas::laid_word))]
 fn laid_row(old: u64, y: u16, rect: Rect, stamp: &Bitmap, from: Cell) -> u64
     requires columns { rect.x1 ≤ TILE_SIDE }
     requires above { rect.y0 ≤ y }
@@ -68,6 +70,7 @@ fn laid_row(old: u64, y: u16, rect: Rect, stamp: &Bitmap, from: Cell) -> u64
 }
 
 /// The 64 cells of a row from column `x` on, as a word; past the edge there is none.
+#[tactic(auto, using(crate::proofs::LayLemmas::row_from_none))]
 fn row_from(bitmap: &Bitmap, x: u16, y: u16) -> u64
     ensures { (j : ℕ) → j < 64 → is_bit result j ≡ has bitmap.now (x + j) y }
 {
@@ -91,6 +94,7 @@ fn word_at(row: &[u64], place: usize) -> u64
 }
 
 /// The 64 columns from `shift` on of two adjacent words.
+#[tactic(auto, using(crate::proofs::LayLemmas::joined_bits))]
 fn joined(left: u64, right: u64, shift: u32) -> u64
     requires { shift < 64 }
     ensures { (j : ℕ) → j < 64
@@ -105,6 +109,7 @@ fn joined(left: u64, right: u64, shift: u32) -> u64
 }
 
 /// The word with its columns moved by `by`.
+#[tactic(auto, using(crate::proofs::LayLemmas::left_high))]
 fn moved(word: u64, by: u32) -> u64
     requires { by < 64 }
     ensures { (j : ℕ) → by ≤ j → j < 64 → bit_at result j ≡ bit_at word (j - by) }

@@ -10,6 +10,7 @@ use metric::Cell;
 impl Bitmap {
     /// Sets each cell of the rectangle at `(x, y)`, of the stamp's size, to the stamp's value,
     /// obstacle or not, and returns how many cells changed.
+    #[tactic(auto, using(crate::proofs::FillLemmas::filling))]
     pub fn stamp(&mut self, x: u16, y: u16, stamp: &Bitmap) -> u32
         requires columns { x + stamp.now.width ≤ self.old.width }
         requires rows { y + stamp.now.height ≤ self.old.height }

@@ -33,6 +33,7 @@ impl Bitmap {
 
     /// The row of the tile at this position, from 0 to 63, as a word: bit j is column j, and 0 past
     /// the bitmap's edge.
+    #[tactic(auto, using(crate::proofs::TileLemmas::tile_row_past))]
     pub fn tile_row(&self, position: u16, row: u16) -> u64
         requires position { position < tile_count self.now }
         requires row { row < TILE_SIDE }
@@ -50,6 +51,7 @@ impl Bitmap {
 
     /// Writes the cells of the tile at this position: word i is its row i, and bit j of it is
     /// column j. Ignores bits past the edge.
+    #[tactic(auto, using(crate::proofs::StoredLemmas::bitmaps))]
     pub fn put_tile(&mut self, position: u16, words: &[u64; 64])
         requires { position < tile_count self.old }
         ensures written { self.new ≡ with_tile self.old position words.now }
@@ -66,6 +68,7 @@ impl Bitmap {
     /// Writes the cells of the tile as `put_tile` does, and takes the tile's bit if all words are
     /// 0, and its band's if none of its tiles has a bit. A bitmap of which each tile is written so
     /// needs no `clear` before; a bit past the edge, which is no cell, keeps a blank tile's.
+    #[tactic(auto, using(crate::proofs::StoredLemmas::bitmaps))]
     pub fn renew_tile(&mut self, position: u16, words: &[u64; 64])
         requires { position < tile_count self.old }
         ensures written { self.new ≡ with_tile self.old position words.now }

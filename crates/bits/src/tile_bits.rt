@@ -33,6 +33,7 @@ impl TileBits {
     }
 
     /// Whether `fill` would change a cell.
+    #[tactic(auto, using(crate::proofs::TileBitsLemmas::nothing_would_change))]
     pub fn would_change(words: &[u64; 64], rect: Rect, black: bool) -> bool
         requires columns { rect.x1 ≤ 64 }
         requires rows { rect.y1 ≤ 64 }
@@ -51,6 +52,7 @@ impl TileBits {
 }
 
 /// A word with 1 in columns `from` to `to - 1`.
+#[tactic(auto, using(crate::proofs::TileBitsLemmas::columns_bits))]
 pub fn columns(from: u32, to: u32) -> u64
     requires some { from < to }
     requires within { to ≤ 64 }
@@ -70,6 +72,7 @@ fn filled(word: u64, from: u32, to: u32, black: bool) -> u64
 }
 
 /// The number of columns that differ.
+#[tactic(auto, using(crate::proofs::TileBitsLemmas::columns_changed))]
 pub fn changes(old: u64, new: u64) -> u32
     ensures changes { result ≡ bits_changed old new }
     ensures few { result ≤ 64 }

@@ -1,26 +1,25 @@
 -- Any obstacle that is nearer than a limit, as tiles are searched.
-use Rattle.std.proofs.Common.{◌≡◌, ◌≢◌, ℕ, ◌/◌, ◌<◌, None, sym, subst, arith}
+use Rattle.std.proofs.Common.{◌≡◌, ◌≢◌, ℕ, ◌/◌, ◌<◌, None, arith}
 use Rattle.std.specs.Int.{bit_at}
 use Rattle.metric.specs.declared.rect.Rect.{Rect}
-use Rattle.bits.specs.Cells.{Cells, IsBitmap, IsObstacle}
+use Rattle.bits.specs.Cells.{Cells, IsBitmap}
 use Rattle.std.proofs.Common.{get_or}
-use Rattle.clearance.specs.Rows.{IsMarked, words_of_row}
+use Rattle.clearance.specs.Rows.{words_of_row}
 use Rattle.clearance.specs.Spots.{IsAnyBelow, IsInBand, IsInTile, IsInWord, IsLeastSpot}
 use Rattle.clearance.specs.Spots.{IsNearSpot}
 use Rattle.clearance.specs.declared.found.Found.{Found}
 use Rattle.clearance.proofs.RowWords.{IsRowOf-words}
 use Rattle.clearance.proofs.TileRows.{AreBandsLive, AreBandsLive-thinned, IsThinned-without}
 use Rattle.clearance.proofs.Searches.{marked_obstacle}
+use Rattle.std.proofs.lemmas.Grind.{common_steps}
+use Rattle.std.proofs.lemmas.Bool.Decides.{nat_tests}
 
 -- what is near of a set is near of a larger one
 pub IsNearSpot-more : (distance : ℕ → ℕ → ℕ) (One Other : ℕ → ℕ → Type 0) (rect : Rect) (limit : ℕ)
     (found : Found) → ((a b : ℕ) → One a b → Other a b)
     → IsNearSpot distance One rect limit found → IsNearSpot distance Other rect limit found
-IsNearSpot-more distance One Other rect limit found more near = record {
-  obstacle = more found.cell.x found.cell.y near.obstacle;
-  distance_is = near.distance_is;
-  nearer = near.nearer;
-}
+IsNearSpot-more distance One Other rect limit found more near =
+    grind (arith, nat_tests, common_steps)
 
 -- bands stay live without one that has no obstacle near
 pub AreBandsLive-without : (distance : ℕ → ℕ → ℕ) (cells : Cells) (rect : Rect)
@@ -41,18 +40,4 @@ pub IsNearSpot-word : (distance : ℕ → ℕ → ℕ) (cells : Cells) (rect : R
     → IsLeastSpot distance (IsInWord tile y word) rect limit found
     → IsNearSpot distance (IsInTile cells band tile) rect limit found
 IsNearSpot-word distance cells rect band tile y word limit found in_band word_is first =
-    let a = found.cell.x in
-    let here = first.obstacle in
-    let in_row = here.0 in
-    let marked : IsMarked (words_of_row cells y) a = rw (here.1, sym word_is) (here.2) in
-    let obstacle = marked_obstacle cells y (words_of_row cells y) a (IsRowOf-words cells y) marked
-    in
-    record {
-      obstacle = (
-        subst (λ (n : ℕ). IsObstacle cells a n) (sym in_row) obstacle,
-        rw in_row in_band,
-        here.1,
-      );
-      distance_is = first.distance_is;
-      nearer = first.nearer;
-    }
+    grind (arith, nat_tests, common_steps, IsRowOf-words, marked_obstacle)

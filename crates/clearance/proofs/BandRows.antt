@@ -19,6 +19,9 @@ use Rattle.clearance.proofs.NearestSearches.{IsNearAmong-same}
 use Rattle.clearance.proofs.RowWords.{word_in_row}
 use Rattle.clearance.proofs.Searches.{IsLeastAmong-same, obstacle_within}
 use Rattle.std.specs.Int.{abs_diff}
+use Rattle.std.proofs.Common.{rules}
+use Rattle.std.proofs.lemmas.Grind.{common_steps}
+use Rattle.std.proofs.lemmas.Bool.Decides.{nat_tests}
 
 -- a cell that isn't an obstacle
 no_obstacle : (value : Bool) → (value ≡ true → ⊥) → ◌≡◌ {A = ℕ} (cond value 1 0) 0
@@ -51,12 +54,7 @@ IsBlankRow-none cells y none =
 pub IsNextGap-banded : (cells : Cells) (bands top bottom gap next : ℕ) → IsBanded cells bands
     → IsNextGap (IsMarkedRow bands) top bottom gap next
     → IsNextGap (λ b. (a : ℕ) × IsObstacle cells a b) top bottom gap next
-IsNextGap-banded cells bands top bottom gap next banded is = record {
-  from = is.from;
-  few = is.few;
-  above = λ b obstacle. is.above b (banded obstacle.0 b obstacle.1);
-  below = λ b obstacle. is.below b (banded obstacle.0 b obstacle.1);
-}
+IsNextGap-banded cells bands top bottom gap next banded is = grind (arith, nat_tests, common_steps)
 
 -- an obstacle's row that comes before the next gap comes before the gap from which rows were
 -- skipped
@@ -85,9 +83,7 @@ pub IsLeastWithin-passed : (distance : ℕ → ℕ → ℕ) (cells : Cells) (rec
     → IsLeastWithin distance (IsObstacle cells) rect gap limit least
     → IsLeastWithin distance (IsObstacle cells) rect next limit least
 IsLeastWithin-passed distance cells rect gap next limit least bitmap some is before =
-    IsLeastAmong-same distance (IsObstacle cells) rect (λ b. row_gap rect b < gap)
-    (λ b. row_gap rect b < next) limit least least refl
-    (row_gap-passed cells rect gap next bitmap some is) before
+    search (rules, arith, IsLeastAmong-same, row_gap-passed)
 
 -- nor one that could be nearer than the best
 pub IsNearAmong-passed : (distance : ℕ → ℕ → ℕ) (cells : Cells) (x y gap next limit : ℕ)

@@ -29,6 +29,9 @@ use Rattle.clearance.specs.Firsts.{IsCellNear}
 use Rattle.clearance.specs.Frames.{IsBetterOfBoth, IsLoweredByFrame, key_found}
 use Rattle.clearance.specs.Nearest.{IsFoundBelow}
 use Rattle.clearance.specs.Frames.{counted_with_frame}
+use Rattle.std.proofs.Common.{rules}
+use Rattle.std.proofs.lemmas.Grind.{common_steps}
+use Rattle.std.proofs.lemmas.Bool.Decides.{nat_tests}
 
 -- a key by its parts
 abbrev key_with : ℕ → ℕ → ℕ → ℕ → Key
@@ -41,45 +44,21 @@ at_most_found : (d : ℕ → ℕ → ℕ) (x y : ℕ) (p q : Found)
     → q.dist ≡ distance_between d x y q.cell.x q.cell.y
     → IsAtMost (key_found y p) (key_found y q)
     → IsAtMost (key_of d x y p.cell.x p.cell.y) (key_of d x y q.cell.x q.cell.y)
-at_most_found d x y p q p_is q_is most =
-    subst (λ (n : ℕ). IsAtMost (key_of d x y p.cell.x p.cell.y)
-    (key_with n q.cell.x (abs_diff y q.cell.y) q.cell.y)) q_is
-    (subst (λ (n : ℕ). IsAtMost (key_with n p.cell.x (abs_diff y p.cell.y) p.cell.y)
-    (key_found y q)) p_is most)
+at_most_found d x y p q p_is q_is most = grind (arith, nat_tests, common_steps)
 
 -- the distance of two cells is the same counted with the frame
 moved_distance : (d : ℕ → ℕ → ℕ) (x y a b : ℕ)
     → distance_between d x y a b ≡ distance_between d (x + 1) (y + 1) (a + 1) (b + 1)
-moved_distance d x y a b =
-    same_distance d (abs_diff x a) (abs_diff (x + 1) (a + 1)) (abs_diff y b)
-    (abs_diff (y + 1) (b + 1)) (omega arith) (omega arith)
+moved_distance d x y a b = grind (arith, nat_tests, common_steps)
 
 -- the order of two cells is the same counted with the frame
 moved_at_most : (d : ℕ → ℕ → ℕ) (x y a b c e : ℕ) → IsAtMost (key_of d x y a b) (key_of d x y c e)
     → IsAtMost (key_of d (x + 1) (y + 1) (a + 1) (b + 1)) (key_of d (x + 1) (y + 1) (c + 1) (e + 1))
-moved_at_most d x y a b c e most =
-    let here = moved_distance d x y a b in
-    let there = moved_distance d x y c e in
-    elim most.order [
-      | inl less ↦ record { order = inl (omega arith) }
-      | inr (same, inl left) ↦ record { order = inr (omega arith, inl (omega arith)) }
-      | inr (same, inr (column, inl fewer)) ↦
-          record { order = inr (omega arith, inr (omega arith, inl (omega arith))) }
-      | inr (same, inr (column, inr (as_many, row))) ↦
-          record { order = inr (omega arith, inr (omega arith, inr (omega arith, omega arith))) }
-    ]
+moved_at_most d x y a b c e most = grind (arith, nat_tests, common_steps)
 
 -- what is found in a map is there with the frame too
 own_framed : (cells : Cells) (a b : ℕ) → IsObstacle cells a b → IsFramed cells (a + 1) (b + 1)
-own_framed cells a b black =
-    let columns : a ≡ a + 1 - 1 = omega arith in
-    let rows : b ≡ b + 1 - 1 = omega arith in
-    inr (
-      omega arith,
-      omega arith,
-      subst (λ (n : ℕ). IsObstacle cells (a + 1 - 1) n) rows
-          (subst (λ (m : ℕ). IsObstacle cells m b) columns black),
-    )
+own_framed cells a b black = grind (arith, nat_tests, common_steps)
 
 -- what has no greater key than the frame's and, if there is any, the map's own nearest is the
 -- nearest of both
@@ -94,11 +73,7 @@ both_framed : (d : ℕ → ℕ → ℕ) (cells : Cells) (x y a b : ℕ) → IsBo
     → IsFramed cells c e → IsAtMost (key_of d (x + 1) (y + 1) a b) (key_of d (x + 1) (y + 1) c e)
 both_framed d cells x y a b both c e (inl frame) = both.frame c e frame
 both_framed d cells x y a b both c e (inr (left, top, black)) =
-    let columns : c - 1 + 1 ≡ c = omega arith in
-    let rows : e - 1 + 1 ≡ e = omega arith in
-    subst (λ (n : ℕ). IsAtMost (key_of d (x + 1) (y + 1) a b) (key_of d (x + 1) (y + 1) c n)) rows
-    (subst (λ (m : ℕ). IsAtMost (key_of d (x + 1) (y + 1) a b)
-    (key_of d (x + 1) (y + 1) m (e - 1 + 1))) columns (both.own (c - 1) (e - 1) black))
+    grind (arith, nat_tests, common_steps)
 
 -- the map's own nearest, counted with the frame, comes before each other one of the map
 own_least : (d : ℕ → ℕ → ℕ) (cells : Cells) (x y : ℕ) (own : Found)
@@ -115,19 +90,7 @@ pub best_framed : (d : ℕ → ℕ → ℕ) (cells : Cells) (x y : ℕ) (frame :
     (y + 1) frame
     → IsFoundBelow d (IsObstacle cells) x y (frame.dist + 1) own
     → IsBetterOfBoth (y + 1) frame own best → IsFound d (IsFramed cells) (x + 1) (y + 1) best
-best_framed d cells x y frame None best of_frame none is =
-    subst (λ (f : Found). IsFound d (IsFramed cells) (x + 1) (y + 1) f) (sym is) (record {
-      obstacle = inl of_frame.obstacle;
-      distance_is = of_frame.distance_is;
-      least = both_framed d cells x y frame.cell.x frame.cell.y (record {
-        frame = of_frame.least;
-        own = λ c e black.
-            let far = (none c e black).not_below in
-            let dist = of_frame.distance_is in
-            let there = moved_distance d x y c e in
-            record { order = inl (omega arith) };
-      });
-    })
+best_framed d cells x y frame None best of_frame none is = grind (arith, nat_tests, common_steps)
 best_framed d cells x y frame (Some own) best of_frame found (inl (is, most)) =
     let dist : own.dist ≡ distance_between d (x + 1) (y + 1) (own.cell.x + 1) (own.cell.y + 1) =
     found.distance_is ∙ moved_distance d x y own.cell.x own.cell.y in
@@ -168,12 +131,7 @@ pub found_small : (d : ℕ → ℕ → ℕ) (cells : Cells) (x y limit : ℕ) (o
     → IfSome own (λ found. (found.cell.x < 4096) × (found.cell.y < 4096))
 found_small d cells x y limit None bitmap none = tt
 found_small d cells x y limit (Some own) bitmap found =
-    let inside = has-outside cells bitmap own.cell.x own.cell.y found.obstacle in
-    let column = inside.column in
-    let row = inside.row in
-    let wide = bitmap.width_is.few in
-    let high = bitmap.height_is.few in
-    (omega arith, omega arith)
+    grind (arith, nat_tests, common_steps, has-outside)
 
 -- a cell of the frame is no nearer to a rectangle's cell than the lowered limit
 frame_far : (d : ℕ → ℕ → ℕ) → Grows d → StaysNearer d
@@ -212,16 +170,7 @@ frame_only : (cells : Cells) → IsBitmap cells → (a b : ℕ)
 frame_only cells bitmap a b frame (inr edge) = edge
 frame_only cells bitmap zero b frame (inl black) = absurd black
 frame_only cells bitmap (suc a) zero frame (inl black) = absurd black
-frame_only cells bitmap (suc a) (suc b) frame (inl black) =
-    let inside = has-outside cells bitmap a b black in
-    let column = inside.column in
-    let row = inside.row in
-    elim frame.edge [
-      | inl first ↦ absurd (omega arith)
-      | inr (inl last) ↦ absurd (omega arith)
-      | inr (inr (inl top)) ↦ absurd (omega arith)
-      | inr (inr (inr end)) ↦ absurd (omega arith)
-    ]
+frame_only cells bitmap (suc a) (suc b) frame (inl black) = grind (arith, nat_tests, common_steps)
 
 -- a cell of the frame is reached from a cell of the rectangle
 frame_reached : (d : ℕ → ℕ → ℕ) (cells : Cells) (rect : Rect) (least x y a b m g : ℕ)
@@ -298,14 +247,7 @@ record IsCountedFrame (cells : Cells) (c e : ℤ) : Type 0 where
 
 -- each spot of the frame can be counted with it
 frame_counted : (cells : Cells) (c e : ℤ) → IsFrame cells c e → IsCountedFrame cells c e
-frame_counted cells c e frame =
-    record {
-      a = count c;
-      b = count e;
-      column = count_back c frame.left;
-      row = count_back e frame.top;
-      frame = frame_cell cells c e frame;
-    }
+frame_counted cells c e frame = search (rules, arith, count, count_back, frame_cell)
 
 -- a spot of the frame is no nearer to a rectangle's cell than the lowered limit
 frame_spot_far : (d : ℕ → ℕ → ℕ) → Grows d → StaysNearer d
@@ -349,11 +291,9 @@ walled_far d grows stays cells rect limit middle least bitmap columns rows low i
     (negsuc b) cell (inl none) = absurd none
 walled_far d grows stays cells rect limit middle least bitmap columns rows low is x y
     (negsuc a) b cell (inl none) = absurd none
-walled_far d grows stays cells rect limit middle least bitmap columns rows low is x y a b cell
-    (inr frame) =
-    IsFar-lower (spot_distance d x y a b) middle least is.within
-    (frame_spot_far d grows stays cells rect limit middle bitmap columns rows low x y a b cell
-    frame)
+walled_far d grows stays cells rect limit middle least bitmap columns rows low is x y a b cell (inr
+    frame) =
+    search (rules, arith, IsFar-lower, frame_spot_far)
 
 -- the least of the frame and then of the own obstacles of a map is that of the walled map
 pub IsLeastBelow-wall : (d : ℕ → ℕ → ℕ) → Grows d → StaysNearer d
@@ -412,25 +352,9 @@ IsLeastBelow-open d cells rect limit least is = record {
       };
 }
 
--- where none of the own obstacles is below the limit, no spot of an open map is
-open_none : (d : ℕ → ℕ → ℕ) (cells : Cells) (x y limit : ℕ)
-    → IsFoundBelow d (IsObstacle cells) x y limit None
-    → (a b : ℤ) → IsBlocked cells Open a b → IsFar (spot_distance d x y a b) limit
-open_none d cells x y limit none (pos a) (pos b) black = none a b black
-open_none d cells x y limit none (pos a) (negsuc b) black = absurd black
-open_none d cells x y limit none (negsuc a) b black = absurd black
-
 -- where none is below a limit that one is below, or that is above every distance, there is none
 pub IsNear-none : (d : ℕ → ℕ → ℕ) (cells : Cells) (x y limit : ℕ)
     → (limit < 2 ^ 32 → IsCellNear d (IsBlocked cells Open) limit x y)
     → IsFoundBelow d (IsObstacle cells) x y limit None
     → (a b : ℤ) → IsBlocked cells Open a b → ⊥
-IsNear-none d cells x y limit one none a b black = elim (cases_lt limit (2 ^ 32)) [
-  | inl small ↦
-      let near = one small in
-      let far = (open_none d cells x y limit none near.a near.b near.obstacle).not_below in
-      let less = near.nearer in
-      absurd (omega arith)
-  | inr large ↦
-      let small = (open_none d cells x y limit none a b black).is_limit in absurd (omega arith)
-]
+IsNear-none d cells x y limit one none a b black = grind (arith, nat_tests, common_steps)

@@ -1,9 +1,7 @@
 -- The columns from which on, and before which, the obstacles of a band lie, and how far they are
 -- from a rectangle.
-use Rattle.std.proofs.Common.{◌≡◌, ℕ, ◌+◌, ◌-◌, ◌*◌, ◌/◌, ◌%◌, ◌<◌, ◌≤◌, inl, inr, arith}
+use Rattle.std.proofs.Common.{◌≡◌, ℕ, ◌+◌, ◌-◌, ◌*◌, ◌/◌, ◌%◌, ◌<◌, ◌≤◌, arith}
 use Rattle.std.specs.Int.{bit_at}
-use Rattle.std.proofs.lemmas.Bool.{cases_lt}
-use Rattle.std.proofs.lemmas.Nat.Bits.{bit_at-zero}
 use Rattle.metric.specs.declared.rect.Rect.{Rect}
 use Rattle.metric.specs.Crossing.{StaysNearer}
 use Rattle.metric.specs.Distance.{Grows}
@@ -14,6 +12,8 @@ use Rattle.clearance.specs.Bands.{AreColumnsFar, IsBandFarIn}
 use Rattle.clearance.specs.Rows.{IsFar}
 use Rattle.clearance.specs.Search.{column_gap, rect_distance, row_gap}
 use Rattle.clearance.proofs.Searches.{IsFar-greater, obstacle_within}
+use Rattle.std.proofs.lemmas.Grind.{common_steps}
+use Rattle.std.proofs.lemmas.Bool.Decides.{nat_tests}
 
 -- where a column is far to the right, so are those behind it
 pub AreColumnsFar-from : (distance : ℕ → ℕ → ℕ) → Grows distance → StaysNearer distance
@@ -62,20 +62,14 @@ pub from_next_tile : (cells : Cells) (band tiles start tile : ℕ) → IsTiled c
     → ((k : ℕ) → start / 64 ≤ k → k < tile → bit_at tiles k ≡ 1 → ⊥)
     → (x y : ℕ) → IsObstacle cells x y → y / 64 ≡ band → start ≤ x → 64 * tile ≤ x
 from_next_tile cells band tiles start tile tiled none x y obstacle here from =
-    elim (cases_lt (x / 64) tile) [
-      | inl before ↦ absurd (none (x / 64) (omega arith) before (tiled x y obstacle here))
-      | inr behind ↦ omega arith
-    ]
+    grind (arith, nat_tests, common_steps)
 
 -- and those before a column in its last tile or before it
 pub before_last_tile : (cells : Cells) (band tiles end after : ℕ) → IsTiled cells band tiles
     → ((k : ℕ) → after ≤ k → k ≤ end / 64 → bit_at tiles k ≡ 1 → ⊥)
     → (x y : ℕ) → IsObstacle cells x y → y / 64 ≡ band → x < end → x < 64 * after
 before_last_tile cells band tiles end after tiled none x y obstacle here before =
-    elim (cases_lt (x / 64) after) [
-      | inl within ↦ omega arith
-      | inr behind ↦ absurd (none (x / 64) behind (omega arith) (tiled x y obstacle here))
-    ]
+    grind (arith, nat_tests, common_steps)
 
 -- the bits that are 1 in any row of a tile of the band
 pub record AreJoined (cells : Cells) (band tile all : ℕ) : Type 0 where
@@ -89,14 +83,8 @@ pub from_lowest_bit : (cells : Cells) (band start tile all word p : ℕ)
     → ((i : ℕ) → i < p → bit_at word i ≡ 0) → p < 64 → (x y : ℕ) → IsObstacle cells x y
     → y / 64 ≡ band → start ≤ x → 64 * tile ≤ x → 64 * tile + p ≤ x
 from_lowest_bit cells band start tile all word p joined kept none_below few x y obstacle here from
-    behind = elim (cases_lt x (64 * tile + p)) [
-      | inl before ↦
-          let bit = joined.bits x y obstacle here (omega arith) in
-          let same = kept (x % 64) (omega arith) (omega arith) in
-          let none = none_below (x % 64) (omega arith) in
-          absurd (omega arith)
-      | inr there ↦ there
-    ]
+    behind =
+    grind (arith, nat_tests, common_steps)
 
 -- where there is none, the next tile
 pub from_tile_after : (cells : Cells) (band tiles start tile next all word : ℕ)
@@ -105,17 +93,8 @@ pub from_tile_after : (cells : Cells) (band tiles start tile next all word : ℕ
     → word ≡ 0 → ((k : ℕ) → tile + 1 ≤ k → k < next → bit_at tiles k ≡ 1 → ⊥) → (x y : ℕ)
     → IsObstacle cells x y → y / 64 ≡ band → start ≤ x → 64 * tile ≤ x → 64 * next ≤ x
 from_tile_after cells band tiles start tile next all word tiled joined kept blank none x y obstacle
-    here from behind = elim (cases_lt (x / 64) (tile + 1)) [
-      | inl own ↦
-          let bit = joined.bits x y obstacle here (omega arith) in
-          let same = kept (x % 64) (omega arith) (omega arith) in
-          let nil : bit_at word (x % 64) ≡ 0 = rw blank (bit_at-zero (x % 64)) in
-          absurd (omega arith)
-      | inr later ↦ elim (cases_lt (x / 64) next) [
-        | inl passed ↦ absurd (none (x / 64) later passed (tiled x y obstacle here))
-        | inr there ↦ omega arith
-      ]
-    ]
+    here from behind =
+    grind (arith, nat_tests, common_steps)
 
 -- the highest of them before a column
 pub before_highest_bit : (cells : Cells) (band end tile all word p : ℕ)
@@ -124,14 +103,8 @@ pub before_highest_bit : (cells : Cells) (band end tile all word p : ℕ)
     → ((i : ℕ) → p < i → bit_at word i ≡ 0) → (x y : ℕ) → IsObstacle cells x y → y / 64 ≡ band
     → x < end → x < 64 * tile + 64 → x < 64 * tile + p + 1
 before_highest_bit cells band end tile all word p joined kept none_above x y obstacle here before
-    within = elim (cases_lt x (64 * tile + p + 1)) [
-      | inl there ↦ there
-      | inr behind ↦
-          let bit = joined.bits x y obstacle here (omega arith) in
-          let same = kept (x % 64) (omega arith) (omega arith) in
-          let none = none_above (x % 64) (omega arith) in
-          absurd (omega arith)
-    ]
+    within =
+    grind (arith, nat_tests, common_steps)
 
 -- where there is none, the tile before
 pub before_tile_before : (cells : Cells) (band tiles end tile after all word : ℕ)
@@ -140,14 +113,5 @@ pub before_tile_before : (cells : Cells) (band tiles end tile after all word : �
     → word ≡ 0 → ((k : ℕ) → after ≤ k → k < tile → bit_at tiles k ≡ 1 → ⊥) → (x y : ℕ)
     → IsObstacle cells x y → y / 64 ≡ band → x < end → x < 64 * tile + 64 → x < 64 * after
 before_tile_before cells band tiles end tile after all word tiled joined kept blank none x y
-    obstacle here before within = elim (cases_lt x (64 * tile)) [
-      | inl earlier ↦ elim (cases_lt (x / 64) after) [
-        | inl there ↦ omega arith
-        | inr passed ↦ absurd (none (x / 64) passed (omega arith) (tiled x y obstacle here))
-      ]
-      | inr own ↦
-          let bit = joined.bits x y obstacle here (omega arith) in
-          let same = kept (x % 64) (omega arith) (omega arith) in
-          let nil : bit_at word (x % 64) ≡ 0 = rw blank (bit_at-zero (x % 64)) in
-          absurd (omega arith)
-    ]
+    obstacle here before within =
+    grind (arith, nat_tests, common_steps)

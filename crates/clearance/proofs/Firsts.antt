@@ -1,24 +1,15 @@
 -- The first cell of a list that has an obstacle near, and what it says of the answers.
-use Rattle.std.proofs.Common.{◌≡◌, ℕ, ℤ, ◌+◌, ◌<◌, ◌≤◌, List, length, Option, Some, None, sym}
-use Rattle.std.proofs.Common.{subst, ◌∙◌, arith}
+use Rattle.std.proofs.Common.{◌≡◌, ℕ, ℤ, ◌+◌, ◌<◌, ◌≤◌, List, length, Option, Some, None}
+use Rattle.std.proofs.Common.{◌∙◌, arith}
 use Rattle.std.proofs.lemmas.List.{get_or_default}
 use Rattle.metric.specs.declared.cell.Cell.{Cell}
 use Rattle.metric.specs.declared.near.Near.{Near}
-use Rattle.metric.specs.Nearest.{spot_distance, spot_key, IsNearest}
-use Rattle.metric.proofs.NearestLemmas.{IsNoGreater-distance}
 use Rattle.clearance.specs.Answers.{IsNearestAt, IsLeastOf, IsClearOf}
 use Rattle.clearance.specs.Firsts.{IsCellNear, IsCellWithNear, origin, cell_of_list, distance_at}
 use Rattle.clearance.specs.Firsts.{AreFarBefore, IsFirstOrNone}
-
--- the nearest obstacle is no farther than any
-nearest-least : (distance : ℕ → ℕ → ℕ) (Obstacle : ℤ → ℤ → Type 0) (x y : ℕ) (near : Near) (a b : ℤ)
-    → IsNearest distance Obstacle x y near → Obstacle a b
-    → near.dist ≤ spot_distance distance x y a b
-nearest-least distance Obstacle x y near a b is obstacle =
-    let most = IsNoGreater-distance (spot_key distance x y near.cell.x near.cell.y)
-    (spot_key distance x y a b) (is.least a b obstacle) in
-    let dist = is.distance_is in
-    omega arith
+use Rattle.std.proofs.Common.{rules}
+use Rattle.std.proofs.lemmas.Grind.{common_steps}
+use Rattle.std.proofs.lemmas.Bool.Decides.{nat_tests}
 
 -- a cell of the list after cells that are far is the first one that is near, with its nearest
 -- obstacle
@@ -31,29 +22,9 @@ pub IsFirstOrNone-at : (distance : ℕ → ℕ → ℕ) (Obstacle : ℤ → ℤ 
     → IsFirstOrNone distance Obstacle cells limit found
 IsFirstOrNone-at distance Obstacle cells limit place cell None within here near before none =
     λ i a b inside obstacle. absurd (none a b obstacle)
-IsFirstOrNone-at distance Obstacle cells limit place cell
-    (Some found) within here near before with = record {
-      place = place;
-      within = within;
-      cell_is = here ∙ sym with.0;
-      near_is = subst (λ (c : Cell). IsNearest distance Obstacle c.x c.y found.1)
-          (sym with.0) with.1;
-      nearer =
-          let least = nearest-least distance Obstacle cell.x cell.y found.1 near.a near.b with.1
-          near.obstacle in
-          let less = near.nearer in
-          omega arith;
-      before = before;
-    }
-
--- a cell of the list, whatever stands in for one past its end
-at_default : (distance : ℕ → ℕ → ℕ) (Obstacle : ℤ → ℤ → Type 0) (cells : List Cell) (i : ℕ)
-    (cell : Cell) (other : Near) → i < length cells
-    → IsNearestAt distance Obstacle cells i cell other
-    → IsNearest distance Obstacle (cell_of_list cells i).x (cell_of_list cells i).y other
-at_default distance Obstacle cells i cell other within is =
-    subst (λ (c : Cell). IsNearest distance Obstacle c.x c.y other)
-    (get_or_default cells i cell origin within) is
+IsFirstOrNone-at distance Obstacle cells limit place cell (Some found) within here near before with
+    =
+    grind (arith, nat_tests, common_steps)
 
 -- the nearest obstacle of a cell that is far is far
 far_nearest : (distance : ℕ → ℕ → ℕ) (Obstacle : ℤ → ℤ → Type 0) (cells : List Cell) (limit i : ℕ)
@@ -61,18 +32,13 @@ far_nearest : (distance : ℕ → ℕ → ℕ) (Obstacle : ℤ → ℤ → Type 
     → IsNearestAt distance Obstacle cells i cell other
     → ((a b : ℤ) → Obstacle a b → limit ≤ distance_at distance cells i a b) → limit ≤ other.dist
 far_nearest distance Obstacle cells limit i cell other within is far =
-    let here = at_default distance Obstacle cells i cell other within is in
-    let low = far other.cell.x other.cell.y here.obstacle in
-    let dist = here.distance_is in
-    omega arith
+    grind (arith, nat_tests, common_steps)
 
 -- the first cell that has an obstacle nearer than d
 pub IsClearOf-first : (distance : ℕ → ℕ → ℕ) (Obstacle : ℤ → ℤ → Type 0) (cells : List Cell) (d : ℕ)
     (found : Option (Cell × Near))
     → IsFirstOrNone distance Obstacle cells d found → IsClearOf distance Obstacle cells d found
-IsClearOf-first distance Obstacle cells d None far =
-    λ i other cell within is. far_nearest distance Obstacle cells d i cell other within is
-    (λ a b obstacle. far i a b within obstacle)
+IsClearOf-first distance Obstacle cells d None far = search (rules, arith, far_nearest)
 IsClearOf-first distance Obstacle cells d (Some found) first = record {
   place = first.place;
   within = first.within;
@@ -93,10 +59,7 @@ pub IsLeastOf-first : (distance : ℕ → ℕ → ℕ) (Obstacle : ℤ → ℤ �
     (cell_of_list cells place).y
     → IsFirstOrNone distance Obstacle cells (least + 1) found
     → IsLeastOf distance Obstacle cells found
-IsLeastOf-first distance Obstacle cells least None all place within near far =
-    let low = far place near.a near.b within near.obstacle in
-    let less = near.nearer in
-    absurd (omega arith)
+IsLeastOf-first distance Obstacle cells least None all place within near far = omega arith
 IsLeastOf-first distance Obstacle cells least (Some found) all place within near first = record {
   place = first.place;
   within = first.within;

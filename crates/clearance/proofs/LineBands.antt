@@ -15,6 +15,8 @@ use Rattle.clearance.specs.Strips.{IsOnLine}
 use Rattle.clearance.specs.declared.lines.Lines.{Lines}
 use Rattle.clearance.proofs.Searches.{obstacle_within}
 use Rattle.clearance.proofs.TileRows.{marked_passed}
+use Rattle.std.proofs.lemmas.Grind.{common_steps}
+use Rattle.std.proofs.lemmas.Bool.Decides.{nat_tests}
 
 -- the cell (a, b) isn't near to any line before this one
 abbrev pub IsFarFromLines : (ℕ → ℕ → ℕ) → Lines → ℕ → ℕ → ℕ → Type 0
@@ -77,17 +79,4 @@ pub IsFirstAmong-live : (distance : ℕ → ℕ → ℕ) (cells : Cells) (lines 
     → IsFirstAmong distance cells lines (λ b. row_gap rect b < gap) end line
     → IsFirstAmong distance cells lines (λ b. row_gap rect b < next) end line
 IsFirstAmong-live distance cells lines rect gap next end line bands bitmap some is live before =
-    record {
-      from = before.from;
-      within = before.within;
-      near = before.near;
-      far = λ k x y a b from earlier on_line obstacle near. elim (cases_lt (row_gap rect b) gap) [
-        | inl seen ↦ before.far k x y a b from earlier on_line obstacle seen
-        | inr away ↦ elim (live a b obstacle) [
-          | inl marked ↦
-              let last = (obstacle_within cells bitmap a b obstacle).3 in
-              absurd (marked_passed bands rect gap next b some (omega arith) is away near marked)
-          | inr far ↦ far k x y from earlier on_line
-        ]
-      ];
-    }
+    grind (arith, nat_tests, common_steps, marked_passed, obstacle_within)

@@ -21,6 +21,8 @@ use Rattle.clearance.specs.declared.part.Part.TheVariants.{Row, Frame}
 use Rattle.clearance.specs.declared.strip.Strip.{Strip}
 use Rattle.clearance.proofs.Searches.{obstacle_within}
 use Rattle.clearance.proofs.StripLines.{IsSomeNear-lower}
+use Rattle.std.proofs.lemmas.Grind.{common_steps}
+use Rattle.std.proofs.lemmas.Bool.Decides.{nat_tests}
 
 -- an obstacle of a row is one of the map
 pub black_of_row : (cells : Cells) (y : ℕ) (a b : ℤ) → IsBlackInRow cells y a b → IsBlack cells a b
@@ -32,16 +34,7 @@ black_of_row cells y (negsuc a) b none = absurd none
 pub near_more : (distance : ℕ → ℕ → ℕ) (Fewer More : ℤ → ℤ → Type 0) (strip : Strip) (limit k : ℕ)
     → ((a b : ℤ) → Fewer a b → More a b)
     → IsLineNear distance Fewer strip limit k → IsLineNear distance More strip limit k
-near_more distance Fewer More strip limit k more near =
-    record {
-      x = near.x;
-      y = near.y;
-      on_line = near.on_line;
-      a = near.a;
-      b = near.b;
-      obstacle = more near.a near.b near.obstacle;
-      nearer = near.nearer;
-    }
+near_more distance Fewer More strip limit k more near = grind (arith, nat_tests, common_steps)
 
 -- what is first among the obstacles of a row is so as far as this row has been searched
 pub IsFirstAmong-row : (distance : ℕ → ℕ → ℕ) (cells : Cells) (lines : Lines) (y end line : ℕ)
@@ -62,12 +55,7 @@ pub IsFirstAmong-none : (distance : ℕ → ℕ → ℕ) (cells : Cells) (lines 
     (end : ℕ) → lines.first ≤ end
     → ((a b : ℕ) → IsObstacle cells a b → IsRow b → ⊥)
     → IsFirstAmong distance cells lines IsRow end end
-IsFirstAmong-none distance cells lines IsRow end order none = record {
-  from = order;
-  within = omega arith;
-  near = λ less. absurd (omega arith);
-  far = λ k x y a b from before on_line obstacle row. absurd (none a b obstacle row);
-}
+IsFirstAmong-none distance cells lines IsRow end order none = grind (arith, nat_tests, common_steps)
 
 -- some rows and then others of the lines that are left are both of them
 pub IsFirstAmong-more : (distance : ℕ → ℕ → ℕ) (cells : Cells) (lines : Lines)
@@ -77,23 +65,7 @@ pub IsFirstAmong-more : (distance : ℕ → ℕ → ℕ) (cells : Cells) (lines 
     → ((b : ℕ) → IsNext b → IsRow b ⊎ IsOther b)
     → IsFirstAmong distance cells lines IsNext end next
 IsFirstAmong-more distance cells lines IsRow IsOther IsNext end line next before more back =
-    let low = before.within in
-    let lower = more.within in
-    record {
-      from = more.from;
-      within = omega arith;
-      near = λ less. elim (cases_lt next line) [
-        | inl earlier ↦ more.near earlier
-        | inr same ↦
-            let equal : line ≡ next = omega arith in
-            subst (λ (n : ℕ). IsLineNear distance (IsBlocked cells Open) lines.strip lines.limit n)
-            equal (before.near (omega arith))
-      ];
-      far = λ k x y a b from within on_line obstacle row. elim (back b row) [
-        | inl own ↦ before.far k x y a b from (omega arith) on_line obstacle own
-        | inr other ↦ more.far k x y a b from within on_line obstacle other
-      ];
-    }
+    grind (arith, nat_tests, common_steps)
 
 -- rows that have no more obstacles say no more
 pub IsFirstAmong-same : (distance : ℕ → ℕ → ℕ) (cells : Cells) (lines : Lines)
@@ -101,25 +73,15 @@ pub IsFirstAmong-same : (distance : ℕ → ℕ → ℕ) (cells : Cells) (lines 
     → ((a b : ℕ) → IsObstacle cells a b → IsNext b → IsRow b)
     → IsFirstAmong distance cells lines IsRow end line
     → IsFirstAmong distance cells lines IsNext end line
-IsFirstAmong-same distance cells lines IsRow IsNext end line back is = record {
-  from = is.from;
-  within = is.within;
-  near = is.near;
-  far = λ k x y a b from before on_line obstacle row.
-      is.far k x y a b from before on_line obstacle (back a b obstacle row);
-}
+IsFirstAmong-same distance cells lines IsRow IsNext end line back is =
+    grind (arith, nat_tests, common_steps)
 
 -- where no line is left, other rows say no more
 pub IsFirstAmong-left : (distance : ℕ → ℕ → ℕ) (cells : Cells) (lines : Lines)
     (IsRow IsNext : ℕ → Type 0) (end line : ℕ) → line ≤ lines.first
     → IsFirstAmong distance cells lines IsRow end line
     → IsFirstAmong distance cells lines IsNext end line
-IsFirstAmong-left distance cells lines IsRow IsNext end line none is = record {
-  from = is.from;
-  within = is.within;
-  near = is.near;
-  far = λ k x y a b from before. absurd (omega arith);
-}
+IsFirstAmong-left distance cells lines IsRow IsNext end line none is = omega arith
 
 -- a rectangle from the first line to the one before the end is that of these lines
 pub IsRectOf-rect : (lines : Lines) (end : ℕ) (rect : Rect) → lines.first < end
@@ -140,14 +102,7 @@ IsRectOf-rect lines end rect some all only right bottom = record {
 -- the rectangle of lines of a strip in a bitmap lies in it
 pub IsRectIn-lines : (cells : Cells) (lines : Lines) (end : ℕ) (rect : Rect)
     → IsStripIn cells lines.strip → IsRectOf lines end rect → IsRectIn cells rect
-IsRectIn-lines cells lines end rect strip of =
-    let right = of.right in
-    let bottom = of.bottom in
-    record {
-      bitmap = strip.bitmap;
-      columns = omega (arith, strip.columns);
-      rows = omega (arith, strip.rows);
-    }
+IsRectIn-lines cells lines end rect strip of = grind (arith, nat_tests, common_steps)
 
 -- the rows of these lines are rows of their rectangle
 pub line_row_in : (lines : Lines) (end : ℕ) (rect : Rect) (b : ℕ) → IsRectOf lines end rect
@@ -186,9 +141,7 @@ pub IsFirstBefore-near : (distance : ℕ → ℕ → ℕ) (Obstacle : ℤ → �
     (end line : ℕ) → lines.first < end
     → IsFirstNear distance Obstacle lines.strip lines.limit lines.first (end - 1) line
     → IsFirstBefore distance Obstacle lines end line
-IsFirstBefore-near distance Obstacle lines end line some is =
-    let last = is.within in
-    record { from = is.from; within = omega arith; near = λ less. is.near; before = is.before }
+IsFirstBefore-near distance Obstacle lines end line some is = grind (arith, nat_tests, common_steps)
 
 -- where the least over the lines' rectangle is below the limit, some of them are near
 pub IsSomeNear-rect : (distance : ℕ → ℕ → ℕ) (Obstacle : ℤ → ℤ → Type 0) (lines : Lines)
@@ -204,12 +157,7 @@ IsSomeNear-rect distance Obstacle lines end least rect of is less =
 pub IsFirstBefore-none : (distance : ℕ → ℕ → ℕ) (Obstacle : ℤ → ℤ → Type 0) (lines : Lines)
     (end : ℕ) → lines.first ≤ end → end ≤ lines.first
     → IsFirstBefore distance Obstacle lines end end
-IsFirstBefore-none distance Obstacle lines end order none = record {
-  from = order;
-  within = omega arith;
-  near = λ less. absurd (omega arith);
-  before = λ k from before. absurd (omega arith);
-}
+IsFirstBefore-none distance Obstacle lines end order none = grind (arith, nat_tests, common_steps)
 
 -- where it isn't, none is
 pub IsFirstBefore-far : (distance : ℕ → ℕ → ℕ) (Obstacle : ℤ → ℤ → Type 0) (lines : Lines)
@@ -255,30 +203,13 @@ IsFirstAmong-far distance grows stays cells lines rect gap end line bitmap low o
   ];
 }
 
--- no line before the first one has an obstacle near
-open_before : (distance : ℕ → ℕ → ℕ) (cells : Cells) (lines : Lines) (IsRow : ℕ → Type 0)
-    (end line : ℕ) → ((a b : ℕ) → IsObstacle cells a b → IsRow b)
-    → IsFirstAmong distance cells lines IsRow end line
-    → (k : ℕ) → lines.first ≤ k → k < line → (x y : ℕ) (a b : ℤ) → IsOnLine lines.strip k x y
-    → IsBlocked cells Open a b → lines.limit ≤ spot_distance distance x y a b
-open_before distance cells lines IsRow end line all is k from before x y (pos a)
-    (pos b) on_line black = is.far k x y a b from before on_line black (all a b black)
-open_before distance cells lines IsRow end line all is k from before x y (pos a)
-    (negsuc b) on_line none = absurd none
-open_before distance cells lines IsRow end line all is k from before x y (negsuc a) b on_line none =
-    absurd none
-
 -- once all rows have been searched, this is the first line that has an obstacle near
 pub IsFirstBefore-all : (distance : ℕ → ℕ → ℕ) (cells : Cells) (lines : Lines) (IsRow : ℕ → Type 0)
     (end line : ℕ) → ((a b : ℕ) → IsObstacle cells a b → IsRow b)
     → IsFirstAmong distance cells lines IsRow end line
     → IsFirstBefore distance (IsBlocked cells Open) lines end line
-IsFirstBefore-all distance cells lines IsRow end line all is = record {
-  from = is.from;
-  within = is.within;
-  near = is.near;
-  before = open_before distance cells lines IsRow end line all is;
-}
+IsFirstBefore-all distance cells lines IsRow end line all is =
+    grind (arith, nat_tests, common_steps)
 
 -- no line before the first one has an obstacle or a cell of the frame near
 walled_before : (distance : ℕ → ℕ → ℕ) (cells : Cells) (lines : Lines) (end framed line : ℕ)
@@ -288,10 +219,9 @@ walled_before : (distance : ℕ → ℕ → ℕ) (cells : Cells) (lines : Lines)
     → IsBlocked cells Wall a b → lines.limit ≤ spot_distance distance x y a b
 walled_before distance cells lines end framed line frame own k from before x y a b on_line
     (inl black) = own.before k from before x y a b on_line black
-walled_before distance cells lines end framed line frame own k from before x y a b on_line
-    (inr edge) =
-    let lower = own.within in
-    frame.before k from (omega arith) x y a b on_line edge
+walled_before distance cells lines end framed line frame own k from before x y a b on_line (inr
+    edge) =
+    grind (arith, nat_tests, common_steps)
 
 -- the first line that has the frame near and then the map's own obstacles is that of the walled map
 pub IsFirstBefore-wall : (distance : ℕ → ℕ → ℕ) (cells : Cells) (lines : Lines)
@@ -326,25 +256,7 @@ pub IsFirstNear-some : (distance : ℕ → ℕ → ℕ) (Obstacle : ℤ → ℤ 
     → IsFirstBefore distance Obstacle lines last line
     → IsFirstNear distance Obstacle lines.strip lines.limit lines.first last line
 IsFirstNear-some distance Obstacle lines last line (k, from, within, near) is =
-    let end = is.within in
-    record {
-      from = is.from;
-      within = is.within;
-      near = elim (cases_lt line last) [
-        | inl earlier ↦ is.near earlier
-        | inr none ↦ elim (cases_lt k line) [
-          | inl before ↦
-              let far = is.before k from before near.x near.y near.a near.b near.on_line
-              near.obstacle in
-              let less = near.nearer in
-              absurd (omega arith)
-          | inr here ↦
-              let same : k ≡ line = omega arith in
-              subst (λ (n : ℕ). IsLineNear distance Obstacle lines.strip lines.limit n) same near
-        ]
-      ];
-      before = is.before;
-    }
+    grind (arith, nat_tests, common_steps)
 
 -- a line before the end is the first one that is near
 pub IsFirstNear-before : (distance : ℕ → ℕ → ℕ) (Obstacle : ℤ → ℤ → Type 0) (lines : Lines)

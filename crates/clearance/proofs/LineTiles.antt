@@ -1,6 +1,5 @@
 -- The first line of a strip that has an obstacle near, as obstacles are found by tiles.
-use Rattle.std.proofs.Common.{◌≡◌, ℕ, ℤ, pos, ◌-◌, ◌<◌, ◌≤◌, inl, inr, min, max, None, refl, arith}
-use Rattle.std.proofs.lemmas.Bool.{cases_lt}
+use Rattle.std.proofs.Common.{◌≡◌, ℕ, ℤ, pos, ◌-◌, ◌<◌, ◌≤◌, min, max, None, refl, arith}
 use Rattle.std.specs.Int.{abs_diff}
 use Rattle.metric.specs.Crossing.{StaysNearer}
 use Rattle.metric.specs.Distance.{Grows}
@@ -12,13 +11,15 @@ use Rattle.clearance.specs.Lines.{IsFirstBefore, IsRectOf}
 use Rattle.clearance.specs.Parts.{IsPart}
 use Rattle.clearance.specs.Search.{column_gap, row_gap}
 use Rattle.clearance.specs.Spots.{IsNearSpot, IsSpotBelow}
-use Rattle.clearance.specs.Strips.{IsFirstNear, IsLineNear, IsSomeNear}
+use Rattle.clearance.specs.Strips.{IsLineNear, IsSomeNear}
 use Rattle.clearance.specs.declared.found.Found.{Found}
 use Rattle.clearance.specs.declared.lines.Lines.{Lines}
 use Rattle.clearance.specs.declared.part.Part.TheVariants.{Row}
 use Rattle.clearance.proofs.Borders.{IsLeastBelow-open}
 use Rattle.clearance.proofs.FarSpots.{IsLeastInBits-none}
-use Rattle.clearance.proofs.LineFirsts.{IsFirstBefore-far, black_of_row, near_more}
+use Rattle.clearance.proofs.LineFirsts.{IsFirstBefore-far}
+use Rattle.std.proofs.lemmas.Grind.{common_steps}
+use Rattle.std.proofs.lemmas.Bool.Decides.{nat_tests}
 
 -- an obstacle that is near to the lines' rectangle is near to one of them
 pub IsSomeNear-spot : (distance : ℕ → ℕ → ℕ) (cells : Cells) (lines : Lines) (end : ℕ) (rect : Rect)
@@ -57,14 +58,6 @@ IsSomeNear-spot distance cells lines end rect found of spot =
       },
     )
 
--- the first line that has an obstacle of a row near has one near
-pub IsLineNear-row : (distance : ℕ → ℕ → ℕ) (cells : Cells) (lines : Lines) (y last line : ℕ)
-    → IsFirstNear distance (IsPart cells (Row y)) lines.strip lines.limit lines.first last line
-    → IsLineNear distance (IsBlocked cells Open) lines.strip lines.limit line
-IsLineNear-row distance cells lines y last line is =
-    near_more distance (IsPart cells (Row y)) (IsBlocked cells Open) lines.strip lines.limit line
-    (λ a b black. black_of_row cells y a b black) is.near
-
 -- where no obstacle is near to the lines before one that has an obstacle near, this is the first
 pub IsFirstBefore-tiles : (distance : ℕ → ℕ → ℕ) → Grows distance → StaysNearer distance
     → (cells : Cells) (lines : Lines) (end line : ℕ) (rect : Rect) → IsBitmap cells
@@ -85,15 +78,4 @@ pub IsFirstBefore-longer : (distance : ℕ → ℕ → ℕ) (Obstacle : ℤ → 
     → IsFirstBefore distance Obstacle lines line first
     → IsFirstBefore distance Obstacle lines end first
 IsFirstBefore-longer distance Obstacle lines end line first order near found =
-    let within = found.within in
-    record {
-      from = found.from;
-      within = omega (arith, within, order);
-      near = λ some. elim (cases_lt first line) [
-        | inl less ↦ found.near less
-        | inr last ↦
-            let same : first ≡ line = omega (arith, within, last) in
-            rw same (near (rw same at some))
-      ];
-      before = found.before;
-    }
+    grind (arith, nat_tests, common_steps)

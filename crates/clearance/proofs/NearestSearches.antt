@@ -6,22 +6,22 @@ use Rattle.std.proofs.lemmas.Bool.{cases_lt}
 use Rattle.metric.specs.Distance.{Grows, distance_between}
 use Rattle.metric.specs.Crossing.{StaysNearer}
 use Rattle.metric.specs.Cellwise.{Key, key_of, IsAtMost}
-use Rattle.metric.proofs.CellwiseLemmas.{IsAtMost-transitive}
 use Rattle.metric.proofs.Growing.{of_grows, of_grows_with_dx}
 use Rattle.bits.specs.Cells.{Cells, IsBitmap, IsObstacle}
 use Rattle.bits.specs.Words.{IsRowOf}
 use Rattle.clearance.specs.Rows.{IsFar, IsFirstMark, IsLastMark, IsNextNearer, IsLastNearer}
 use Rattle.metric.specs.declared.rect.Rect.{Rect}
 use Rattle.clearance.specs.Bands.{IsMarkedRow, IsNextGap}
-use Rattle.clearance.specs.Search.{column_gap, row_gap}
 use Rattle.clearance.specs.declared.found.Found.{Found}
 use Rattle.clearance.specs.Nearest.{IsFound, IsFoundBelow, IsNearAmong, limit_with, IsWithin}
-use Rattle.clearance.specs.Nearest.{IsWithinOrAbove, IsRowFirst, IsRowUpTo, IsSeenInRow, IsAhead}
+use Rattle.clearance.specs.Nearest.{IsWithinOrAbove, IsRowFirst, IsRowUpTo, IsSeenInRow}
 use Rattle.clearance.specs.Nearest.{IsBetter, IsCellRect}
 use Rattle.clearance.proofs.RowSearches.{mark_within}
 use Rattle.clearance.proofs.TileRows.{AreBandsLive}
 use Rattle.clearance.proofs.Searches.{marked_obstacle, obstacle_marked, obstacle_within}
 use Rattle.clearance.proofs.Searches.{unmarked_row}
+use Rattle.std.proofs.lemmas.Grind.{common_steps}
+use Rattle.std.proofs.lemmas.Bool.Decides.{nat_tests}
 
 -- the obstacles that have been searched, restated
 pub IsNearAmong-same : (distance : ℕ → ℕ → ℕ) (Obstacle IsSeen IsNext : ℕ → ℕ → Type 0)
@@ -32,11 +32,8 @@ pub IsNearAmong-same : (distance : ℕ → ℕ → ℕ) (Obstacle IsSeen IsNext 
     → IsNearAmong distance Obstacle IsNext x y limit best
 IsNearAmong-same distance Obstacle IsSeen IsNext x y limit None there back none =
     λ a b both. none a b (both.0, back a b both.0 both.1)
-IsNearAmong-same distance Obstacle IsSeen IsNext x y limit (Some near) there back is = record {
-  obstacle = (is.obstacle.0, there near.cell.x near.cell.y is.obstacle.0 is.obstacle.1);
-  distance_is = is.distance_is;
-  least = λ a b both. is.least a b (both.0, back a b both.0 both.1);
-}
+IsNearAmong-same distance Obstacle IsSeen IsNext x y limit (Some near) there back is =
+    grind (arith, nat_tests, common_steps)
 
 -- obstacles that are far leave the best as it is
 IsNearAmong-far : (distance : ℕ → ℕ → ℕ) (Obstacle IsSeen IsNext : ℕ → ℕ → Type 0)
@@ -47,17 +44,9 @@ IsNearAmong-far : (distance : ℕ → ℕ → ℕ) (Obstacle IsSeen IsNext : ℕ
     → IsNearAmong distance Obstacle IsSeen x y limit best
     → IsNearAmong distance Obstacle IsNext x y limit best
 IsNearAmong-far distance Obstacle IsSeen IsNext x y limit None there back none =
-    λ a b both. elim (back a b both.0 both.1)
-    [ inl seen ↦ none a b (both.0, seen) | inr far ↦ far ]
-IsNearAmong-far distance Obstacle IsSeen IsNext x y limit (Some near) there back is = record {
-  obstacle = (is.obstacle.0, there near.cell.x near.cell.y is.obstacle.0 is.obstacle.1);
-  distance_is = is.distance_is;
-  least = λ a b both. elim (back a b both.0 both.1) [
-    | inl seen ↦ is.least a b (both.0, seen)
-    | inr far ↦ let low = far.not_below in let dist = is.distance_is in
-        record { order = inl (omega arith) }
-  ];
-}
+    grind (arith, nat_tests, common_steps)
+IsNearAmong-far distance Obstacle IsSeen IsNext x y limit (Some near) there back is =
+    grind (arith, nat_tests, common_steps)
 
 -- once all obstacles have been searched, the best is the nearest
 IsNearAmong-all : (distance : ℕ → ℕ → ℕ) (Obstacle IsSeen : ℕ → ℕ → Type 0) (x y limit : ℕ)
@@ -66,11 +55,8 @@ IsNearAmong-all : (distance : ℕ → ℕ → ℕ) (Obstacle IsSeen : ℕ → �
     → IsFoundBelow distance Obstacle x y limit best
 IsNearAmong-all distance Obstacle IsSeen x y limit None all none =
     λ a b obstacle. none a b (obstacle, all a b obstacle)
-IsNearAmong-all distance Obstacle IsSeen x y limit (Some near) all is = record {
-  obstacle = is.obstacle.0;
-  distance_is = is.distance_is;
-  least = λ a b obstacle. is.least a b (obstacle, all a b obstacle);
-}
+IsNearAmong-all distance Obstacle IsSeen x y limit (Some near) all is =
+    grind (arith, nat_tests, common_steps)
 
 -- the key of what has been found
 abbrev key_at : (ℕ → ℕ → ℕ) → ℕ → ℕ → Found → Key
@@ -79,41 +65,6 @@ key_at distance x y near = key_of distance x y near.cell.x near.cell.y
 -- seen from the row y, this row is searched no later than another
 abbrev pub IsNoLater : ℕ → ℕ → ℕ → Type 0
 IsNoLater y row b = (abs_diff y b < abs_diff y row) ⊎ ((abs_diff y b ≡ abs_diff y row) × (b ≤ row))
-
--- an obstacle that is ahead of one in no earlier row has the lesser key
-ahead_at_most : (distance : ℕ → ℕ → ℕ) (x y : ℕ) (one other : Found)
-    → one.dist ≡ distance_between distance x y one.cell.x one.cell.y
-    → other.dist ≡ distance_between distance x y other.cell.x other.cell.y
-    → IsNoLater y other.cell.y one.cell.y → IsAhead one other
-    → IsAtMost (key_at distance x y one) (key_at distance x y other)
-ahead_at_most distance x y one other one_is other_is rows (inl nearer) =
-    record { order = inl (omega arith) }
-ahead_at_most distance x y one other one_is other_is rows (inr same) =
-    let equal = same.0 in
-    let columns = same.1 in
-    record {
-      order = inr (
-        omega arith,
-        elim (cases_lt one.cell.x other.cell.x)
-            [ inl left ↦ inl left | inr here ↦ inr (omega arith, rows) ],
-      );
-    }
-
--- an obstacle that isn't ahead of another has the greater key
-behind_at_most : (distance : ℕ → ℕ → ℕ) (x y : ℕ) (one other : Found)
-    → one.dist ≡ distance_between distance x y one.cell.x one.cell.y
-    → other.dist ≡ distance_between distance x y other.cell.x other.cell.y
-    → (IsAhead one other → ⊥) → IsAtMost (key_at distance x y other) (key_at distance x y one)
-behind_at_most distance x y one other one_is other_is behind = elim (cases_lt other.dist one.dist) [
-  | inl nearer ↦ record { order = inl (omega arith) }
-  | inr no_nearer ↦ elim (cases_lt one.dist other.dist) [
-    | inl ahead ↦ absurd (behind (inl ahead))
-    | inr no_farther ↦ elim (cases_lt other.cell.x one.cell.x) [
-      | inl left ↦ record { order = inr (omega arith, inl left) }
-      | inr right ↦ absurd (behind (inr (omega arith, right)))
-    ]
-  ]
-]
 
 -- one obstacle more, in a row that isn't before those that have been searched
 IsNearAmong-more : (distance : ℕ → ℕ → ℕ) (Obstacle IsSeen IsNext : ℕ → ℕ → Type 0)
@@ -128,40 +79,14 @@ IsNearAmong-more : (distance : ℕ → ℕ → ℕ) (Obstacle IsSeen IsNext : �
     → IsBetter best next better → IsNearAmong distance Obstacle IsSeen x y limit best
     → IsFound distance (λ a b. Obstacle a b × IsNext a b) x y better
 IsNearAmong-more distance Obstacle IsSeen IsNext x y limit None next better obstacle is_next dist
-    near there back rows is none = rw is (record {
-      obstacle = (obstacle, is_next);
-      distance_is = dist;
-      least = λ a b both. elim (back a b both.0 both.1) [
-        | inl seen ↦
-            let far = (none a b (both.0, seen)).not_below in record { order = inl (omega arith) }
-        | inr most ↦ most
-      ];
-    })
-IsNearAmong-more distance Obstacle IsSeen IsNext x y limit
-    (Some best) next better obstacle is_next dist near there back rows (inl kept) before =
-    let ahead = ahead_at_most distance x y best next before.distance_is dist
-    (rows best.cell.x best.cell.y before.obstacle.1) kept.1 in
-    rw (kept.0) (record {
-      obstacle = (before.obstacle.0, there best.cell.x best.cell.y before.obstacle.1);
-      distance_is = before.distance_is;
-      least = λ a b both. elim (back a b both.0 both.1) [
-        | inl seen ↦ before.least a b (both.0, seen)
-        | inr most ↦ IsAtMost-transitive (key_at distance x y best) (key_at distance x y next)
-            (key_of distance x y a b) ahead most
-      ];
-    })
-IsNearAmong-more distance Obstacle IsSeen IsNext x y limit
-    (Some best) next better obstacle is_next dist near there back rows (inr taken) before =
-    let ahead = behind_at_most distance x y best next before.distance_is dist taken.1 in
-    rw (taken.0) (record {
-      obstacle = (obstacle, is_next);
-      distance_is = dist;
-      least = λ a b both. elim (back a b both.0 both.1) [
-        | inl seen ↦ IsAtMost-transitive (key_at distance x y next) (key_at distance x y best)
-            (key_of distance x y a b) ahead (before.least a b (both.0, seen))
-        | inr most ↦ most
-      ];
-    })
+    near there back rows is none =
+    grind (arith, nat_tests, common_steps)
+IsNearAmong-more distance Obstacle IsSeen IsNext x y limit (Some best) next better obstacle is_next
+    dist near there back rows (inl kept) before =
+    grind (arith, nat_tests, common_steps)
+IsNearAmong-more distance Obstacle IsSeen IsNext x y limit (Some best) next better obstacle is_next
+    dist near there back rows (inr taken) before =
+    grind (arith, nat_tests, common_steps)
 
 -- what is nearer than the limit, by its distance
 nearer_of : (distance : ℕ → ℕ → ℕ) (columns gap dist limit : ℕ) → dist ≡ distance columns gap
@@ -172,19 +97,7 @@ nearer_of distance columns gap dist limit is less = rw is less
 row_at_most : (distance : ℕ → ℕ → ℕ) (x y a c row : ℕ)
     → distance_between distance x y a row ≤ distance_between distance x y c row → a ≤ c
     → IsAtMost (key_of distance x y a row) (key_of distance x y c row)
-row_at_most distance x y a c row nearer left =
-    elim (cases_lt (distance_between distance x y a row) (distance_between distance x y c row)) [
-      | inl less ↦ record { order = inl less }
-      | inr same ↦ record {
-        order = inr (
-          omega arith,
-          elim (cases_lt a c) [
-            | inl less ↦ inl less
-            | inr here ↦ inr (omega arith, inr (refl, omega arith))
-          ],
-        );
-      }
-    ]
+row_at_most distance x y a c row nearer left = grind (arith, nat_tests, common_steps)
 
 -- the first obstacle of the row from the cell's column on is the nearest of them
 pub IsNearAmong-right : (distance : ℕ → ℕ → ℕ) → StaysNearer distance
@@ -376,15 +289,7 @@ pub IsNearAmong-no_below : (distance : ℕ → ℕ → ℕ) (cells : Cells) (x y
     → IsNearAmong distance (IsObstacle cells) (IsWithinOrAbove y gap) x y limit best
     → IsNearAmong distance (IsObstacle cells) (IsWithin y (gap + 1)) x y limit best
 IsNearAmong-no_below distance cells x y gap limit best bitmap none =
-    IsNearAmong-same distance (IsObstacle cells) (IsWithinOrAbove y gap)
-    (IsWithin y (gap + 1)) x y limit best
-    (λ a b obstacle seen. elim seen [ inl nearer ↦ omega arith | inr here ↦ omega arith ])
-    (λ a b obstacle next.
-    let last = (obstacle_within cells bitmap a b obstacle).1 in
-    elim (cases_lt (abs_diff y b) gap) [
-      | inl seen ↦ inl seen
-      | inr here ↦ elim none [ inl zero_gap ↦ inr (omega arith) | inr past ↦ inr (omega arith) ]
-    ])
+    grind (arith, nat_tests, common_steps, IsNearAmong-same, obstacle_within)
 
 -- once rows are farther away than the best, the best is the nearest
 pub IsNear-beyond : (distance : ℕ → ℕ → ℕ) → Grows distance → StaysNearer distance
@@ -416,8 +321,7 @@ pub IsNear-all : (distance : ℕ → ℕ → ℕ) (cells : Cells) (x y gap limit
     → IsNearAmong distance (IsObstacle cells) (IsWithin y gap) x y limit best
     → IsFoundBelow distance (IsObstacle cells) x y limit best
 IsNear-all distance cells x y gap limit best bitmap row ended =
-    IsNearAmong-all distance (IsObstacle cells) (IsWithin y gap) x y limit best
-    (λ a b obstacle. let last = (obstacle_within cells bitmap a b obstacle).1 in omega arith)
+    grind (arith, nat_tests, common_steps, IsNearAmong-all, obstacle_within)
 
 -- the best of more obstacles is no farther
 pub limit_with-falls : (distance : ℕ → ℕ → ℕ) (Obstacle IsSeen IsNext : ℕ → ℕ → Type 0)
@@ -430,17 +334,10 @@ limit_with-falls distance Obstacle IsSeen IsNext x y limit None next there withi
     few
 limit_with-falls distance Obstacle IsSeen IsNext x y limit (Some best) None there within few before
     none =
-    let far = (none best.cell.x best.cell.y
-    (before.obstacle.0, there best.cell.x best.cell.y before.obstacle.1)).not_below in
-    let one = before.distance_is in
-    absurd (omega arith)
+    grind (arith, nat_tests, common_steps)
 limit_with-falls distance Obstacle IsSeen IsNext x y limit (Some best) (Some next) there within few
     before after =
-    let one = before.distance_is in
-    let other = after.distance_is in
-    elim (after.least best.cell.x best.cell.y
-    (before.obstacle.0, there best.cell.x best.cell.y before.obstacle.1)).order
-    [ inl less ↦ omega arith | inr same ↦ let equal = same.0 in omega arith ]
+    grind (arith, nat_tests, common_steps)
 
 -- the better one of the best and a nearer obstacle is within the limit
 pub limit_with-better : (limit : ℕ) (best : Option Found) (next better : Found)
@@ -455,33 +352,12 @@ limit_with-better limit (Some best) next better near within (inr taken) =
 
 -- rows that are skipped have no obstacle that could be nearer than the best
 pub IsNearAmong-live : (distance : ℕ → ℕ → ℕ) (cells : Cells) (x y gap next bands limit : ℕ)
-    (here : Rect) (best : Option Found) → IsBitmap cells → IsCellRect x y here → 0 < gap → gap ≤ next
+    (here : Rect) (best : Option Found) → IsBitmap cells → IsCellRect x y here → 0 < gap → gap ≤
+    next
     → IsNextGap (IsMarkedRow bands) y y gap next
     → AreBandsLive distance cells here gap (limit_with limit best) bands
     → IsNearAmong distance (IsObstacle cells) (IsWithin y gap) x y limit best
     → IsNearAmong distance (IsObstacle cells) (IsWithin y next) x y limit best
 IsNearAmong-live distance cells x y gap next bands limit here best bitmap rect some order is live
     before =
-    let left = rect.left in
-    let top = rect.top in
-    let right = rect.right in
-    let bottom = rect.bottom in
-    IsNearAmong-far distance (IsObstacle cells) (IsWithin y gap) (IsWithin y next) x y limit best
-    (λ a b obstacle seen. omega arith)
-    (λ a b obstacle near. elim (cases_lt (abs_diff y b) gap) [
-      | inl earlier ↦ inl earlier
-      | inr away ↦ elim (live a b obstacle (omega arith)) [
-        | inl marked ↦
-            let last = (obstacle_within cells bitmap a b obstacle).3 in
-            elim (cases_lt b y) [
-              | inl up ↦ let passed = is.above b marked (omega arith) in absurd (omega arith)
-              | inr down ↦ let passed = is.below b marked (omega arith) (omega arith) in
-                  absurd (omega arith)
-            ]
-        | inr far ↦
-            let across : column_gap here a ≡ abs_diff x a = omega arith in
-            let down : row_gap here b ≡ abs_diff y b = omega arith in
-            inr (rw (across, down) at far)
-      ]
-    ])
-    before
+    grind (arith, nat_tests, common_steps, IsNearAmong-far, obstacle_within)

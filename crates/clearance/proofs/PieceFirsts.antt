@@ -18,6 +18,8 @@ use Rattle.clearance.specs.Strips.{IsOnLine, IsFirstNear}
 use Rattle.clearance.specs.declared.strip.Strip.{Strip}
 use Rattle.clearance.proofs.Firsts.{IsFirstOrNone-at, IsLeastOf-first}
 use Rattle.clearance.proofs.Walks.{cell_of_step, length-cells_up_to, get_or-cells_up_to}
+use Rattle.std.proofs.lemmas.Grind.{common_steps}
+use Rattle.std.proofs.lemmas.Bool.Decides.{nat_tests}
 
 -- the strip of the cells from one point to another
 pub record IsPieceStrip (from to : Cell) (strip : Strip) : Type 0 where
@@ -34,34 +36,18 @@ line_at strip from to k is = (rw (is.from_is, is.to_is) refl, rw (is.from_is, is
 -- a cell of the piece is on the line of its step
 piece-line : (strip : Strip) (from to : Cell) (k : ℕ) → IsPieceStrip from to strip
     → IsOnLine strip (1 + k) (cell_of_step from to k).x (cell_of_step from to k).y
-piece-line strip from to k is =
-    let at = line_at strip from to (1 + k) is in
-    let column = at.0 in
-    let row = at.1 in
-    let across = is.across in
-    record {
-      left = rw column (omega arith);
-      right = rw (column, across) (omega arith);
-      row = rw row refl;
-    }
+piece-line strip from to k is = grind (arith, nat_tests, common_steps)
 
 -- a line of the strip of a piece has no cell but that of its step
 line-piece : (strip : Strip) (from to : Cell) (k x y : ℕ) → IsPieceStrip from to strip
     → IsOnLine strip k x y → (towards from.x to.x k ≡ x) × (towards from.y to.y k ≡ y)
-line-piece strip from to k x y is on_line =
-    let at = line_at strip from to k is in
-    let left = rw (at.0) at on_line.left in
-    let right = rw (at.0, is.across) at on_line.right in
-    let row = rw (at.1) at on_line.row in
-    (omega arith, sym row)
+line-piece strip from to k x y is on_line = grind (arith, nat_tests, common_steps)
 
 -- a cell of the piece's list, as the end of a step
 cell_at : (from to : Cell) (i : ℕ) → i < length (cells_up_to from to) → (i < cell_count from to)
     × (cell_of_list (cells_up_to from to) i ≡ cell_of_step from to i)
 cell_at from to i within =
-    let size = length-cells_up_to from to in
-    let step : i < cell_count from to = rw size at within in
-    (step, get_or-cells_up_to from to i step)
+    grind (arith, nat_tests, common_steps, get_or-cells_up_to, length-cells_up_to)
 
 -- the least over the piece's lines is the least over its cells
 pub IsLeastOver-piece : (distance : ℕ → ℕ → ℕ) (Obstacle : ℤ → ℤ → Type 0) (from to : Cell)
@@ -91,7 +77,8 @@ IsLeastOver-piece distance Obstacle from to strip rect limit least count all onl
           let cell = cell_at from to (k - 1) within in
           let next : k ≡ 1 + (k - 1) = omega arith in
           let here : cell_of_list (cells_up_to from to) (k - 1)
-          ≡ record { x = reached.x; y = reached.y } = cell.1 ∙ rw (← next) (rw (at.0, at.1) refl) in (
+          ≡ record { x = reached.x; y = reached.y } = cell.1 ∙ rw (← next) (rw (at.0, at.1) refl)
+          in (
             k - 1,
             within,
             reached.a,
@@ -109,12 +96,7 @@ pub IsFirstOrNone-far : (distance : ℕ → ℕ → ℕ) (Obstacle : ℤ → ℤ
     → lines.first ≡ 1 → IsPieceStrip from to lines.strip → count ≡ cell_count from to
     → IsFirstOrNone distance Obstacle (cells_up_to from to) lines.limit None
 IsFirstOrNone-far distance Obstacle from to lines count step is none first piece count_is =
-    λ i a b within obstacle.
-    let cell = cell_at from to i within in
-    let few = cell.0 in
-    let far = is.before (1 + i) (omega arith) (omega arith) (cell_of_step from to i).x
-    (cell_of_step from to i).y a b (piece-line lines.strip from to i piece) obstacle in
-    subst (λ (c : Cell). lines.limit ≤ spot_distance distance c.x c.y a b) (sym cell.1) far
+    grind (arith, nat_tests, common_steps, cell_at, cell_of_step, piece-line)
 
 -- the cell of the first line that is near is near
 pub IsCellNear-piece : (distance : ℕ → ℕ → ℕ) (Obstacle : ℤ → ℤ → Type 0) (from to : Cell)
@@ -123,20 +105,7 @@ pub IsCellNear-piece : (distance : ℕ → ℕ → ℕ) (Obstacle : ℤ → ℤ 
     → cell.x ≡ towards strip.from.x strip.to.x step → cell.y ≡ towards strip.from.y strip.to.y step
     → IsCellNear distance Obstacle limit cell.x cell.y
 IsCellNear-piece distance Obstacle from to strip limit count step cell first is x_is y_is =
-    let at = line_at strip from to step is in
-    let x : towards from.x to.x step ≡ cell.x = sym (x_is ∙ at.0) in
-    let y : towards from.y to.y step ≡ cell.y = sym (y_is ∙ at.1) in
-    let on = line-piece strip from to step first.near.x first.near.y is first.near.on_line in
-    let near_x : first.near.x ≡ cell.x = sym on.0 ∙ x in
-    let near_y : first.near.y ≡ cell.y = sym on.1 ∙ y in
-    subst (λ (n : ℕ). IsCellNear distance Obstacle limit n cell.y) near_x
-    (subst (λ (n : ℕ). IsCellNear distance Obstacle limit first.near.x n) near_y
-    (record {
-      a = first.near.a;
-      b = first.near.b;
-      obstacle = first.near.obstacle;
-      nearer = first.near.nearer;
-    }))
+    grind (arith, nat_tests, common_steps)
 
 -- the first line is the first cell
 pub IsFirstOrNone-piece : (distance : ℕ → ℕ → ℕ) (Obstacle : ℤ → ℤ → Type 0) (from to : Cell)

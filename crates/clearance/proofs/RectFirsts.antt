@@ -1,15 +1,13 @@
 -- The first cell of a rectangle that has an obstacle near, by its row and its column.
 use Rattle.std.proofs.Common.{◌≡◌, ℕ, ℤ, ◌+◌, ◌-◌, ◌*◌, ◌/◌, ◌%◌, ◌^◌, ◌<◌, ◌≤◌, ◌⊎◌, inl, inr}
 use Rattle.std.proofs.Common.{Option, refl, sym, subst, ◌∙◌, arith}
-use Rattle.std.proofs.Math.Nat.{div-lt_iff_lt-mul, mul-le-mul_left}
-use Rattle.std.proofs.lemmas.Bool.{cases_lt}
+use Rattle.std.proofs.Math.Nat.{div-lt_iff_lt-mul}
 use Rattle.std.proofs.lemmas.Bool.Decides.{nat_tests}
 use Rattle.metric.specs.declared.cell.Cell.{Cell}
 use Rattle.metric.specs.declared.near.Near.{Near}
 use Rattle.metric.specs.declared.rect.Rect.{Rect}
 use Rattle.metric.specs.Nearest.{spot_distance}
 use Rattle.clearance.specs.Answers.{cells_of_rect, IsLeastOf}
-use Rattle.clearance.specs.Paths.{towards}
 use Rattle.clearance.specs.Search.{IsInRect, IsLeastBelow}
 use Rattle.clearance.specs.Firsts.{IsCellNear, IsCellFar, IsRectNear, IsFirstRow, IsFirstColumn}
 use Rattle.clearance.specs.Firsts.{IsCellWithNear, cell_of_list, IsFirstOrNone}
@@ -17,14 +15,7 @@ use Rattle.clearance.specs.Strips.{IsOnLine, IsSomeNear, IsFirstNear}
 use Rattle.clearance.specs.declared.strip.Strip.{Strip}
 use Rattle.clearance.proofs.Firsts.{IsFirstOrNone-at, IsLeastOf-first}
 use Rattle.clearance.proofs.Rectangles.{length-cells_of_rect, get_or-cells_of_rect, place_within}
-
--- steps that stay before the end lead as far as they are many
-towards-within : (from to k : ℕ) → from + k ≤ to → towards from to k ≡ from + k
-towards-within from to k within = grind (arith, nat_tests)
-
--- steps from a coordinate to itself end at it
-towards-here : (n k : ℕ) → towards n n k ≡ n
-towards-here n k = grind (arith, nat_tests)
+use Rattle.std.proofs.lemmas.Grind.{common_steps}
 
 -- the strip of a rectangle's rows
 pub record IsRowsStrip (rect : Rect) (strip : Strip) : Type 0 where
@@ -34,47 +25,15 @@ pub record IsRowsStrip (rect : Rect) (strip : Strip) : Type 0 where
   pub to_y : strip.to.y ≡ rect.y1 - 1
   pub across : strip.across ≡ rect.x1 - rect.x0
 
--- a line of the strip of rows begins at the first column of its row
-rows-at : (rect : Rect) (strip : Strip) (k : ℕ) → IsRowsStrip rect strip → rect.y0 + k < rect.y1
-    → (towards strip.from.x strip.to.x k ≡ rect.x0)
-    × (towards strip.from.y strip.to.y k ≡ rect.y0 + k)
-rows-at rect strip k is within =
-    let column : towards strip.from.x strip.to.x k ≡ towards rect.x0 rect.x0 k =
-    rw (is.from_x, is.to_x) refl in
-    let row : towards strip.from.y strip.to.y k ≡ towards rect.y0 (rect.y1 - 1) k =
-    rw (is.from_y, is.to_y) refl in
-    (column ∙ towards-here rect.x0 k, row ∙ towards-within rect.y0 (rect.y1 - 1) k (omega arith))
-
 -- a cell of the rectangle is on the line of its row
 rows-line : (rect : Rect) (strip : Strip) (x y : ℕ) → IsRowsStrip rect strip → IsInRect rect x y
     → IsOnLine strip (y - rect.y0) x y
-rows-line rect strip x y is cell =
-    let left = cell.left in
-    let right = cell.right in
-    let top = cell.top in
-    let bottom = cell.bottom in
-    let at = rows-at rect strip (y - rect.y0) is (omega arith) in
-    let column = at.0 in
-    let row = at.1 in
-    let across = is.across in
-    record {
-      left = rw column left;
-      right = rw (column, across) (omega arith);
-      row = rw row (omega arith);
-    }
+rows-line rect strip x y is cell = grind (arith, nat_tests, common_steps)
 
 -- a cell of a line of the strip of rows is one of its row in the rectangle
 line-rows : (rect : Rect) (strip : Strip) (k x y : ℕ) → IsRowsStrip rect strip
     → rect.y0 + k < rect.y1 → IsOnLine strip k x y → IsInRect rect x y × (y ≡ rect.y0 + k)
-line-rows rect strip k x y is within on_line =
-    let at = rows-at rect strip k is within in
-    let left = rw (at.0) at on_line.left in
-    let right = rw (at.0, is.across) at on_line.right in
-    let row = rw (at.1) at on_line.row in
-    let columns = rect.has_cells.columns in (
-      record { left = omega arith; right = omega arith; top = omega arith; bottom = omega arith },
-      row,
-    )
+line-rows rect strip k x y is within on_line = grind (arith, nat_tests, common_steps)
 
 -- of the rows some has an obstacle near
 pub IsSomeNear-rows : (distance : ℕ → ℕ → ℕ) (Obstacle : ℤ → ℤ → Type 0) (rect : Rect)
@@ -133,39 +92,15 @@ pub record IsColumnsStrip (rect : Rect) (y : ℕ) (strip : Strip) : Type 0 where
   pub to_y : strip.to.y ≡ y
   pub across : strip.across ≡ 1
 
--- a line of the strip of columns begins at its column of the row
-columns-at : (rect : Rect) (strip : Strip) (y k : ℕ) → IsColumnsStrip rect y strip
-    → rect.x0 + k < rect.x1
-    → (towards strip.from.x strip.to.x k ≡ rect.x0 + k) × (towards strip.from.y strip.to.y k ≡ y)
-columns-at rect strip y k is within =
-    let column : towards strip.from.x strip.to.x k ≡ towards rect.x0 (rect.x1 - 1) k =
-    rw (is.from_x, is.to_x) refl in
-    let row : towards strip.from.y strip.to.y k ≡ towards y y k = rw (is.from_y, is.to_y) refl in
-    (column ∙ towards-within rect.x0 (rect.x1 - 1) k (omega arith), row ∙ towards-here y k)
-
 -- a cell of the row is on the line of its column
 columns-line : (rect : Rect) (strip : Strip) (x y : ℕ) → IsColumnsStrip rect y strip → rect.x0 ≤ x
     → x < rect.x1 → IsOnLine strip (x - rect.x0) x y
-columns-line rect strip x y is left right =
-    let at = columns-at rect strip y (x - rect.x0) is (omega arith) in
-    let column = at.0 in
-    let row = at.1 in
-    let across = is.across in
-    record {
-      left = rw column (omega arith);
-      right = rw (column, across) (omega arith);
-      row = rw row refl;
-    }
+columns-line rect strip x y is left right = grind (arith, nat_tests, common_steps)
 
 -- a line of the strip of columns has no cell but that of its column
 line-columns : (rect : Rect) (strip : Strip) (k x b y : ℕ) → IsColumnsStrip rect y strip
     → rect.x0 + k < rect.x1 → IsOnLine strip k x b → (x ≡ rect.x0 + k) × (b ≡ y)
-line-columns rect strip k x b y is within on_line =
-    let at = columns-at rect strip y k is within in
-    let left = rw (at.0) at on_line.left in
-    let right = rw (at.0, is.across) at on_line.right in
-    let row = rw (at.1) at on_line.row in
-    (omega arith, row)
+line-columns rect strip k x b y is within on_line = grind (arith, nat_tests, common_steps)
 
 -- of the row's cells some has an obstacle near
 pub IsSomeNear-columns : (distance : ℕ → ℕ → ℕ) (Obstacle : ℤ → ℤ → Type 0) (rect : Rect)
@@ -248,20 +183,7 @@ cell_of_place rect row column below right =
 -- an earlier place lies in an earlier row, or in that row and in an earlier column
 earlier_place : (width row column i : ℕ) → 0 < width → column < width → i < row * width + column
     → (i / width < row) ⊎ ((i / width ≡ row) × (i % width < column))
-earlier_place width row column i some within earlier = elim (cases_lt (i / width) row) [
-  | inl above ↦ inl above
-  | inr no_above ↦
-      let place : width * (i / width) + i % width ≡ i = omega (arith, some) in
-      elim (cases_lt row (i / width)) [
-        | inl beyond ↦ let more : width * (row + 1) ≤ width * (i / width) =
-            mul-le-mul_left width (omega arith) in
-            absurd (omega (arith, more, place, earlier, within))
-        | inr same ↦
-            let equal : i / width ≡ row = omega arith in
-            let here : width * row + i % width ≡ i = rw equal at place in
-            inr (equal, omega (arith, here, earlier))
-      ]
-]
+earlier_place width row column i some within earlier = grind (arith, nat_tests, common_steps)
 
 -- the cell of an earlier place is far
 far_place : (distance : ℕ → ℕ → ℕ) (Obstacle : ℤ → ℤ → Type 0) (rect : Rect)
@@ -270,10 +192,9 @@ far_place : (distance : ℕ → ℕ → ℕ) (Obstacle : ℤ → ℤ → Type 0)
     → row < rect.y1 - rect.y0 → column < rect.x1 - rect.x0 → (row < y - rect.y0)
     ⊎ ((row ≡ y - rect.y0) × (column < x - rect.x0))
     → IsCellFar distance Obstacle limit (rect.x0 + column) (rect.y0 + row)
-far_place distance Obstacle rect limit x y row column first_row first_column below right
-    (inl upper) =
-    first_row.above (rect.x0 + column) (rect.y0 + row) (cell_of_place rect row column below right)
-    (omega arith)
+far_place distance Obstacle rect limit x y row column first_row first_column below right (inl
+    upper) =
+    grind (arith, nat_tests, common_steps)
 far_place distance Obstacle rect limit x y row column first_row first_column below right
     (inr here) =
     let same = here.0 in
@@ -319,20 +240,7 @@ IsFirstOrNone-rect distance Obstacle rect limit x y found row column with =
 pub IsRectNear-least : (distance : ℕ → ℕ → ℕ) (Obstacle : ℤ → ℤ → Type 0) (rect : Rect)
     (limit least : ℕ) → IsLeastBelow distance Obstacle rect limit least → least < limit
     → IsRectNear distance Obstacle rect (least + 1)
-IsRectNear-least distance Obstacle rect limit least is less =
-    let reached = is.reached less in
-    let dist = reached.distance_is in
-    record {
-      x = reached.x;
-      y = reached.y;
-      cell = reached.cell;
-      near = record {
-        a = reached.a;
-        b = reached.b;
-        obstacle = reached.obstacle;
-        nearer = omega arith;
-      };
-    }
+IsRectNear-least distance Obstacle rect limit least is less = grind (arith, nat_tests, common_steps)
 
 -- where it isn't, there is no obstacle
 pub IsLeastBelow-none : (distance : ℕ → ℕ → ℕ) (Obstacle : ℤ → ℤ → Type 0) (rect : Rect)

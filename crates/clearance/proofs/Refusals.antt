@@ -1,26 +1,16 @@
 -- Which paths aren't refused.
-use Rattle.std.proofs.Common.{◌≡◌, ℕ, zero, suc, ◌+◌, ◌<◌, ◌≤◌, ◌⊎◌, inl, Bool, true, false, ◌||◌}
+use Rattle.std.proofs.Common.{◌≡◌, ℕ, suc, ◌+◌, ◌<◌, ◌≤◌, ◌⊎◌, Bool, true, false, ◌||◌}
 use Rattle.std.proofs.Common.{List, [], ◌∷◌, length, get_or, drop, Option, Some, None, refl, ap}
-use Rattle.std.proofs.Common.{◌∙◌, arith, eqb, leb, ltb, cond}
+use Rattle.std.proofs.Common.{arith, eqb, cond}
 use Rattle.std.specs.Option.{option_map}
-use Rattle.std.specs.List.{list_any}
 use Rattle.std.proofs.lemmas.Bool.Decides.{nat_tests}
-use Rattle.std.proofs.lemmas.List.{drop_more, drop_all}
+use Rattle.std.proofs.lemmas.List.{drop_all}
 use Rattle.metric.specs.declared.cell.Cell.{Cell}
-use Rattle.metric.specs.declared.refusal.Refusal.TheVariants.{BadPath, OutOfRange, Crooked}
 use Rattle.bits.specs.Cells.{Cells, IsInside}
-use Rattle.clearance.specs.Paths.{is_outside, first_crooked, crooked_point, path_refusal}
+use Rattle.clearance.specs.Paths.{first_crooked, crooked_point, path_refusal}
 use Rattle.clearance.specs.Segments.{IsStraight, IsWalk}
 use Rattle.clearance.specs.Firsts.{origin}
-use Rattle.std.proofs.lemmas.Bool.{or_parts}
-
--- the test of a point is true where it lies in the row or the column of another
-straight_test : (a b c d : ℕ) → (a ≡ b) ⊎ (c ≡ d) → (eqb a b || eqb c d) ≡ true
-straight_test a b c d straight = grind (arith, nat_tests)
-
--- the test of a point that is in neither
-crooked_test : (a b c d : ℕ) → (a ≡ b → ⊥) → (c ≡ d → ⊥) → (eqb a b || eqb c d) ≡ false
-crooked_test a b c d column row = grind (arith, nat_tests)
+use Rattle.std.proofs.lemmas.Grind.{common_steps}
 
 -- a path has its first crooked point after its first point
 pub crooked_point-start : (points : List Cell)
@@ -33,33 +23,19 @@ pub first_crooked-straight : (points : List Cell) (i : ℕ) (before : Cell) → 
     → IsStraight before (get_or points i origin)
     → first_crooked i before (drop i points) ≡ first_crooked (i + 1) (get_or points i origin)
     (drop (i + 1) points)
-first_crooked-straight points i before within straight =
-    let test = straight_test (get_or points i origin).x before.x
-    (get_or points i origin).y before.y straight in
-    ap (λ (l : List Cell). first_crooked i before l) (drop_more points i origin within)
-    ∙ rw test refl
+first_crooked-straight points i before within straight = grind (arith, nat_tests, common_steps)
 
 -- a crooked point is the first
 pub first_crooked-crooked : (points : List Cell) (i : ℕ) (before : Cell) → i < length points
     → ((get_or points i origin).x ≡ before.x → ⊥) → ((get_or points i origin).y ≡ before.y → ⊥)
     → first_crooked i before (drop i points) ≡ Some i
-first_crooked-crooked points i before within column row =
-    let test = crooked_test (get_or points i origin).x before.x
-    (get_or points i origin).y before.y column row in
-    ap (λ (l : List Cell). first_crooked i before l) (drop_more points i origin within)
-    ∙ rw test refl
+first_crooked-crooked points i before within column row = grind (arith, nat_tests, common_steps)
 
 -- past the last point there is none
 pub first_crooked-all : (points : List Cell) (i : ℕ) (before : Cell) → length points ≤ i
     → first_crooked i before (drop i points) ≡ None
 first_crooked-all points i before ended =
     ap (λ (l : List Cell). first_crooked i before l) (drop_all i points ended)
-
--- where a first choice that is some refusal isn't taken, the other one is
-no_choice : {A : Type 0} (test : Bool) (first : A) (other : Option A)
-    → cond test (Some first) other ≡ None → (test ≡ false) × (other ≡ None)
-no_choice true first other none = absurd (cc)
-no_choice false first other none = (refl, none)
 
 -- where the other choice is some, the first is taken
 choice_taken : {A : Type 0} (test : Bool) (other : Option A) (last : A)
@@ -80,44 +56,10 @@ pub record IsPath (cells : Cells) (points : List Cell) : Type 0 where
       → IsInside cells (get_or points j origin).x (get_or points j origin).y
   pub straight : crooked_point points ≡ None
 
--- numbers that pass neither test
-few_points : (n : ℕ) → (eqb n 0 || ltb 1000 n) ≡ false → (0 < n) × (n ≤ 1000)
-few_points n test = (grind (arith, nat_tests), grind (arith, nat_tests))
-
--- a cell that isn't outside is inside
-inside_from : (cells : Cells) (cell : Cell)
-    → (leb cells.width cell.x || leb cells.height cell.y) ≡ false → IsInside cells cell.x cell.y
-inside_from cells cell test =
-    record { column = grind (arith, nat_tests); row = grind (arith, nat_tests) }
-
--- of points of which none is outside, each is inside
-all_inside : (cells : Cells) (points : List Cell) → list_any (is_outside cells) points ≡ false
-    → (j : ℕ) → j < length points
-    → IsInside cells (get_or points j origin).x (get_or points j origin).y
-all_inside cells [] none j within = absurd (omega arith)
-all_inside cells (point ∷ points) none zero within =
-    inside_from cells point (or_parts (is_outside cells point)
-    (list_any (is_outside cells) points) none).0
-all_inside cells (point ∷ points) none (suc j) within =
-    all_inside cells points (or_parts (is_outside cells point)
-    (list_any (is_outside cells) points) none).1 j (omega arith)
-
 -- a path for which there is no refusal
 pub IsPath-from : (cells : Cells) (points : List Cell) → path_refusal cells points ≡ None
     → IsPath cells points
-IsPath-from cells points none =
-    let p = no_choice (eqb (length points) 0 || ltb 1000 (length points)) BadPath
-    (cond (list_any (is_outside cells) points) (Some OutOfRange)
-    (option_map Crooked (crooked_point points))) none in
-    let q = no_choice (list_any (is_outside cells) points) OutOfRange
-    (option_map Crooked (crooked_point points)) p.1 in
-    let size = few_points (length points) p.0 in
-    record {
-      some = size.0;
-      few = size.1;
-      inside = all_inside cells points q.0;
-      straight = map_none Crooked (crooked_point points) q.1;
-    }
+IsPath-from cells points none = grind (arith, nat_tests, common_steps)
 
 -- a test of a point in the row or column of another, which holds
 straight_from : (a b c d : ℕ) → (eqb a b || eqb c d) ≡ true → (a ≡ b) ⊎ (c ≡ d)
@@ -145,10 +87,4 @@ pub IsWalk-path : (cells : Cells) (points : List Cell) → path_refusal cells po
 IsWalk-path cells [] none =
     absurd (let path = IsPath-from cells [] none in let some = path.some in omega arith)
 IsWalk-path cells (first ∷ points) none =
-    let path = IsPath-from cells (first ∷ points) none in
-    let here = path.inside 0 path.some in (
-      here,
-      inl refl,
-      walk_from cells 1 first points path.straight here
-          (λ j within. path.inside (suc j) (omega arith)),
-    )
+    grind (arith, nat_tests, common_steps, IsPath-from, walk_from)

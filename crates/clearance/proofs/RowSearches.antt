@@ -1,13 +1,13 @@
 -- How far a row has been searched for marks, word by word to the right and to the left.
-use Rattle.std.proofs.Common.{◌≡◌, ℕ, ◌+◌, ◌-◌, ◌*◌, ◌/◌, ◌%◌, ◌<◌, ◌≤◌, inl, inr, List, length}
-use Rattle.std.proofs.Common.{get_or, Option, Some, None, sym, subst, ◌∙◌, arith}
+use Rattle.std.proofs.Common.{◌≡◌, ℕ, ◌+◌, ◌-◌, ◌*◌, ◌/◌, ◌<◌, ◌≤◌, inl, inr, List, length}
+use Rattle.std.proofs.Common.{get_or, Option, Some, None, arith}
 use Rattle.std.specs.Int.{bit_at}
 use Rattle.std.proofs.lemmas.Bool.{cases_lt}
-use Rattle.std.proofs.lemmas.List.{get_or_past}
-use Rattle.std.proofs.lemmas.Nat.Bits.{bit_at-zero}
 use Rattle.metric.specs.Crossing.{StaysNearer}
 use Rattle.metric.proofs.Growing.{of_grows_with_dx}
 use Rattle.clearance.specs.Rows.{IsMarked, IsFar, IsWhereNearer, IsNextNearer, IsLastNearer}
+use Rattle.std.proofs.lemmas.Grind.{common_steps}
+use Rattle.std.proofs.lemmas.Bool.Decides.{nat_tests}
 
 -- no column from the first to before the last has a mark
 pub record AreUnmarked (words : List ℕ) (start end : ℕ) : Type 0 where
@@ -18,75 +18,35 @@ pub AreUnmarked-none : (words : List ℕ) (start end : ℕ) → end ≤ start �
 AreUnmarked-none words start end empty =
     record { none = λ x from before marked. absurd (omega arith) }
 
--- the bit of a word that stands for a column
-mark_bit : (words : List ℕ) (k x : ℕ) → 64 * k ≤ x → x < 64 * (k + 1) → IsMarked words x
-    → bit_at (get_or words k 0) (x % 64) ≡ 1
-mark_bit words k x low high marked =
-    let word : x / 64 ≡ k = omega arith in
-    subst (λ (n : ℕ). bit_at (get_or words n 0) (x % 64) ≡ 1) word marked
-
--- a bit of a word is a mark
-bit_mark : (words : List ℕ) (k i : ℕ) → i < 64 → bit_at (get_or words k 0) i ≡ 1
-    → IsMarked words (64 * k + i)
-bit_mark words k i within is =
-    let word : k ≡ (64 * k + i) / 64 = omega arith in
-    let place : i ≡ (64 * k + i) % 64 = omega arith in
-    subst (λ (n : ℕ). bit_at (get_or words n 0) ((64 * k + i) % 64) ≡ 1) word
-    (subst (λ (n : ℕ). bit_at (get_or words k 0) n ≡ 1) place is)
-
 -- past the words nothing is marked
 pub unmarked_past : (words : List ℕ) (x : ℕ) → 64 * length words ≤ x → IsMarked words x → ⊥
-unmarked_past words x past marked =
-    let zero_word : get_or words (x / 64) 0 ≡ 0 = get_or_past words (x / 64) 0 (omega arith) in
-    let bit : bit_at 0 (x % 64) ≡ 1 = subst (λ (n : ℕ). bit_at n (x % 64) ≡ 1) zero_word marked in
-    let none = bit_at-zero (x % 64) in
-    absurd (omega arith)
+unmarked_past words x past marked = grind (arith, nat_tests, common_steps)
 
 -- a mark lies in the widest row
 pub mark_within : (words : List ℕ) (x : ℕ) → length words ≤ 64 → IsMarked words x → x ≤ 4095
-mark_within words x few marked = elim (cases_lt x (64 * length words)) [
-  | inl within ↦ omega arith
-  | inr past ↦ absurd (unmarked_past words x past marked)
-]
+mark_within words x few marked = grind (arith, nat_tests, common_steps)
 
 -- tiles that are skipped to the right have no mark
 pub unmarked_tiles : (words : List ℕ) (start from next tiles : ℕ)
     → ((x : ℕ) → IsMarked words x → bit_at tiles (x / 64) ≡ 1)
     → ((k : ℕ) → from ≤ k → k < next → bit_at tiles k ≡ 1 → ⊥)
     → AreUnmarked words start (64 * from) → AreUnmarked words start (64 * next)
-unmarked_tiles words start from next tiles tiled none before = record {
-  none = λ x first end marked. elim (cases_lt x (64 * from)) [
-    | inl earlier ↦ before.none x first earlier marked
-    | inr later ↦ none (x / 64) (omega arith) (omega arith) (tiled x marked)
-  ];
-}
+unmarked_tiles words start from next tiles tiled none before =
+    grind (arith, nat_tests, common_steps)
 
 -- tiles that are skipped to the left have no mark
 pub unmarked_tiles_below : (words : List ℕ) (after end last tiles : ℕ)
     → ((x : ℕ) → IsMarked words x → bit_at tiles (x / 64) ≡ 1)
     → ((k : ℕ) → after ≤ k → k < end → bit_at tiles k ≡ 1 → ⊥)
     → AreUnmarked words (64 * end) last → AreUnmarked words (64 * after) last
-unmarked_tiles_below words after end last tiles tiled none before = record {
-  none = λ x first within marked. elim (cases_lt x (64 * end)) [
-    | inl earlier ↦ none (x / 64) (omega arith) (omega arith) (tiled x marked)
-    | inr later ↦ before.none x later within marked
-  ];
-}
+unmarked_tiles_below words after end last tiles tiled none before =
+    grind (arith, nat_tests, common_steps)
 
 -- a word of which a part is zero has no mark there, to its end
 pub unmarked_word : (words : List ℕ) (start k place front : ℕ)
     → ((i : ℕ) → place ≤ i → i < 64 → bit_at front i ≡ bit_at (get_or words k 0) i) → front ≡ 0
     → AreUnmarked words start (64 * k + place) → AreUnmarked words start (64 * (k + 1))
-unmarked_word words start k place front kept blank before = record {
-  none = λ x from end marked. elim (cases_lt x (64 * k + place)) [
-    | inl earlier ↦ before.none x from earlier marked
-    | inr later ↦
-        let bit = mark_bit words k x (omega arith) end marked in
-        let same = kept (x % 64) (omega arith) (omega arith) in
-        let none : bit_at front (x % 64) ≡ 0 = rw blank (bit_at-zero (x % 64)) in
-        absurd (omega arith)
-  ];
-}
+unmarked_word words start k place front kept blank before = grind (arith, nat_tests, common_steps)
 
 -- the first mark from a column on
 pub record IsFirst (words : List ℕ) (start column : ℕ) : Type 0 where
@@ -103,20 +63,7 @@ pub first_in_word : (words : List ℕ) (start k place front p column : ℕ)
     → IsFirst words start column
 first_in_word words start k place front p column kept cleared begin before within here none_below
     is =
-    let from : place ≤ p = elim (cases_lt p place)
-    [ inl low ↦ (let no = cleared p low in absurd (omega arith)) | inr high ↦ high ] in
-    record {
-      order = omega arith;
-      marked = rw is (bit_mark words k p within (sym (kept p from within) ∙ here));
-      first = λ x after earlier marked. elim (cases_lt x (64 * k + place)) [
-        | inl early ↦ before.none x after early marked
-        | inr late ↦
-            let bit = mark_bit words k x (omega arith) (omega arith) marked in
-            let same = kept (x % 64) (omega arith) (omega arith) in
-            let none = none_below (x % 64) (omega arith) in
-            absurd (omega arith)
-      ];
-    }
+    grind (arith, nat_tests, common_steps)
 
 -- the first mark is the answer, where it's near enough
 pub IsNextNearer-first : (distance : ℕ → ℕ → ℕ) → StaysNearer distance
@@ -135,12 +82,7 @@ IsNextNearer-first distance stays words start edge gap limit column None few row
           record { not_below = let low = far.not_below in omega arith; is_limit = far.is_limit }
     ]
 IsNextNearer-first distance stays words start edge gap limit column (Some found) few row is near =
-    record {
-      order = let order = is.order in let same = near.0 in omega arith;
-      marked = rw (near.0) is.marked;
-      first = λ x from before. is.first x from (let same = near.0 in omega arith);
-      nearer = rw (near.0) near.1;
-    }
+    grind (arith, nat_tests, common_steps)
 
 -- where the columns before one have no mark and that is far, so are all marks
 pub IsNextNearer-far : (distance : ℕ → ℕ → ℕ) → StaysNearer distance
@@ -163,26 +105,15 @@ IsNextNearer-far distance stays words start edge gap limit column few row before
 pub IsNextNearer-none : (distance : ℕ → ℕ → ℕ) (words : List ℕ) (start edge gap limit end : ℕ)
     → 64 * length words ≤ end → AreUnmarked words start end
     → IsNextNearer distance words start edge gap limit None
-IsNextNearer-none distance words start edge gap limit end all before = λ x from marked.
-    elim (cases_lt x end) [
-      | inl within ↦ absurd (before.none x from within marked)
-      | inr past ↦ absurd (unmarked_past words x (omega arith) marked)
-    ]
+IsNextNearer-none distance words start edge gap limit end all before =
+    grind (arith, nat_tests, common_steps)
 
 -- a word of which a part is zero has no mark there, from its beginning on
 pub unmarked_word_below : (words : List ℕ) (end k place back : ℕ) → place ≤ 64
     → ((i : ℕ) → i < place → bit_at back i ≡ bit_at (get_or words k 0) i) → back ≡ 0
     → AreUnmarked words (64 * k + place) end → AreUnmarked words (64 * k) end
-unmarked_word_below words end k place back few kept blank after = record {
-  none = λ x from before marked. elim (cases_lt x (64 * k + place)) [
-    | inl early ↦
-        let bit = mark_bit words k x from (omega arith) marked in
-        let same = kept (x % 64) (omega arith) in
-        let none : bit_at back (x % 64) ≡ 0 = rw blank (bit_at-zero (x % 64)) in
-        absurd (omega arith)
-    | inr late ↦ after.none x late before marked
-  ];
-}
+unmarked_word_below words end k place back few kept blank after =
+    grind (arith, nat_tests, common_steps)
 
 -- the last mark before a column
 pub record IsLast (words : List ℕ) (end column : ℕ) : Type 0 where
@@ -199,20 +130,7 @@ pub last_in_word : (words : List ℕ) (end k place back p column : ℕ) → plac
     → IsLast words end column
 last_in_word words end k place back p column few kept cleared finish after within here none_above
     is =
-    let below : p < place = elim (cases_lt p place)
-    [ inl low ↦ low | inr high ↦ (let no = cleared p high within in absurd (omega arith)) ] in
-    record {
-      order = omega arith;
-      marked = rw is (bit_mark words k p within (sym (kept p below) ∙ here));
-      last = λ x behind before marked. elim (cases_lt x (64 * k + place)) [
-        | inl early ↦
-            let bit = mark_bit words k x (omega arith) (omega arith) marked in
-            let same = kept (x % 64) (omega arith) in
-            let none = none_above (x % 64) (omega arith) in
-            absurd (omega arith)
-        | inr late ↦ after.none x late before marked
-      ];
-    }
+    grind (arith, nat_tests, common_steps)
 
 -- the last mark is the answer, where it's near enough
 pub IsLastNearer-last : (distance : ℕ → ℕ → ℕ) → StaysNearer distance
@@ -230,12 +148,7 @@ IsLastNearer-last distance stays words end edge gap limit column None within row
           record { not_below = let low = far.not_below in omega arith; is_limit = far.is_limit }
     ]
 IsLastNearer-last distance stays words end edge gap limit column (Some found) within row is near =
-    record {
-      order = let order = is.order in let same = near.0 in omega arith;
-      marked = rw (near.0) is.marked;
-      last = λ x behind before. is.last x (let same = near.0 in omega arith) before;
-      nearer = rw (near.0) near.1;
-    }
+    grind (arith, nat_tests, common_steps)
 
 -- where the columns from one on have no mark and the one before it is far, so are all marks
 pub IsLastNearer-far : (distance : ℕ → ℕ → ℕ) → StaysNearer distance

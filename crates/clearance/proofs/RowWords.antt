@@ -10,30 +10,26 @@ use Rattle.bits.specs.Words.{words_across, IsRowOf}
 use Rattle.bits.specs.Tiles.{word_where, row_word}
 use Rattle.bits.proofs.TileLemmas.{bit_at-word_where, word_where-lt}
 use Rattle.clearance.specs.Rows.{words_of_row, IsBlankRow}
+use Rattle.std.proofs.Common.{rules}
+use Rattle.std.proofs.lemmas.Grind.{common_steps}
+use Rattle.std.proofs.lemmas.Bool.Decides.{nat_tests}
 
 -- a row has as many words as its width takes
 pub length-words_of_row : (cells : Cells) (y : ℕ)
     → length (words_of_row cells y) ≡ words_across cells.width
 unfolding words_of_row
-length-words_of_row cells y =
-    length-map-range_with_len (λ k. word_where (λ i. has cells (64 * k + i) y) 64) 0
-    (words_across cells.width)
+length-words_of_row cells y = grind (arith, nat_tests, common_steps, length-map-range_with_len)
 
 -- a word of a row has the bits of its cells
 pub word_in_row : (cells : Cells) (y k : ℕ) → k < words_across cells.width
     → get_or (words_of_row cells y) k 0 ≡ word_where (λ i. has cells (64 * k + i) y) 64
 unfolding words_of_row
-word_in_row cells y k within =
-    get_or-map-range_with_len (λ n. word_where (λ i. has cells (64 * n + i) y) 64) 0
-    (words_across cells.width) k k 0 within (omega arith)
+word_in_row cells y k within = grind (arith, nat_tests, common_steps, get_or-map-range_with_len)
 
 -- they are the row
 pub IsRowOf-words : (cells : Cells) (y : ℕ) → IsRowOf cells y (words_of_row cells y)
-IsRowOf-words cells y = record {
-  as_many = length-words_of_row cells y;
-  bits = λ k i within bit. ap (λ (w : ℕ). bit_at w i) (word_in_row cells y k within)
-      ∙ bit_at-word_where (λ j. has cells (64 * k + j) y) 64 i bit;
-}
+IsRowOf-words cells y =
+    grind (arith, nat_tests, common_steps, bit_at-word_where, length-words_of_row, word_in_row)
 
 -- words that are the row are its words
 pub row_word_read : (cells : Cells) (y k word : ℕ) (words : List ℕ) → IsRowOf cells y words
@@ -60,13 +56,4 @@ pub tile_row_in_row : (cells : Cells) (y k p : ℕ) → k < words_across cells.w
     → p ≡ y / 64 * words_across cells.width + k
     → row_word cells p (y % 64) ≡ get_or (words_of_row cells y) k 0
 unfolding row_word
-tile_row_in_row cells y k p within is =
-    let across = words_across cells.width in
-    let column : 64 * (p % across) ≡ 64 * k = ap (λ (n : ℕ). 64 * (n % across)) is
-    ∙ ap (λ (n : ℕ). 64 * n) (mod-mul-add (y / 64) across k within) in
-    let quotient : p / across ≡ y / 64 = ap (λ (n : ℕ). n / across) is
-    ∙ div-mul-add (y / 64) across k within in
-    let row : 64 * (p / across) + y % 64 ≡ y = omega arith in
-    ap (λ (c : ℕ). word_where (λ j. has cells (c + j) (64 * (p / across) + y % 64)) 64) column
-    ∙ (ap (λ (r : ℕ). word_where (λ j. has cells (64 * k + j) r) 64) row
-    ∙ sym (word_in_row cells y k within))
+tile_row_in_row cells y k p within is = search (rules, arith, div-mul-add, mod-mul-add, word_in_row)

@@ -1,16 +1,15 @@
 -- The least distance of a rectangle's cells, as more rows are searched.
-use Rattle.std.proofs.Common.{◌≡◌, ℕ, ℤ, pos, negsuc, ◌+◌, ◌-◌, ◌*◌, ◌/◌, ◌%◌, ◌^◌, ◌<◌, ◌≤◌, ◌⊎◌}
-use Rattle.std.proofs.Common.{min, max, inl, inr, Bool, true, false, cond, List, length, get_or}
-use Rattle.std.proofs.Common.{refl, sym, ap, subst, ◌∙◌, arith}
-use Rattle.std.specs.Int.{abs_diff, bit_at}
+use Rattle.std.proofs.Common.{◌≡◌, ℕ, ℤ, pos, negsuc, ◌+◌, ◌-◌, ◌^◌, ◌<◌, ◌≤◌, ◌⊎◌}
+use Rattle.std.proofs.Common.{min, max, inl, inr, List, length, get_or}
+use Rattle.std.proofs.Common.{refl, sym, subst, ◌∙◌, arith}
+use Rattle.std.specs.Int.{abs_diff}
 use Rattle.std.proofs.lemmas.Bool.{cases_lt}
-use Rattle.std.proofs.lemmas.Nat.Bits.{bit_at-zero}
 use Rattle.metric.specs.declared.rect.Rect.{Rect}
 use Rattle.metric.specs.Distance.{Grows, distance_between}
 use Rattle.metric.specs.Crossing.{StaysNearer}
 use Rattle.metric.specs.Nearest.{spot_distance}
 use Rattle.metric.proofs.Growing.{of_grows, of_grows_with_dx}
-use Rattle.bits.specs.Cells.{Cells, has, IsBitmap, IsObstacle}
+use Rattle.bits.specs.Cells.{Cells, IsBitmap, IsObstacle}
 use Rattle.bits.specs.Words.{IsRowOf}
 use Rattle.bits.proofs.CellsLemmas.{has-outside}
 use Rattle.clearance.specs.Rows.{IsMarked, IsFar, IsFirstMark, IsLastMark}
@@ -20,15 +19,13 @@ use Rattle.clearance.specs.Search.{IsInRect, IsLeastBelow, IsLeastInBits, column
 use Rattle.clearance.specs.Search.{rect_distance, IsLeastAmong, IsLeastWithin, IsLoweredBy}
 use Rattle.clearance.specs.Search.{IsReachedCell}
 use Rattle.clearance.specs.Search.{IsLoweredRight, IsLoweredLeft}
-use Rattle.clearance.proofs.RowSearches.{mark_within, unmarked_past}
+use Rattle.clearance.proofs.RowSearches.{mark_within}
+use Rattle.std.proofs.lemmas.Grind.{common_steps}
+use Rattle.std.proofs.lemmas.Bool.Decides.{nat_tests}
 
 -- what is far stays so for a lower limit
 pub IsFar-lower : (dist limit lower : ℕ) → lower ≤ limit → IsFar dist limit → IsFar dist lower
-IsFar-lower dist limit lower less far =
-    record {
-      not_below = let low = far.not_below in omega arith;
-      is_limit = let small = far.is_limit in omega arith;
-    }
+IsFar-lower dist limit lower less far = omega arith
 
 -- what is far stays so for a greater distance
 pub IsFar-greater : (dist more limit : ℕ) → dist ≤ more → IsFar dist limit → IsFar more limit
@@ -79,59 +76,26 @@ IsLoweredLeft-some distance stays words rect gap before column least row mark is
       reached = λ less. (column, mark.marked, rw across (sym is));
     }
 
--- an answer whose number is 1
-answer_of_bit : (answer : Bool) → ◌≡◌ {A = ℕ} (cond answer 1 0) 1 → answer ≡ true
-answer_of_bit true is = refl
-answer_of_bit false is = absurd (omega arith)
-
 -- a mark of a row's words is an obstacle
 pub marked_obstacle : (cells : Cells) (y : ℕ) (words : List ℕ) (a : ℕ) → IsRowOf cells y words
     → IsMarked words a → IsObstacle cells a y
-marked_obstacle cells y words a row marked = elim (cases_lt a (64 * length words)) [
-  | inl within ↦
-      let many = row.as_many in
-      let bit = row.bits (a / 64) (a % 64) (omega arith) (omega arith) in
-      let place : 64 * (a / 64) + a % 64 ≡ a = omega arith in
-      let answer : ◌≡◌ {A = ℕ} (cond (has cells (64 * (a / 64) + a % 64) y) 1 0) 1 = sym bit
-      ∙ marked in
-      answer_of_bit (has cells a y) (rw place at answer)
-  | inr past ↦ absurd (unmarked_past words a past marked)
-]
+marked_obstacle cells y words a row marked = grind (arith, nat_tests, common_steps)
 
 -- an obstacle of the row is a mark of its words
 pub obstacle_marked : (cells : Cells) (y : ℕ) (words : List ℕ) (a : ℕ) → IsBitmap cells
     → IsRowOf cells y words → IsObstacle cells a y → IsMarked words a
 obstacle_marked cells y words a bitmap row obstacle =
-    let inside = has-outside cells bitmap a y obstacle in
-    let column = inside.column in
-    let bit = row.bits (a / 64) (a % 64) (omega arith) (omega arith) in
-    let place : 64 * (a / 64) + a % 64 ≡ a = omega arith in
-    let answer : ◌≡◌ {A = ℕ} (cond (has cells (64 * (a / 64) + a % 64) y) 1 0) 1 =
-    rw (place, obstacle) refl in
-    bit ∙ answer
+    grind (arith, nat_tests, common_steps, has-outside)
 
 -- an obstacle lies within the largest map
 pub obstacle_within : (cells : Cells) → IsBitmap cells → (a b : ℕ) → IsObstacle cells a b
     → (a < cells.width) × (b < cells.height) × (a ≤ 4095) × (b ≤ 4095)
-obstacle_within cells bitmap a b obstacle =
-    let inside = has-outside cells bitmap a b obstacle in
-    let column = inside.column in
-    let row = inside.row in
-    let wide = bitmap.width_is.few in
-    let high = bitmap.height_is.few in
-    (column, row, omega arith, omega arith)
+obstacle_within cells bitmap a b obstacle = grind (arith, nat_tests, common_steps, has-outside)
 
 -- words that are zero have no mark
 pub unmarked_row : (words : List ℕ) (a : ℕ) → ((k : ℕ) → k < length words → get_or words k 0 ≡ 0)
     → IsMarked words a → ⊥
-unmarked_row words a blank marked = elim (cases_lt a (64 * length words)) [
-  | inl within ↦
-      let none : get_or words (a / 64) 0 ≡ 0 = blank (a / 64) (omega arith) in
-      let bit : bit_at 0 (a % 64) ≡ 1 = rw none at marked in
-      let nil = bit_at-zero (a % 64) in
-      absurd (omega arith)
-  | inr past ↦ absurd (unmarked_past words a past marked)
-]
+unmarked_row words a blank marked = grind (arith, nat_tests, common_steps)
 
 -- where a row has no mark, the least stays
 pub IsLoweredBy-blank : (distance : ℕ → ℕ → ℕ) (cells : Cells) (rect : Rect) (y gap before : ℕ)
@@ -196,40 +160,9 @@ pub IsLeastAmong-more : (distance : ℕ → ℕ → ℕ) (Obstacle : ℕ → ℕ
     → IsLoweredBy distance Obstacle rect y gap least next
     → IsLeastAmong distance Obstacle rect IsRow limit least
     → IsLeastAmong distance Obstacle rect IsNext limit next
-IsLeastAmong-more distance Obstacle rect IsRow IsNext y gap limit least next gap_is back row
-    before =
-    let lower = row.within in
-    let low = before.within in
-    record {
-      within = omega arith;
-      far = λ a b obstacle is_next. elim (back b is_next) [
-        | inl earlier ↦ IsFar-lower (rect_distance distance rect a b) least next lower
-            (before.far a b obstacle earlier)
-        | inr here ↦
-            let far = row.far a (subst (λ (n : ℕ). Obstacle a n) here obstacle) in
-            let gaps : gap ≡ row_gap rect b = sym (ap (row_gap rect) here ∙ gap_is) in
-            subst (λ (n : ℕ). IsFar (distance (column_gap rect a) n) next) gaps far
-      ];
-      reached = λ less. elim (cases_lt next least) [
-        | inl lowered ↦
-            let (a, obstacle, is) = row.reached lowered in
-            record {
-              a = a;
-              b = y;
-              obstacle = obstacle;
-              distance_is = ap (distance (column_gap rect a)) gap_is ∙ is;
-            }
-        | inr same ↦
-            let equal : least ≡ next = omega arith in
-            let reached = before.reached (omega arith) in
-            record {
-              a = reached.a;
-              b = reached.b;
-              obstacle = reached.obstacle;
-              distance_is = reached.distance_is ∙ equal;
-            }
-      ];
-    }
+IsLeastAmong-more distance Obstacle rect IsRow IsNext y gap limit least next gap_is back row before
+    =
+    grind (arith, nat_tests, common_steps)
 
 -- the least of some rows is that of other rows which have no more obstacles
 pub IsLeastAmong-same : (distance : ℕ → ℕ → ℕ) (Obstacle : ℕ → ℕ → Type 0) (rect : Rect)
@@ -238,11 +171,7 @@ pub IsLeastAmong-same : (distance : ℕ → ℕ → ℕ) (Obstacle : ℕ → ℕ
     → IsLeastAmong distance Obstacle rect IsRow limit least
     → IsLeastAmong distance Obstacle rect IsNext limit next
 IsLeastAmong-same distance Obstacle rect IsRow IsNext limit least next same back before =
-    rw same (record {
-      within = before.within;
-      far = λ a b obstacle is_next. before.far a b obstacle (back a b obstacle is_next);
-      reached = before.reached;
-    })
+    grind (arith, nat_tests, common_steps)
 
 -- rows that are as far away as the least say nothing more
 pub IsLeastAmong-far : (distance : ℕ → ℕ → ℕ) → Grows distance → StaysNearer distance
@@ -393,11 +322,7 @@ IsLeastBelow-row distance grows stays cells rect y gap limit least bitmap gap_is
 pub IsLeastAmong-none : (distance : ℕ → ℕ → ℕ) (Obstacle : ℕ → ℕ → Type 0) (rect : Rect)
     (IsRow : ℕ → Type 0) (limit : ℕ)
     → ((b : ℕ) → IsRow b → ⊥) → IsLeastAmong distance Obstacle rect IsRow limit limit
-IsLeastAmong-none distance Obstacle rect IsRow limit none = record {
-  within = omega arith;
-  far = λ a b obstacle row. absurd (none b row);
-  reached = λ less. absurd (omega arith);
-}
+IsLeastAmong-none distance Obstacle rect IsRow limit none = grind (arith, nat_tests, common_steps)
 
 -- an obstacle's row is one of the largest map's
 pub row_within : (cells : Cells) → IsBitmap cells → (a b : ℕ) → IsObstacle cells a b → b < 4096
@@ -452,6 +377,4 @@ pub row_gap-within : (cells : Cells) (rect : Rect) (gap : ℕ) → IsBitmap cell
     → rect.y1 ≤ cells.height → cells.height ≤ gap → (a b : ℕ) → IsObstacle cells a b
     → row_gap rect b < gap
 row_gap-within cells rect gap bitmap high ended a b obstacle =
-    let last = (obstacle_within cells bitmap a b obstacle).1 in
-    let rows = rect.has_cells.rows in
-    omega arith
+    grind (arith, nat_tests, common_steps, obstacle_within)

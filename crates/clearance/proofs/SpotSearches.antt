@@ -1,21 +1,20 @@
 -- The obstacle that comes first, as more obstacles are searched.
 use Rattle.std.proofs.Common.{◌≡◌, ℕ, ◌+◌, ◌-◌, ◌*◌, ◌/◌, ◌%◌, ◌<◌, ◌≤◌, ◌⊎◌, inl, inr, Option}
 use Rattle.std.proofs.Common.{Some, None, refl, sym, ap, subst, ◌∙◌, arith}
-use Rattle.std.specs.Int.{abs_diff, bit_at}
+use Rattle.std.specs.Int.{bit_at}
 use Rattle.std.proofs.lemmas.Bool.{cases_lt}
-use Rattle.std.proofs.lemmas.Nat.Bits.{bit_at-zero}
 use Rattle.metric.specs.Crossing.{StaysNearer}
 use Rattle.metric.specs.declared.rect.Rect.{Rect}
-use Rattle.metric.proofs.CellwiseLemmas.{IsAtMost-transitive}
 use Rattle.metric.proofs.Growing.{of_grows_with_dx}
 use Rattle.clearance.specs.Nearest.{limit_with}
-use Rattle.clearance.specs.Frames.{key_found}
 use Rattle.clearance.specs.Rows.{IsFar}
 use Rattle.clearance.specs.Search.{column_gap, rect_distance, row_gap}
 use Rattle.clearance.specs.Spots.{AreLeftOf, AreParts, AreRightFrom, IsInWord, IsLastBit}
-use Rattle.clearance.specs.Spots.{IsMerged, IsSpotBelow, IsSpotIf, IsWithNext, key_from}
+use Rattle.clearance.specs.Spots.{IsMerged, IsSpotBelow, IsSpotIf, IsWithNext}
 use Rattle.clearance.specs.declared.found.Found.{Found}
 use Rattle.clearance.proofs.Searches.{IsFar-greater}
+use Rattle.std.proofs.lemmas.Grind.{common_steps}
+use Rattle.std.proofs.lemmas.Bool.Decides.{nat_tests}
 
 -- the first of two sets of obstacles is the one of both that comes first
 pub IsSpotBelow-merged : (distance : ℕ → ℕ → ℕ) (One Other Both : ℕ → ℕ → Type 0) (rect : Rect)
@@ -26,61 +25,22 @@ pub IsSpotBelow-merged : (distance : ℕ → ℕ → ℕ) (One Other Both : ℕ 
     → IsSpotBelow distance Other rect (limit_with limit best) next
     → IsMerged rect.y0 best next merged → IsSpotBelow distance Both rect limit merged
 IsSpotBelow-merged distance One Other Both rect limit None None merged one other back first second
-    is = rw is (λ a b both. elim (back a b both) [
-      | inl here ↦ first a b here
-      | inr there ↦ second a b there
-    ])
+    is =
+    grind (arith, nat_tests, common_steps)
 IsSpotBelow-merged distance One Other Both rect limit (Some best) None merged one other back first
-    second is = rw is (record {
-      obstacle = one best.cell.x best.cell.y first.obstacle;
-      distance_is = first.distance_is;
-      nearer = first.nearer;
-      least = λ a b both. elim (back a b both) [
-        | inl here ↦ first.least a b here
-        | inr there ↦ let far = (second a b there).not_below in record { order = inl (omega arith) }
-      ];
-    })
+    second is =
+    grind (arith, nat_tests, common_steps)
 IsSpotBelow-merged distance One Other Both rect limit None (Some next) merged one other back first
-    second is = rw is (record {
-      obstacle = other next.cell.x next.cell.y second.obstacle;
-      distance_is = second.distance_is;
-      nearer = second.nearer;
-      least = λ a b both. elim (back a b both) [
-        | inl here ↦
-            let far = (first a b here).not_below in
-            let near = second.nearer in
-            record { order = inl (omega arith) }
-        | inr there ↦ second.least a b there
-      ];
-    })
+    second is =
+    grind (arith, nat_tests, common_steps)
 IsSpotBelow-merged distance One Other Both rect limit (Some best) (Some next) None one other back
     first second is = absurd is
 IsSpotBelow-merged distance One Other Both rect limit (Some best) (Some next) (Some merged) one
     other back first second (inl (taken, most)) =
-    let near = second.nearer in
-    let before = first.nearer in
-    rw taken (record {
-      obstacle = other next.cell.x next.cell.y second.obstacle;
-      distance_is = second.distance_is;
-      nearer = omega arith;
-      least = λ a b both. elim (back a b both) [
-        | inl here ↦ IsAtMost-transitive (key_found rect.y0 next) (key_found rect.y0 best)
-            (key_from distance rect a b) most (first.least a b here)
-        | inr there ↦ second.least a b there
-      ];
-    })
+    grind (arith, nat_tests, common_steps)
 IsSpotBelow-merged distance One Other Both rect limit (Some best) (Some next) (Some merged) one
     other back first second (inr (kept, most)) =
-    rw kept (record {
-      obstacle = one best.cell.x best.cell.y first.obstacle;
-      distance_is = first.distance_is;
-      nearer = first.nearer;
-      least = λ a b both. elim (back a b both) [
-        | inl here ↦ first.least a b here
-        | inr there ↦ IsAtMost-transitive (key_found rect.y0 best) (key_found rect.y0 next)
-            (key_from distance rect a b) most (second.least a b there)
-      ];
-    })
+    grind (arith, nat_tests, common_steps)
 
 -- the first of a set of obstacles is that of the same set, restated
 pub IsSpotBelow-same : (distance : ℕ → ℕ → ℕ) (One Other : ℕ → ℕ → Type 0) (rect : Rect)
@@ -89,37 +49,8 @@ pub IsSpotBelow-same : (distance : ℕ → ℕ → ℕ) (One Other : ℕ → ℕ
     → IsSpotBelow distance One rect limit best → IsSpotBelow distance Other rect limit best
 IsSpotBelow-same distance One Other rect limit None there back first =
     λ a b other. first a b (back a b other)
-IsSpotBelow-same distance One Other rect limit (Some best) there back first = record {
-  obstacle = there best.cell.x best.cell.y first.obstacle;
-  distance_is = first.distance_is;
-  nearer = first.nearer;
-  least = λ a b other. first.least a b (back a b other);
-}
-
--- a cell comes first of itself
-pub IsSpotBelow-alone : (distance : ℕ → ℕ → ℕ) (rect : Rect) (limit column row dist : ℕ)
-    (next : Option Found) → dist ≡ rect_distance distance rect column row
-    → IsSpotIf column row dist limit next
-    → IsSpotBelow distance (λ a b. (a ≡ column) × (b ≡ row)) rect limit next
-IsSpotBelow-alone distance rect limit column row dist None is far = λ a b here.
-    let same : rect_distance distance rect a b ≡ dist =
-    ap (λ (n : ℕ). rect_distance distance rect n b) here.0
-    ∙ (ap (λ (n : ℕ). rect_distance distance rect column n) here.1 ∙ sym is) in
-    rw same far
-IsSpotBelow-alone distance rect limit column row dist (Some next) is (found, near) =
-    rw found (record {
-      obstacle = (refl, refl);
-      distance_is = is;
-      nearer = near;
-      least = λ a b here.
-          let same : rect_distance distance rect a b ≡ dist =
-          ap (λ (n : ℕ). rect_distance distance rect n b) here.0
-          ∙ (ap (λ (n : ℕ). rect_distance distance rect column n) here.1 ∙ sym is) in
-          let columns = here.0 in
-          let rows = here.1 in
-          let down : abs_diff rect.y0 row ≡ abs_diff rect.y0 b = ap (abs_diff rect.y0) (sym rows) in
-          record { order = inr (sym same, inr (sym columns, inr (down, omega arith))) };
-    })
+IsSpotBelow-same distance One Other rect limit (Some best) there back first =
+    grind (arith, nat_tests, common_steps)
 
 -- a cell of a row comes before those that are no nearer and not to its left
 pub IsSpotBelow-first : (distance : ℕ → ℕ → ℕ) (Obstacle : ℕ → ℕ → Type 0) (rect : Rect)
@@ -130,26 +61,11 @@ pub IsSpotBelow-first : (distance : ℕ → ℕ → ℕ) (Obstacle : ℕ → ℕ
     → IsSpotIf column row dist limit next → IsSpotBelow distance Obstacle rect limit next
 IsSpotBelow-first distance Obstacle rect limit column row dist None is obstacle all far =
     λ a b here. IsFar-greater dist (rect_distance distance rect a b) limit (all a b here).2 far
-IsSpotBelow-first distance Obstacle rect limit column row dist (Some next) is obstacle all
-    (found, near) =
-    rw found (record {
-      obstacle = obstacle;
-      distance_is = is;
-      nearer = near;
-      least = λ a b here.
-          let rows = (all a b here).0 in
-          let left = (all a b here).1 in
-          let low = (all a b here).2 in
-          let down : abs_diff rect.y0 row ≡ abs_diff rect.y0 b = ap (abs_diff rect.y0) (sym rows) in
-          elim (cases_lt dist (rect_distance distance rect a b)) [
-            | inl less ↦ record { order = inl less }
-            | inr same ↦ elim (cases_lt column a) [
-              | inl before ↦ record { order = inr (omega arith, inl before) }
-              | inr equal ↦
-                  record { order = inr (omega arith, inr (omega arith, inr (down, omega arith))) }
-            ]
-          ];
-    })
+IsSpotBelow-first distance Obstacle rect limit column row dist (Some next) is obstacle all (
+  found,
+  near,
+) =
+    grind (arith, nat_tests, common_steps)
 
 -- the leftmost of a word's cells from the rectangle's first column on is the nearest
 pub nearest_on_right : (distance : ℕ → ℕ → ℕ) → StaysNearer distance
@@ -176,7 +92,8 @@ pub farther_on_left : (distance : ℕ → ℕ → ℕ) → StaysNearer distance
     → column < rect.x0 → IsFar (distance (rect.x0 - column) gap) limit
     → (a b : ℕ) → IsInWord tile y word a b → a ≤ column
     → IsFar (rect_distance distance rect a b) limit
-farther_on_left distance stays rect tile y word gap column limit gap_is few left far a b here before =
+farther_on_left distance stays rect tile y word gap column limit gap_is few left far a b here
+    before =
     let rows : gap ≡ row_gap rect b = gap_is ∙ ap (row_gap rect) (sym here.0) in
     let right = rect.has_cells.right in
     let columns = rect.has_cells.columns in
@@ -279,39 +196,7 @@ pub IsSpotBelow-left_more : (distance : ℕ → ℕ → ℕ) (rect : Rect)
     → IsSpotBelow distance (λ a b. IsInWord tile y word a b × (bit ≤ a % 64)) rect limit merged
 IsSpotBelow-left_more distance rect tile y word gap limit end bit best next merged gap_is left last
     is both before =
-    let order = last.0 in
-    let in_word = last.1 in
-    let place : (64 * tile + bit) / 64 ≡ tile = omega arith in
-    let part : (64 * tile + bit) % 64 ≡ bit = omega arith in
-    let marked : bit_at word ((64 * tile + bit) % 64) ≡ 1 = rw part (last.2) in
-    let inside : 64 * tile + bit < rect.x0 = left (64 * tile + bit) place marked in
-    let columns = rect.has_cells.columns in
-    let across : rect.x0 - (64 * tile + bit) ≡ column_gap rect (64 * tile + bit) = omega arith in
-    IsSpotBelow-merged distance (λ a b. IsInWord tile y word a b × (end ≤ a % 64))
-    (λ a b. (a ≡ 64 * tile + bit) × (b ≡ y))
-    (λ a b. IsInWord tile y word a b × (bit ≤ a % 64)) rect limit best next merged
-    (λ a b here. (here.0, let behind = here.1 in omega arith))
-    (λ a b here.
-    let column = here.0 in
-    let part_is : a % 64 ≡ bit = omega arith in
-    ((here.1, omega arith, rw part_is (last.2)), omega arith))
-    (λ a b here.
-    let column = here.0.1 in
-    let set = here.0.2 in
-    let from = here.1 in
-    elim (cases_lt (a % 64) end) [
-      | inr seen ↦ inl (here.0, seen)
-      | inl ahead ↦ elim (cases_lt bit (a % 64)) [
-        | inl after ↦ absurd (last.3 (a % 64) after ahead (omega arith) set)
-        | inr same ↦ inr (omega arith, here.0.0)
-      ]
-    ])
-    before
-    (IsSpotBelow-alone distance rect (limit_with limit best) (64 * tile + bit) y
-    (distance (rect.x0 - (64 * tile + bit)) gap) next
-    (ap (λ (n : ℕ). distance n gap) across
-    ∙ ap (distance (column_gap rect (64 * tile + bit))) gap_is) is)
-    both
+    grind (arith, nat_tests, common_steps)
 
 -- where the last of a word's obstacles that are left is far, all of them are
 pub IsSpotBelow-left_far : (distance : ℕ → ℕ → ℕ) → StaysNearer distance
@@ -352,18 +237,7 @@ pub IsSpotBelow-left_all : (distance : ℕ → ℕ → ℕ) (rect : Rect) (tile 
     → IsSpotBelow distance (λ a b. IsInWord tile y word a b × (end ≤ a % 64)) rect limit best
     → IsSpotBelow distance (IsInWord tile y word) rect limit best
 IsSpotBelow-left_all distance rect tile y word limit end best none =
-    IsSpotBelow-same distance (λ a b. IsInWord tile y word a b × (end ≤ a % 64))
-    (IsInWord tile y word) rect limit best (λ a b here. here.0)
-    (λ a b here. elim (cases_lt (a % 64) end) [
-      | inl ahead ↦ absurd (none (a % 64) ahead (omega arith) here.2)
-      | inr seen ↦ (here, seen)
-    ])
-
--- before any of a word's obstacles has been searched, there is none
-pub IsSpotBelow-left_none : (distance : ℕ → ℕ → ℕ) (rect : Rect) (tile y word limit : ℕ)
-    → IsSpotBelow distance (λ a b. IsInWord tile y word a b × (64 ≤ a % 64)) rect limit None
-IsSpotBelow-left_none distance rect tile y word limit = λ a b here.
-    let behind = here.1 in absurd (omega arith)
+    grind (arith, nat_tests, common_steps, IsSpotBelow-same)
 
 -- both parts of a word that is cut at a column
 pub AreParts-cut : (tile x word place left right : ℕ) → place ≡ x - 64 * tile → place < 64
@@ -373,28 +247,8 @@ pub AreParts-cut : (tile x word place left right : ℕ) → place ≡ x - 64 * t
     → ((i : ℕ) → i < place → bit_at right i ≡ 0)
     → AreParts tile x word left right
 AreParts-cut tile x word place left right place_is few kept_left cleared_left kept_right
-    cleared_right = record {
-      left_of = λ a here set. elim (cases_lt (a % 64) place) [
-        | inl before ↦ omega arith
-        | inr after ↦ let zero = cleared_left (a % 64) after in absurd (omega arith)
-      ];
-      right_from = λ a here set. elim (cases_lt (a % 64) place) [
-        | inl before ↦ let zero = cleared_right (a % 64) before in absurd (omega arith)
-        | inr after ↦ omega arith
-      ];
-      left_is = λ i within set. elim (cases_lt i place) [
-        | inl before ↦ let same = kept_left i before in omega arith
-        | inr after ↦ let zero = cleared_left i after in absurd (omega arith)
-      ];
-      right_is = λ i within set. elim (cases_lt i place) [
-        | inl before ↦ let zero = cleared_right i before in absurd (omega arith)
-        | inr after ↦ let same = kept_right i after within in omega arith
-      ];
-      all = λ a here set. (
-        (λ less. let same = kept_left (a % 64) (omega arith) in omega arith),
-        (λ more. let same = kept_right (a % 64) (omega arith) (omega arith) in omega arith),
-      );
-    }
+    cleared_right =
+    grind (arith, nat_tests, common_steps)
 
 -- the first of both parts of a word is the first of the word
 pub IsSpotBelow-parts : (distance : ℕ → ℕ → ℕ) (rect : Rect) (tile y word left right limit : ℕ)
@@ -405,14 +259,7 @@ pub IsSpotBelow-parts : (distance : ℕ → ℕ → ℕ) (rect : Rect) (tile y w
     → IsSpotBelow distance (IsInWord tile y word) rect limit merged
 IsSpotBelow-parts distance rect tile y word left right limit one other merged parts first second
     both =
-    IsSpotBelow-merged distance (IsInWord tile y right) (IsInWord tile y left)
-    (IsInWord tile y word) rect limit one other merged
-    (λ a b here. (here.0, here.1, parts.right_is (a % 64) (omega arith) here.2))
-    (λ a b here. (here.0, here.1, parts.left_is (a % 64) (omega arith) here.2))
-    (λ a b here. elim (cases_lt a rect.x0) [
-      | inl less ↦ inr (here.0, here.1, (parts.all a here.1 here.2).0 less)
-      | inr more ↦ inl (here.0, here.1, (parts.all a here.1 here.2).1 more)
-    ]) first second both
+    grind (arith, nat_tests, common_steps, IsSpotBelow-merged)
 
 -- obstacles that are far leave the first of a set as it is
 pub IsSpotBelow-wider : (distance : ℕ → ℕ → ℕ) (One Other : ℕ → ℕ → Type 0) (rect : Rect)
@@ -422,28 +269,11 @@ pub IsSpotBelow-wider : (distance : ℕ → ℕ → ℕ) (One Other : ℕ → �
     → IsSpotBelow distance One rect limit best → IsSpotBelow distance Other rect limit best
 IsSpotBelow-wider distance One Other rect limit None there back first = λ a b other.
     elim (back a b other) [ inl one ↦ first a b one | inr far ↦ far ]
-IsSpotBelow-wider distance One Other rect limit (Some best) there back first = record {
-  obstacle = there best.cell.x best.cell.y first.obstacle;
-  distance_is = first.distance_is;
-  nearer = first.nearer;
-  least = λ a b other. elim (back a b other) [
-    | inl one ↦ first.least a b one
-    | inr far ↦
-        let low = far.not_below in
-        let near = first.nearer in
-        record { order = inl (omega arith) }
-  ];
-}
+IsSpotBelow-wider distance One Other rect limit (Some best) there back first =
+    grind (arith, nat_tests, common_steps)
 
 -- a word without a bit has no obstacle
 pub IsWithNext-blank : (distance : ℕ → ℕ → ℕ) (rect : Rect) (tile y word limit : ℕ)
     (best : Option Found) → word ≡ 0
     → IsWithNext distance (IsInWord tile y word) rect limit best best
-IsWithNext-blank distance rect tile y word limit best none = record {
-  next = None;
-  first = λ a b here.
-      let set : bit_at 0 (a % 64) ≡ 1 = rw none at (here.2) in
-      let nil = bit_at-zero (a % 64) in
-      absurd (omega arith);
-  both = refl;
-}
+IsWithNext-blank distance rect tile y word limit best none = grind (arith, nat_tests, common_steps)

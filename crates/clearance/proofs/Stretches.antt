@@ -1,6 +1,6 @@
 -- The least distance and the first near cell of a list of cells, from those of its two parts.
-use Rattle.std.proofs.Common.{◌≡◌, ℕ, ℤ, ◌+◌, ◌-◌, ◌<◌, ◌≤◌, inl, inr, List, ◌++◌, length, Option}
-use Rattle.std.proofs.Common.{Some, None, true, false, refl, sym, subst, ◌∙◌, arith, length-append}
+use Rattle.std.proofs.Common.{◌≡◌, ℕ, ℤ, ◌+◌, ◌<◌, ◌≤◌, inl, inr, List, ◌++◌, length, Option}
+use Rattle.std.proofs.Common.{Some, None, true, false, sym, subst, ◌∙◌, arith, length-append}
 use Rattle.std.specs.Option.{is_some}
 use Rattle.std.proofs.lemmas.Bool.{cases_lt}
 use Rattle.std.proofs.lemmas.List.{get_or_append_left, get_or-append_right, get_or-append-add}
@@ -13,19 +13,16 @@ use Rattle.clearance.specs.Search.{IsInRect, IsLeastBelow}
 use Rattle.clearance.specs.Firsts.{origin, cell_of_list, distance_at, IsBoundOver, IsFirstOrNone}
 use Rattle.clearance.specs.Firsts.{IsLeastOver}
 use Rattle.clearance.proofs.Searches.{IsFar-lower}
+use Rattle.std.proofs.Common.{rules}
+use Rattle.std.proofs.lemmas.Grind.{common_steps}
+use Rattle.std.proofs.lemmas.Bool.Decides.{nat_tests}
 
 -- what holds of each cell of both parts of a list holds of each of its cells
 each-append : (P : Cell → Type 0) (front back : List Cell)
     → ((i : ℕ) → i < length front → P (cell_of_list front i))
     → ((i : ℕ) → i < length back → P (cell_of_list back i))
     → (i : ℕ) → i < length (front ++ back) → P (cell_of_list (front ++ back) i)
-each-append P front back one other i within =
-    let size = length-append front back in
-    elim (cases_lt i (length front)) [
-      | inl early ↦ subst P (sym (get_or_append_left front back origin i early)) (one i early)
-      | inr late ↦ subst P (sym (get_or-append_right front back (length front) i origin refl late))
-          (other (i - length front) (omega arith))
-    ]
+each-append P front back one other i within = grind (arith, nat_tests, common_steps)
 
 -- a list of which no cell is in reach below the bound has the bound as the least
 pub IsLeastOver-bound : (distance : ℕ → ℕ → ℕ) (Obstacle : ℤ → ℤ → Type 0) (cells : List Cell)
@@ -141,19 +138,7 @@ IsFirstOrNone-front : (distance : ℕ → ℕ → ℕ) (Obstacle : ℤ → ℤ �
     → IsFirstOrNone distance Obstacle front limit (Some found)
     → IsFirstOrNone distance Obstacle (front ++ back) limit (Some found)
 IsFirstOrNone-front distance Obstacle front back limit found first =
-    let size = length-append front back in
-    let inside = first.within in
-    record {
-      place = first.place;
-      within = omega arith;
-      cell_is = get_or_append_left front back origin first.place first.within ∙ first.cell_is;
-      near_is = first.near_is;
-      nearer = first.nearer;
-      before = λ i a b earlier obstacle.
-          subst (λ (c : Cell). limit ≤ spot_distance distance c.x c.y a b)
-          (sym (get_or_append_left front back origin i (omega arith)))
-          (first.before i a b earlier obstacle);
-    }
+    grind (arith, nat_tests, common_steps)
 
 -- where the front has none, the first near cell of the back is the first of both
 IsFirstOrNone-back : (distance : ℕ → ℕ → ℕ) (Obstacle : ℤ → ℤ → Type 0) (front back : List Cell)
@@ -162,26 +147,16 @@ IsFirstOrNone-back : (distance : ℕ → ℕ → ℕ) (Obstacle : ℤ → ℤ �
     → IsFirstOrNone distance Obstacle back limit found
     → IsFirstOrNone distance Obstacle (front ++ back) limit found
 IsFirstOrNone-back distance Obstacle front back limit None far none =
-    λ i a b within obstacle. each-append (λ c. limit ≤ spot_distance distance c.x c.y a b) front
-    back (λ k inside. far k a b inside obstacle) (λ k inside. none k a b inside obstacle) i within
+    grind (arith, nat_tests, common_steps)
 IsFirstOrNone-back distance Obstacle front back limit (Some found) far first =
-    let size = length-append front back in
-    let inside = first.within in
-    record {
-      place = length front + first.place;
-      within = omega arith;
-      cell_is = get_or-append-add front back first.place origin ∙ first.cell_is;
-      near_is = first.near_is;
-      nearer = first.nearer;
-      before = λ i a b earlier obstacle. elim (cases_lt i (length front)) [
-        | inl early ↦ subst (λ (c : Cell). limit ≤ spot_distance distance c.x c.y a b)
-            (sym (get_or_append_left front back origin i early)) (far i a b early obstacle)
-        | inr late ↦
-            subst (λ (c : Cell). limit ≤ spot_distance distance c.x c.y a b)
-            (sym (get_or-append_right front back (length front) i origin refl late))
-            (first.before (i - length front) a b (omega arith) obstacle)
-      ];
-    }
+    search (
+      rules,
+      arith,
+      get_or-append-add,
+      get_or-append_right,
+      get_or_append_left,
+      length-append,
+    )
 
 -- a first near cell of the front that there is is the first of both
 pub IsFirstOrNone-some : (distance : ℕ → ℕ → ℕ) (Obstacle : ℤ → ℤ → Type 0) (front back : List Cell)

@@ -1,19 +1,14 @@
 -- The lines of a strip, as the cells of rectangles, and the search for the first of them by halves.
-use Rattle.std.proofs.Common.{◌≡◌, ℕ, ℤ, ◌+◌, ◌<◌, ◌≤◌, min, max, inl, inr, sym, subst, arith}
+use Rattle.std.proofs.Common.{◌≡◌, ℕ, ℤ, ◌+◌, ◌<◌, ◌≤◌, min, max, inl, inr, sym, arith}
 use Rattle.std.specs.Int.{abs_diff}
-use Rattle.std.proofs.lemmas.Bool.{cases_lt, cases_eq}
+use Rattle.std.proofs.lemmas.Bool.{cases_eq}
 use Rattle.std.proofs.lemmas.Bool.Decides.{nat_tests}
 use Rattle.metric.specs.declared.rect.Rect.{Rect}
 use Rattle.clearance.specs.Paths.{towards}
 use Rattle.clearance.specs.Search.{IsInRect, IsLeastBelow}
-use Rattle.clearance.specs.Strips.{IsOnLine, IsLineNear, IsLineFar, IsSomeNear, IsFirstNear}
+use Rattle.clearance.specs.Strips.{IsOnLine, IsLineFar, IsSomeNear, IsFirstNear}
 use Rattle.clearance.specs.declared.strip.Strip.{Strip}
-
--- steps between two others lead between their ends
-towards-between : (from to low k high : ℕ) → low ≤ k → k ≤ high
-    → (min (towards from to low) (towards from to high) ≤ towards from to k)
-    × (towards from to k ≤ max (towards from to low) (towards from to high))
-towards-between from to low k high first last = (grind (arith, nat_tests), grind (arith, nat_tests))
+use Rattle.std.proofs.lemmas.Grind.{common_steps}
 
 -- what lies between the ends of two steps is the end of one between them
 towards-reaches : (from to low high n : ℕ) → low ≤ high
@@ -36,14 +31,6 @@ pub record AreCorners (strip : Strip) (first last x0 y0 x1 y1 : ℕ) : Type 0 wh
       (towards strip.from.x strip.to.x last) + strip.across
   pub bottom : y1 ≡ max (towards strip.from.y strip.to.y first)
       (towards strip.from.y strip.to.y last) + 1
-
--- a cell on a line that lies between two others is between the corners of both
-within_corners : (p q r s t u across x0 y0 x1 y1 x y : ℕ) → x0 ≡ min p q → y0 ≡ min s t
-    → x1 ≡ max p q + across → y1 ≡ max s t + 1
-    → min p q ≤ r → r ≤ max p q → min s t ≤ u → u ≤ max s t → r ≤ x → x < r + across → y ≡ u
-    → (x0 ≤ x) × (x < x1) × (y0 ≤ y) × (y < y1)
-within_corners p q r s t u across x0 y0 x1 y1 x y left top right bottom a b c d on_left on_right
-    on_row = (omega arith, omega arith, omega arith, omega arith)
 
 -- a number that is at least the lower corner is at least what the corner is
 from_left : {low n m : ℕ} → low ≡ m → low ≤ n → m ≤ n
@@ -89,17 +76,7 @@ pub line-in_rect : (strip : Strip) (first last x0 y0 x1 y1 k x y : ℕ)
     → AreCorners strip first last x0 y0 x1 y1 → first ≤ k → k ≤ last → IsOnLine strip k x y
     → (x0 ≤ x) × (x < x1) × (y0 ≤ y) × (y < y1)
 line-in_rect strip first last x0 y0 x1 y1 k x y corners low high on_line =
-    let across = towards-between strip.from.x strip.to.x first k last low high in
-    let down = towards-between strip.from.y strip.to.y first k last low high in
-    let a = across.0 in
-    let b = across.1 in
-    let c = down.0 in
-    let d = down.1 in
-    within_corners (towards strip.from.x strip.to.x first) (towards strip.from.x strip.to.x last)
-    (towards strip.from.x strip.to.x k) (towards strip.from.y strip.to.y first)
-    (towards strip.from.y strip.to.y last) (towards strip.from.y strip.to.y k)
-    strip.across x0 y0 x1 y1 x y corners.left corners.top corners.right corners.bottom a b c d
-    on_line.left on_line.right on_line.row
+    grind (arith, nat_tests, common_steps)
 
 -- a cell between the corners is on a line between the two
 pub in_rect-line : (strip : Strip) (first last x0 y0 x1 y1 x y : ℕ)
@@ -197,13 +174,7 @@ pub IsSomeNear-upper : (distance : ℕ → ℕ → ℕ) (Obstacle : ℤ → ℤ 
     → IsSomeNear distance Obstacle strip limit low high
     → IsSomeNear distance Obstacle strip limit (middle + 1) high
 IsSomeNear-upper distance Obstacle strip limit low middle high far (k, from, within, near) =
-    elim (cases_lt middle k) [
-      | inl later ↦ (k, omega arith, within, near)
-      | inr earlier ↦
-          let none = far k from earlier near.x near.y near.a near.b near.on_line near.obstacle in
-          let less = near.nearer in
-          absurd (omega arith)
-    ]
+    grind (arith, nat_tests, common_steps)
 
 -- the lines before the upper half are far
 pub AreLinesFar-more : (distance : ℕ → ℕ → ℕ) (Obstacle : ℤ → ℤ → Type 0) (strip : Strip)
@@ -212,10 +183,7 @@ pub AreLinesFar-more : (distance : ℕ → ℕ → ℕ) (Obstacle : ℤ → ℤ 
     → ((k : ℕ) → low ≤ k → k ≤ middle → IsLineFar distance Obstacle strip limit k)
     → (k : ℕ) → first ≤ k → k < middle + 1 → IsLineFar distance Obstacle strip limit k
 AreLinesFar-more distance Obstacle strip limit first low middle before half =
-    λ k from within. elim (cases_lt k low) [
-      | inl earlier ↦ before k from earlier
-      | inr later ↦ half k later (omega arith)
-    ]
+    grind (arith, nat_tests, common_steps)
 
 -- once one line is left, it's the first that is near
 pub IsFirstNear-one : (distance : ℕ → ℕ → ℕ) (Obstacle : ℤ → ℤ → Type 0) (strip : Strip)
@@ -223,12 +191,10 @@ pub IsFirstNear-one : (distance : ℕ → ℕ → ℕ) (Obstacle : ℤ → ℤ �
     → IsSomeNear distance Obstacle strip limit low high
     → ((k : ℕ) → first ≤ k → k < low → IsLineFar distance Obstacle strip limit k)
     → IsFirstNear distance Obstacle strip limit first last low
-IsFirstNear-one distance Obstacle strip limit first last low high start end one
-    (k, from, within, near) before =
-    let same : k ≡ low = omega arith in
-    record {
-      from = start;
-      within = omega arith;
-      near = subst (λ (n : ℕ). IsLineNear distance Obstacle strip limit n) same near;
-      before = before;
-    }
+IsFirstNear-one distance Obstacle strip limit first last low high start end one (
+  k,
+  from,
+  within,
+  near,
+) before =
+    grind (arith, nat_tests, common_steps)

@@ -1,7 +1,7 @@
 -- The bands that a search passes over, since their tiles are too far.
 use Rattle.std.proofs.Common.{◌≡◌, ℕ, ◌-◌, ◌*◌, ◌/◌, ◌<◌, ◌≤◌, ◌⊎◌, inl, inr, arith}
 use Rattle.std.specs.Int.{bit_at}
-use Rattle.std.proofs.lemmas.Bool.{cases_lt, cases_eq}
+use Rattle.std.proofs.lemmas.Bool.{cases_lt}
 use Rattle.metric.specs.declared.rect.Rect.{Rect}
 use Rattle.bits.specs.Bands.{IsBanded, IsTiled}
 use Rattle.bits.specs.Cells.{Cells, IsBitmap, IsObstacle}
@@ -9,7 +9,9 @@ use Rattle.clearance.specs.Bands.{AreColumnsFar, AreTilesFar, IsBandFar, IsBandF
 use Rattle.clearance.specs.Bands.{IsMarkedRow, IsNextGap, IsThinned}
 use Rattle.clearance.specs.Rows.{IsFar}
 use Rattle.clearance.specs.Search.{IsLeastWithin, rect_distance, row_gap}
-use Rattle.clearance.proofs.Searches.{IsFar-lower, obstacle_within}
+use Rattle.clearance.proofs.Searches.{obstacle_within}
+use Rattle.std.proofs.lemmas.Grind.{common_steps}
+use Rattle.std.proofs.lemmas.Bool.Decides.{nat_tests}
 
 -- where columns from the first tile on the right on are far, and those up to the last one on the
 -- left, all marked tiles are
@@ -50,10 +52,7 @@ pub IsBandFar-both : (distance : ℕ → ℕ → ℕ) (cells : Cells) (rect : Re
     → IsBandFarIn distance cells rect gap least band (λ a. a < rect.x0)
     → IsBandFar distance cells rect gap least band
 IsBandFar-both distance cells rect gap least band right left =
-    λ a b obstacle here away. elim (cases_lt a rect.x0) [
-      | inl before ↦ left a b obstacle here before away
-      | inr from ↦ right a b obstacle here from away
-    ]
+    grind (arith, nat_tests, common_steps)
 
 -- a band is far from a gap on, where it is so from as many rows on as it lies outside of the
 -- rectangle
@@ -69,12 +68,7 @@ pub IsThinned-without : (distance : ℕ → ℕ → ℕ) (cells : Cells) (rect :
     → ((i : ℕ) → i < 64 → (i ≡ band → ⊥) → bit_at left i ≡ bit_at bands i)
     → IsThinned distance cells rect gap least bands left
 IsThinned-without distance cells rect gap least bands left band bitmap far kept =
-    λ a b obstacle away marked.
-    let row = (obstacle_within cells bitmap a b obstacle).3 in
-    elim (cases_eq (b / 64) band) [
-      | inl here ↦ inr (far a b obstacle here away)
-      | inr other ↦ let same = kept (b / 64) (omega arith) other in inl (omega arith)
-    ]
+    grind (arith, nat_tests, common_steps, obstacle_within)
 
 -- nothing is left out
 pub IsThinned-same : (distance : ℕ → ℕ → ℕ) (cells : Cells) (rect : Rect) (gap least bands : ℕ)
@@ -87,10 +81,7 @@ pub IsThinned-more : (distance : ℕ → ℕ → ℕ) (cells : Cells) (rect : Re
     → IsThinned distance cells rect gap least middle left
     → IsThinned distance cells rect gap least bands left
 IsThinned-more distance cells rect gap least bands middle left one other =
-    λ a b obstacle away marked. elim (one a b obstacle away marked) [
-      | inl still ↦ other a b obstacle away still
-      | inr far ↦ inr far
-    ]
+    grind (arith, nat_tests, common_steps)
 
 -- each obstacle at least this many rows outside the rectangle is in a marked band, or as far as the
 -- least
@@ -112,10 +103,7 @@ pub AreBandsLive-thinned : (distance : ℕ → ℕ → ℕ) (cells : Cells) (rec
     → IsThinned distance cells rect next lower bands left
     → AreBandsLive distance cells rect next lower left
 AreBandsLive-thinned distance cells rect gap least bands next lower left order less live thinned =
-    λ a b obstacle away. elim (live a b obstacle (omega arith)) [
-      | inl marked ↦ thinned a b obstacle away marked
-      | inr far ↦ inr (IsFar-lower (rect_distance distance rect a b) least lower less far)
-    ]
+    grind (arith, nat_tests, common_steps)
 
 -- bands stay live for rows farther away
 pub AreBandsLive-later : (distance : ℕ → ℕ → ℕ) (cells : Cells) (rect : Rect)
@@ -129,12 +117,7 @@ pub marked_passed : (bands : ℕ) (rect : Rect) (gap next b : ℕ) → 0 < gap �
     → IsNextGap (IsMarkedRow bands) rect.y0 (rect.y1 - 1) gap next → gap ≤ row_gap rect b
     → row_gap rect b < next → IsMarkedRow bands b → ⊥
 marked_passed bands rect gap next b some within is away near marked =
-    let rows = rect.has_cells.rows in
-    elim (cases_lt b rect.y0) [
-      | inl up ↦ let passed = is.above b marked (omega arith) in absurd (omega arith)
-      | inr down ↦ let passed = is.below b marked (omega arith) (omega arith) in
-          absurd (omega arith)
-    ]
+    grind (arith, nat_tests, common_steps)
 
 -- rows skipped for their bands have no obstacle that could lower the least
 pub IsLeastWithin-live : (distance : ℕ → ℕ → ℕ) (cells : Cells) (rect : Rect)
@@ -144,24 +127,9 @@ pub IsLeastWithin-live : (distance : ℕ → ℕ → ℕ) (cells : Cells) (rect 
     → IsLeastWithin distance (IsObstacle cells) rect gap limit least
     → IsLeastWithin distance (IsObstacle cells) rect next limit least
 IsLeastWithin-live distance cells rect gap next limit least bands bitmap some is live before =
-    record {
-      within = before.within;
-      far = λ a b obstacle near. elim (cases_lt (row_gap rect b) gap) [
-        | inl earlier ↦ before.far a b obstacle earlier
-        | inr away ↦ elim (live a b obstacle away) [
-          | inl marked ↦
-              let last = (obstacle_within cells bitmap a b obstacle).3 in
-              absurd (marked_passed bands rect gap next b some (omega arith) is away near marked)
-          | inr far ↦ far
-        ]
-      ];
-      reached = before.reached;
-    }
+    grind (arith, nat_tests, common_steps, marked_passed, obstacle_within)
 
 -- what isn't greater in one case and the same in the other isn't greater
 pub less_or_same : (n m least lower : ℕ) → (n ≤ m → lower ≤ least) → (m < n → lower ≡ least)
     → lower ≤ least
-less_or_same n m least lower less same = elim (cases_lt m n) [
-  | inl none ↦ let equal = same none in omega arith
-  | inr there ↦ less there
-]
+less_or_same n m least lower less same = grind (arith, nat_tests, common_steps)

@@ -23,6 +23,8 @@ use Rattle.clearance.proofs.Searches.{obstacle_within}
 use Rattle.clearance.proofs.SpotSearches.{IsSpotBelow-merged, IsSpotBelow-same}
 use Rattle.clearance.proofs.SpotSearches.{IsSpotBelow-wider}
 use Rattle.clearance.proofs.TileRows.{AreBandsLive}
+use Rattle.std.proofs.lemmas.Grind.{common_steps}
+use Rattle.std.proofs.lemmas.Bool.Decides.{nat_tests}
 
 -- a row of a tile beyond the reach is far
 tile_row_far : (distance : ℕ → ℕ → ℕ) → Grows distance → StaysNearer distance
@@ -47,10 +49,7 @@ tile_row_far distance grows stays cells rect columns reach limit bitmap far a b 
 pub IsSpotBelow-tile_start : (distance : ℕ → ℕ → ℕ) (cells : Cells) (rect : Rect)
     (tile from limit : ℕ)
     → IsSpotBelow distance (IsInTileRows cells tile from from) rect limit None
-IsSpotBelow-tile_start distance cells rect tile from limit = λ a b here.
-    let first = here.2 in
-    let before = here.3 in
-    absurd (omega arith)
+IsSpotBelow-tile_start distance cells rect tile from limit = omega arith
 
 -- a search of some rows of a tile goes on by one row
 pub IsSpotBelow-row_more : (distance : ℕ → ℕ → ℕ) (cells : Cells) (rect : Rect)
@@ -216,24 +215,9 @@ pub IsSpotBelow-tile_more : (distance : ℕ → ℕ → ℕ) (cells : Cells) (re
     → IsMerged rect.y0 best next merged
     → IsSpotBelow distance (λ a b. IsInTiles cells band tiles a b × (a / 64 < after)) rect limit
     merged
-IsSpotBelow-tile_more distance cells rect band tiles tile after limit best next merged order
-    own none before here both =
-    IsSpotBelow-merged distance (λ a b. IsInTiles cells band tiles a b × (a / 64 < tile))
-    (IsInTile cells band tile) (λ a b. IsInTiles cells band tiles a b × (a / 64 < after)) rect limit
-    best next merged
-    (λ a b some. (some.0, let less = some.1 in omega arith))
-    (λ a b some. (
-      ((some.0, some.1), subst (λ (k : ℕ). bit_at tiles k ≡ 1) (sym some.2) own),
-      let same = some.2 in omega arith,
-    ))
-    (λ a b some. elim (cases_lt (a / 64) tile) [
-      | inl earlier ↦ inl (some.0, earlier)
-      | inr from ↦ elim (cases_lt tile (a / 64)) [
-        | inl later ↦ absurd (none (a / 64) (omega arith) some.1 some.0.1)
-        | inr same ↦ inr (some.0.0.0, some.0.0.1, omega arith)
-      ]
-    ])
-    before here both
+IsSpotBelow-tile_more distance cells rect band tiles tile after limit best next merged order own
+    none before here both =
+    grind (arith, nat_tests, common_steps)
 
 -- once all tiles have been searched, all of their obstacles have
 pub IsSpotBelow-tiles_all : (distance : ℕ → ℕ → ℕ) (cells : Cells) (rect : Rect)
@@ -242,9 +226,7 @@ pub IsSpotBelow-tiles_all : (distance : ℕ → ℕ → ℕ) (cells : Cells) (re
     → IsSpotBelow distance (λ a b. IsInTiles cells band tiles a b × (a / 64 < tile)) rect limit best
     → IsSpotBelow distance (IsInTiles cells band tiles) rect limit best
 IsSpotBelow-tiles_all distance cells rect band tiles tile limit best bitmap ended =
-    IsSpotBelow-same distance (λ a b. IsInTiles cells band tiles a b × (a / 64 < tile))
-    (IsInTiles cells band tiles) rect limit best (λ a b here. here.0)
-    (λ a b here. let column = (obstacle_within cells bitmap a b here.0.0).0 in (here, omega arith))
+    grind (arith, nat_tests, common_steps, IsSpotBelow-same, obstacle_within)
 
 -- bands without those that are far away are live
 pub AreBandsLive-within : (distance : ℕ → ℕ → ℕ) → Grows distance → StaysNearer distance
@@ -276,11 +258,8 @@ pub IsSpotBelow-map_none : (distance : ℕ → ℕ → ℕ) (cells : Cells) (Obs
     → ((a b : ℕ) → Obstacle a b → IsObstacle cells a b)
     → ((k : ℕ) → 0 ≤ k → k < band → bit_at bands k ≡ 1 → ⊥)
     → IsSpotBelow distance (λ a b. Obstacle a b × (b / 64 < band)) rect limit None
-IsSpotBelow-map_none distance cells Obstacle rect bands band limit live is none = λ a b here.
-    elim (live a b (is a b here.0) (omega arith)) [
-      | inl marked ↦ absurd (none (b / 64) (omega arith) here.1 marked)
-      | inr far ↦ far
-    ]
+IsSpotBelow-map_none distance cells Obstacle rect bands band limit live is none =
+    grind (arith, nat_tests, common_steps)
 
 -- a search of some bands goes on by one band
 pub IsSpotBelow-band_more : (distance : ℕ → ℕ → ℕ) (cells : Cells) (Obstacle : ℕ → ℕ → Type 0)
@@ -322,7 +301,4 @@ pub IsSpotBelow-map_all : (distance : ℕ → ℕ → ℕ) (cells : Cells) (Obst
     → IsSpotBelow distance (λ a b. Obstacle a b × (b / 64 < band)) rect limit best
     → IsSpotBelow distance Obstacle rect limit best
 IsSpotBelow-map_all distance cells Obstacle rect band limit best bitmap is ended =
-    IsSpotBelow-same distance (λ a b. Obstacle a b × (b / 64 < band))
-    Obstacle rect limit best (λ a b here. here.0)
-    (λ a b here. let row = (obstacle_within cells bitmap a b (is a b here)).3 in
-    (here, omega arith))
+    grind (arith, nat_tests, common_steps, IsSpotBelow-same, obstacle_within)

@@ -1,12 +1,11 @@
 -- Which cells a path has, piece by piece and half by half.
 use Rattle.std.proofs.Common.{◌≡◌, ℕ, zero, suc, ◌+◌, ◌-◌, ◌<◌, ◌≤◌, inl, inr, List, [], ◌∷◌, ◌++◌}
-use Rattle.std.proofs.Common.{length, get_or, take, drop, max, ◌/◌, refl, sym, ap, subst, ◌∙◌}
-use Rattle.std.proofs.Common.{arith, length-append, length-drop, length-take-le}
-use Rattle.std.specs.Int.{abs_diff}
+use Rattle.std.proofs.Common.{length, get_or, take, drop, ◌/◌, refl, sym, ap, subst, ◌∙◌}
+use Rattle.std.proofs.Common.{arith, length-append}
 use Rattle.std.proofs.lemmas.Bool.{cases_lt}
 use Rattle.std.proofs.lemmas.Bool.Decides.{nat_tests}
-use Rattle.std.proofs.lemmas.List.{append-nil, append_assoc, get_or_append_left}
-use Rattle.std.proofs.lemmas.List.{get_or-append_right, take-append-drop}
+use Rattle.std.proofs.lemmas.List.{append-nil, get_or_append_left}
+use Rattle.std.proofs.lemmas.List.{get_or-append_right}
 use Rattle.std.proofs.lemmas.List.FromFn.{length-map-range_with_len, get_or-map-range_with_len}
 use Rattle.metric.specs.declared.cell.Cell.{Cell}
 use Rattle.metric.specs.declared.rect.Rect.{Rect}
@@ -15,6 +14,8 @@ use Rattle.clearance.specs.Paths.{towards, cells_up_to, cells_behind, cells_of_p
 use Rattle.clearance.specs.Search.{IsInRect}
 use Rattle.clearance.specs.Segments.{IsStraight, IsWalk, cell_count}
 use Rattle.clearance.specs.Firsts.{origin, cell_of_list}
+use Rattle.std.proofs.Common.{rules}
+use Rattle.std.proofs.lemmas.Grind.{common_steps}
 
 -- the cell of a step after a point, from 0
 abbrev pub cell_of_step : Cell → Cell → ℕ → Cell
@@ -22,26 +23,17 @@ cell_of_step from to k = record { x = towards from.x to.x (1 + k); y = towards f
 
 -- a segment has as many cells as it is counted to have
 pub length-cells_up_to : (from to : Cell) → length (cells_up_to from to) ≡ cell_count from to
-length-cells_up_to from to =
-    length-map-range_with_len (λ k. record { x = towards from.x to.x k; y = towards from.y to.y k })
-    1 (cell_count from to)
+length-cells_up_to from to = grind (arith, nat_tests, common_steps, length-map-range_with_len)
 
 -- each cell of a segment is that of its step
 pub get_or-cells_up_to : (from to : Cell) (k : ℕ) → k < cell_count from to
     → get_or (cells_up_to from to) k origin ≡ cell_of_step from to k
 get_or-cells_up_to from to k within =
-    get_or-map-range_with_len (λ n. record { x = towards from.x to.x n; y = towards from.y to.y n })
-    1 (cell_count from to) k (1 + k) origin within refl
-
--- one step from a number to itself ends at it
-towards-same : (n : ℕ) → towards n n 1 ≡ n
-towards-same n = grind (arith, nat_tests)
+    grind (arith, nat_tests, common_steps, get_or-map-range_with_len)
 
 -- a point that is repeated has its cell once more
 cells_up_to-same : (point : Cell) → cells_up_to point point ≡ point ∷ []
-cells_up_to-same point =
-    let one : max 1 (abs_diff point.x point.x + abs_diff point.y point.y) ≡ 1 = omega arith in
-    rw (one, towards-same point.x, towards-same point.y) refl
+cells_up_to-same point = grind (arith, nat_tests, common_steps)
 
 -- the cells of a path are those after its first point, along all its points
 first_behind : (first : Cell) (points : List Cell)
@@ -82,9 +74,7 @@ cells_behind-append : (from : Cell) (front back : List Cell)
     ++ cells_behind (last_of from front) back
 cells_behind-append from [] back = refl
 cells_behind-append from (to ∷ front) back =
-    ap (λ (l : List Cell). cells_up_to from to ++ l) (cells_behind-append to front back)
-    ∙ sym (append_assoc (cells_up_to from to) (cells_behind to front)
-    (cells_behind (last_of to front) back))
+    grind (arith, nat_tests, common_steps, cells_behind-append to front back)
 
 -- both parts of a walk are walks
 IsWalk-parts : (cells : Cells) (from : Cell) (front back : List Cell)
@@ -93,8 +83,7 @@ IsWalk-parts : (cells : Cells) (from : Cell) (front back : List Cell)
 IsWalk-parts cells from [] [] walk = (walk, walk)
 IsWalk-parts cells from [] (to ∷ back) walk = (walk.0, walk)
 IsWalk-parts cells from (to ∷ front) back walk =
-    let parts = IsWalk-parts cells to front back walk.2 in
-    ((walk.0, walk.1, parts.0), parts.1)
+    grind (arith, nat_tests, common_steps, IsWalk-parts cells to front back)
 
 -- the first point of a walk lies in the bitmap
 pub IsWalk-start : (cells : Cells) (from : Cell) (points : List Cell) → IsWalk cells from points
@@ -111,20 +100,10 @@ IsWalk-inside cells from (to ∷ points) zero walk within = IsWalk-start cells t
 IsWalk-inside cells from (to ∷ points) (suc k) walk within =
     IsWalk-inside cells to points k walk.2 (omega arith)
 
--- a step from one number towards another stays between bounds of both
-towards-between : (from to k low high : ℕ) → low ≤ from → low ≤ to → from < high → to < high
-    → (low ≤ towards from to k) × (towards from to k < high)
-towards-between from to k low high a b c d = (grind (arith, nat_tests), grind (arith, nat_tests))
-
 -- a cell of a piece lies in each rectangle that has both of its ends
 step-in_rect : (rect : Rect) (from to : Cell) (k : ℕ) → IsInRect rect from.x from.y
     → IsInRect rect to.x to.y → IsInRect rect (cell_of_step from to k).x (cell_of_step from to k).y
-step-in_rect rect from to k one other =
-    let x = towards-between from.x to.x (1 + k) rect.x0 rect.x1 one.left other.left one.right
-    other.right in
-    let y = towards-between from.y to.y (1 + k) rect.y0 rect.y1 one.top other.top one.bottom
-    other.bottom in
-    record { left = x.0; right = x.1; top = y.0; bottom = y.1 }
+step-in_rect rect from to k one other = grind (arith, nat_tests, common_steps)
 
 -- the cells of a walk lie in each rectangle that has all of its points
 pub cells_behind-in_rect : (rect : Rect) (from : Cell) (points : List Cell)
@@ -166,12 +145,7 @@ pub record IsBetween (low high cell : Cell) : Type 0 where
 -- what lies between two cells lies between two that are further apart
 pub IsBetween-wider : (low high before after cell : Cell) → before.x ≤ low.x → before.y ≤ low.y
     → high.x ≤ after.x → high.y ≤ after.y → IsBetween low high cell → IsBetween before after cell
-IsBetween-wider low high before after cell a b c d is =
-    let left = is.left in
-    let right = is.right in
-    let top = is.top in
-    let bottom = is.bottom in
-    record { left = omega arith; right = omega arith; top = omega arith; bottom = omega arith }
+IsBetween-wider low high before after cell a b c d is = omega arith
 
 -- two lists are the front and the back of one, and neither is the whole
 pub record AreHalves (points front back : List Cell) : Type 0 where
@@ -185,27 +159,14 @@ pub AreHalves-split : (points front back : List Cell) → front ≡ take (length
     → back ≡ drop (length points / 2) points
     → (length points ≡ 0 → ⊥) → (length points ≡ 1 → ⊥) → AreHalves points front back
 AreHalves-split points front back front_is back_is some more =
-    let half : length points / 2 + length points / 2 ≤ length points = omega arith in
-    let low : 1 ≤ length points / 2 = omega arith in
-    let size : length front ≡ length points / 2 = ap (λ (l : List Cell). length l) front_is
-    ∙ length-take-le (length points / 2) points (omega arith) in
-    let rest : length back ≡ length points - length points / 2 =
-    ap (λ (l : List Cell). length l) back_is ∙ length-drop (length points / 2) points in
-    record {
-      whole = rw (front_is, back_is) (take-append-drop (length points / 2) points);
-      some = omega arith;
-      front_fewer = omega arith;
-      back_fewer = omega arith;
-    }
+    grind (arith, nat_tests, common_steps)
 
 -- both halves of a walk are walks
 pub IsWalk-halves : (cells : Cells) (from : Cell) (points front back : List Cell)
     → IsWalk cells from points → AreHalves points front back
     → IsWalk cells from front × IsWalk cells (get_or front (length front - 1) origin) back
 IsWalk-halves cells from points front back walk are =
-    let parts = IsWalk-parts cells from front back (rw (are.whole) walk) in
-    let last = last_of-place from front (length front - 1) (let some = are.some in omega arith) in
-    (parts.0, rw last parts.1)
+    search (rules, arith, IsWalk-parts, last_of-place)
 
 -- the cells of a walk are those of its halves
 pub cells_behind-halves : (from : Cell) (points front back : List Cell)
@@ -213,9 +174,7 @@ pub cells_behind-halves : (from : Cell) (points front back : List Cell)
     → cells_behind from points ≡ cells_behind from front
     ++ cells_behind (get_or front (length front - 1) origin) back
 cells_behind-halves from points front back are =
-    let last = last_of-place from front (length front - 1) (let some = are.some in omega arith) in
-    ap (λ (l : List Cell). cells_behind from l) (sym are.whole)
-    ∙ rw last (cells_behind-append from front back)
+    grind (arith, nat_tests, common_steps, cells_behind-append, last_of-place)
 
 -- the one point of a walk lies in the row or column of the point before it
 pub IsWalk-straight : (cells : Cells) (from : Cell) (points : List Cell) → IsWalk cells from points

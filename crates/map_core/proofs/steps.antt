@@ -1,5 +1,4 @@
 -- Lemmas on what each event does to a world, by its parts.
-pub mod CollectWorld
 pub mod CommitWorld
 pub mod DoesLemmas
 pub mod DrawWorld
@@ -7,10 +6,7 @@ pub mod Events
 pub mod KeepWorld
 pub mod OpenWorld
 pub mod OrderWorld
-pub mod PublishWorld
 pub mod ReaderWorld
 pub mod RunLemmas
 pub mod StepLemmas
-pub mod StepsLeft
 pub mod WorldLemmas
-pub mod WriteWorld

@@ -1,10 +1,7 @@
 -- With which version the block of a position came.
-use Rattle.std.proofs.Common.{◌≡◌, ℕ, zero, suc, ◌<◌, ◌≤◌, Bool, true, false, if◌then◌else◌, List}
-use Rattle.std.proofs.Common.{[], ◌∷◌, ◌++◌, length, get_or, refl, ap, sym, ◌∙◌, arith}
-use Rattle.std.proofs.lemmas.Bool.{cases_eq}
-use Rattle.std.proofs.lemmas.List.{get_or_append_left, get_or_push}
-use mathlib.Core.Logic.{inl, inr}
-use Rattle.map_core.specs.Story.{Story, came, changed_before}
+use Rattle.map_core.proofs.Names.{rules, ◌≡◌, ℕ, zero, suc, ◌<◌, ◌≤◌, Bool, true, false, List, []}
+use Rattle.map_core.proofs.Names.{◌∷◌, ◌++◌, length, get_or, refl, ap, arith, cases_eq, get_or_push}
+use Rattle.map_core.proofs.Names.{get_or_append_left, inl, inr, Story, came, changed_before}
 
 -- a version comes with itself where the position had changed at its publish
 pub came-changed : (s : Story) (k v : ℕ) → changed_before s v k ≡ true → came s k (suc v) ≡ suc v
@@ -19,25 +16,16 @@ came-same s k v is = rw is
 came_cases : (P : ℕ → Type 0) (s : Story) (k v : ℕ) → (changed_before s v k ≡ true → P (suc v))
     → (changed_before s v k ≡ false → P (came s k v))
     → P (came s k (suc v))
-came_cases P s k v changed same =
-    elim (changed_before s v k) as (λ b. (b ≡ true → P (suc v)) → (b ≡ false → P (came s k v))
-    → P (if b then suc v else came s k v)) [
-      | true ↦ λ changed same. changed refl
-      | false ↦ λ changed same. same refl
-    ] changed same
+came_cases P s k v changed same = search rules
 
 -- a version comes with itself or one before it
 pub came-le : (s : Story) (k v : ℕ) → came s k v ≤ v
 came-le s k zero = omega arith
-came-le s k (suc v) =
-    came_cases (λ n. n ≤ suc v) s k v (λ is. omega arith)
-    (λ is. let below = came-le s k v in omega arith)
+came-le s k (suc v) = search (rules, came-le s k v, came_cases)
 
 -- the next version comes with none older than the version before it does
 came_grows : (s : Story) (k v : ℕ) → came s k v ≤ came s k (suc v)
-came_grows s k v =
-    came_cases (λ n. came s k v ≤ n) s k v (λ is. let below = came-le s k v in omega arith)
-    (λ is. omega arith)
+came_grows s k v = search (rules, came_cases, came-le)
 
 -- a later version comes with none older than an earlier version does
 pub came_order : (s : Story) (k v w : ℕ) → v ≤ w → came s k v ≤ came s k w
@@ -63,33 +51,23 @@ came_between s k v (suc w) low high =
 -- stories with the same changes have the same versions
 pub came-same_changes : (s t : Story) → t.changes ≡ s.changes → (k v : ℕ) → came t k v ≡ came s k v
 came-same_changes s t same k zero = refl
-came-same_changes s t same k (suc v) =
-    ap (λ (cs : List (List Bool)). if get_or (get_or cs v []) k false then suc v else came t k v)
-    same
-    ∙ ap (λ (n : ℕ). if changed_before s v k then suc v else n) (came-same_changes s t same k v)
+came-same_changes s t same k (suc v) = search (rules, came-same_changes s t same k v)
 
 -- a publish leaves what had changed at each publish before it
 pub changed_before-push : (s t : Story) (new : List Bool) → t.changes ≡ s.changes ++ new ∷ []
     → (v k : ℕ) → v < length s.changes
     → changed_before t v k ≡ changed_before s v k
-changed_before-push s t new is v k h =
-    ap (λ (cs : List (List Bool)). get_or (get_or cs v []) k false) is
-    ∙ ap (λ (c : List Bool). get_or c k false) (get_or_append_left s.changes (new ∷ []) [] v h)
+changed_before-push s t new is v k h = search (rules, get_or_append_left)
 
 -- what had changed at the last publish is what that publish adds
 pub changed_before_new : (s t : Story) (new : List Bool) → t.changes ≡ s.changes ++ new ∷ []
     → (v k : ℕ) → v ≡ length s.changes
     → changed_before t v k ≡ get_or new k false
-changed_before_new s t new is v k h =
-    ap (λ (cs : List (List Bool)). get_or (get_or cs v []) k false) is
-    ∙ ap (λ (c : List Bool). get_or c k false) (get_or_push s.changes new [] v (sym h))
+changed_before_new s t new is v k h = search (rules, get_or_push)
 
 -- a publish leaves with which versions those before it came
 pub came-push : (s t : Story) (new : List Bool) → t.changes ≡ s.changes ++ new ∷ [] → (k v : ℕ)
     → v ≤ length s.changes → came t k v ≡ came s k v
 came-push s t new is k zero h = refl
 came-push s t new is k (suc v) h =
-    ap (λ (b : Bool). if b then suc v else came t k v)
-    (changed_before-push s t new is v k (omega arith))
-    ∙ ap (λ (n : ℕ). if changed_before s v k then suc v else n)
-    (came-push s t new is k v (omega arith))
+    search (rules, came-push s t new is k v (omega arith), changed_before-push)

@@ -1,13 +1,9 @@
 -- Different numbers, counted; and the positions that have changed.
-use Rattle.std.proofs.Common.{◌≡◌, ◌≢◌, ℕ, zero, suc, ◌+◌, ◌<◌, ◌≤◌, ◌==◌, ◌||◌, Bool, true, false}
-use Rattle.std.proofs.Common.{cond, List, [], ◌∷◌, length, refl, ap, arith}
-use Rattle.std.specs.Prelude.{sum_by}
-use Rattle.std.specs.List.{range_with_len, list_any}
-use Rattle.std.proofs.lemmas.Bool.{cases_eq, eq-eqb, ne_eqb}
-use Rattle.std.proofs.lemmas.List.Sums.{sum_by-cons}
-use mathlib.Core.Logic.{inl, inr}
+use Rattle.map_core.proofs.Names.{rules, ◌≡◌, ◌≢◌, ℕ, zero, suc, ◌+◌, ◌<◌, ◌≤◌, ◌==◌, ◌||◌, Bool}
+use Rattle.map_core.proofs.Names.{true, false, cond, List, [], ◌∷◌, length, refl, ap, arith, sum_by}
+use Rattle.map_core.proofs.Names.{range_with_len, list_any, cases_eq, eq-eqb, ne_eqb, sum_by-cons}
+use Rattle.map_core.proofs.Names.{inl, inr, times}
 use Rattle.map_core.specs.Story.{number_of_values}
-use Rattle.map_core.specs.Safe.{times}
 use Rattle.map_core.proofs.accounts.TimesLemmas.{one_if, none_if}
 
 -- a sum of numbers that are each the sum of two is the sum of both sums
@@ -29,8 +25,7 @@ sum_by-add f g h a (suc n) each =
 -- a sum of ones is their number
 pub sum_by-ones : (f : ℕ → ℕ) (a n : ℕ) → ((k : ℕ) → f k ≡ 1) → sum_by f (range_with_len a n) ≡ n
 sum_by-ones f a zero each = refl
-sum_by-ones f a (suc n) each =
-    omega (arith, sum_by-cons f a (range_with_len (a + 1) n), sum_by-ones f (a + 1) n each, each a)
+sum_by-ones f a (suc n) each = search (rules, sum_by-ones f (a + 1) n each, sum_by-cons)
 
 -- a position is one of a range
 pub sum_by-place : (q a n : ℕ) → a ≤ q → q < a + n
@@ -103,23 +98,21 @@ length-without n (m ∷ ms) some =
 times-without : (n : ℕ) (ms : List ℕ) → times n ms ≤ 1 → times n (without n ms) ≡ 0
 times-without n [] once = refl
 times-without n (m ∷ ms) once =
-    elim (cases_eq n m) [
-      | inl same ↦ rw (eq-eqb n m same) (let head = times-head n m ms same in omega arith)
-      | inr apart ↦
-          let tail = times-tail n m ms apart in
-          let rest = times-without n ms (omega arith) in
-          rw (ne_eqb n m apart) (let again = times-tail n m (without n ms) apart in omega arith)
-    ]
+    search (
+      rules,
+      times-without n ms (omega arith),
+      cases_eq,
+      eq-eqb,
+      times-head,
+      times-tail,
+      ne_eqb,
+    )
 
 -- each other one stands as often
 times-others : (n o : ℕ) (ms : List ℕ) → o ≢ n → times o (without n ms) ≡ times o ms
 times-others n o [] apart = refl
 times-others n o (m ∷ ms) apart =
-    elim (cases_eq n m) [
-      | inl same ↦ rw (eq-eqb n m same) (let tail = times-tail o m ms (λ is. apart (omega arith)) in
-          omega arith)
-      | inr other ↦ rw (ne_eqb n m other) (let rest = times-others n o ms apart in omega arith)
-    ]
+    search (rules, times-others n o ms apart, cases_eq, eq-eqb, times-tail, ne_eqb)
 
 -- a number that a list has stands in it once at least
 any-times : (n : ℕ) (ms : List ℕ) → list_any (λ m. n == m) ms ≡ true → 1 ≤ times n ms
@@ -143,8 +136,7 @@ none-times : (n : ℕ) (ms : List ℕ) → list_any (λ m. n == m) ms ≡ false 
 none-times n [] is = refl
 none-times n (m ∷ ms) is =
     elim (cases_eq n m) [
-      | inl same ↦ absurd (let yes_is = eq-eqb n m same in
-          both (n == m) (list_any (λ o. n == o) ms) yes_is is)
+      | inl same ↦ search (rules, eq-eqb)
       | inr apart ↦
           let tail = times-tail n m ms apart in
           let rest = none-times n ms
@@ -157,8 +149,7 @@ none-times n (m ∷ ms) is =
     both false b on is = cc
 
     skipped : (a b : Bool) → a ≡ false → (a || b) ≡ false → b ≡ false
-    skipped true b off is = absurd (cc)
-    skipped false b off is = is
+    skipped a b off is = search rules
 
 -- a list has as many different numbers as another one is long that has the same numbers, and none
 -- twice
@@ -191,16 +182,12 @@ values_counted (x ∷ xs) ys to back once =
           (λ n there.
           elim (cases_eq n x) [
             | inl same ↦ absurd (let is = ap (λ (o : ℕ). times o xs) same in omega arith)
-            | inr apart ↦ let tail = times-tail n x xs apart in let found = to n (omega arith) in
-                let other = times-others x n ys apart in omega arith
+            | inr apart ↦ search (rules, times-tail, times-others)
           ])
           (λ n there.
           elim (cases_eq n x) [
-            | inl same ↦ absurd (let is = ap (λ (o : ℕ). times o (without x ys)) same in
-                omega arith)
-            | inr apart ↦ let other = times-others x n ys apart in
-                let found = back n (omega arith) in let tail = times-tail n x xs apart in
-                omega arith
+            | inl same ↦ search rules
+            | inr apart ↦ search (rules, times-others, times-tail)
           ])
           (λ n.
           elim (cases_eq n x) [

@@ -1,17 +1,9 @@
 -- A collect frees just the retired blocks that no kept version maps; its reply is an answer.
-use Rattle.std.proofs.Common.{◌≡◌, ℕ, ◌+◌, not, List, length, map, refl, arith}
-use Rattle.std.specs.Prelude.{None, filter}
-use Rattle.map_core.specs.declared.command.Command.{Command}
-use Rattle.map_core.specs.declared.command.Command.TheVariants.{Paint, Stamp, Publish, Revert}
-use Rattle.map_core.specs.declared.command.Command.TheVariants.{Collect, Checkpoint}
-use Rattle.map_core.specs.declared.kept.Kept.{Kept}
-use Rattle.map_core.specs.Story.{Story, newest, kept, IsKept, with_kept, inuse}
-use Rattle.map_core.specs.Legal.{refused, IsAnswer}
-use Rattle.map_core.specs.declared.blocks.RetiredBlock.{RetiredBlock}
-use Rattle.map_core.specs.Blocks.{Blocks, is_used, blocks_of}
-use Rattle.map_core.specs.Words.{Base, seen_in}
-use Rattle.map_core.specs.Steps.{kept_scanned, reply_of}
-use Rattle.map_core.specs.Tidy.{IsTidy}
+use Rattle.map_core.proofs.Names.{rules, ◌≡◌, ℕ, ◌+◌, not, List, length, refl, arith, None, filter}
+use Rattle.map_core.proofs.Names.{Command, Paint, Stamp, Publish, Revert, Collect, Checkpoint, Kept}
+use Rattle.map_core.proofs.Names.{Story, kept, IsKept, with_kept, inuse, refused, IsAnswer, Blocks}
+use Rattle.map_core.proofs.Names.{RetiredBlock, is_used, blocks_of, Base, kept_scanned, reply_of}
+use Rattle.map_core.proofs.Names.{IsTidy}
 use Rattle.map_core.proofs.logs.KeptLemmas.{part-after, IsIn-after, stay-newest}
 use Rattle.map_core.proofs.invariants.TidyCollect.{IsChoice, IsTidy-keeping}
 use Rattle.map_core.proofs.invariants.TidyDraft.{free_is}
@@ -35,11 +27,7 @@ freed_is k s m tidy kept_now choice =
 pub scanned_choice : (k : Base) (s : Story) (m : Blocks) → IsTidy k s m → (words : List ℕ)
     → IsChoice s (kept_scanned s words)
 unfolding kept_scanned IsKept
-scanned_choice k s m tidy words = record {
-  part = part-after (newest s) (map seen_in words) s.kept.slots;
-  newest_in = IsIn-after s.kept (newest s) (map seen_in words) (newest s) tidy.slots.newest_in
-      (stay-newest (newest s) (map seen_in words));
-}
+scanned_choice k s m tidy words = search (rules, part-after, IsIn-after, stay-newest)
 
 -- the reply that a command commits is an answer
 pub reply_is_answer : (k : Base) (s : Story) (m : Blocks) → IsTidy k s m

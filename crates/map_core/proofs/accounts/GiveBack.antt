@@ -1,11 +1,9 @@
 -- The draft's own blocks are freed, position by position.
-use Rattle.std.proofs.Common.{◌≡◌, ℕ, zero, suc, ◌+◌, ◌<◌, ◌≤◌, List, [], ◌∷◌, ◌++◌, not, length}
-use Rattle.std.proofs.Common.{take, drop, get_or, set, replicate, refl, ap, sym, ◌∙◌, arith}
-use Rattle.std.specs.Prelude.{Option, Some, None, filter}
-use Rattle.map_core.specs.declared.blocks.RetiredBlock.{RetiredBlock}
-use Rattle.std.proofs.lemmas.List.{drop_more, length-replicate}
-use Rattle.std.proofs.Math.Seq.{take-append_seam}
-use Rattle.map_core.specs.Blocks.{own_list, given_back, blocks_of, is_used}
+use Rattle.map_core.proofs.Names.{rules, ◌≡◌, ℕ, zero, suc, ◌+◌, ◌<◌, ◌≤◌, List, [], ◌∷◌, ◌++◌, not}
+use Rattle.map_core.proofs.Names.{length, take, drop, get_or, set, replicate, refl, ap, arith, Some}
+use Rattle.map_core.proofs.Names.{Option, None, filter, RetiredBlock, drop_more, take-append_seam}
+use Rattle.map_core.proofs.Names.{own_list, given_back, blocks_of, is_used}
+use Rattle.std.proofs.lemmas.Grind.{common_steps}
 
 -- the positions before the i-th have no block
 abbrev pub cleared : ℕ → List (Option ℕ) → List (Option ℕ)
@@ -38,8 +36,7 @@ pub set-cleared : (i : ℕ) (own : List (Option ℕ)) → i < length own
     → set (cleared i own) i None ≡ cleared (suc i) own
 set-cleared i [] h = absurd (omega arith)
 set-cleared zero (o ∷ own) h = refl
-set-cleared (suc i) (o ∷ own) h =
-    ap (λ (os : List (Option ℕ)). None ∷ os) (set-cleared i own (omega arith))
+set-cleared (suc i) (o ∷ own) h = search (rules, set-cleared i own (omega arith))
 
 -- clearing each position leaves a list without blocks
 pub cleared-all : (own : List (Option ℕ)) → cleared (length own) own ≡ replicate (length own) None
@@ -52,20 +49,7 @@ pub given_some : (own : List (Option ℕ)) (free : List ℕ) (room i : ℕ) (own
     → i < length own → get_or own_now i o ≡ Some b
     → IsGivenBack own free room (i + 1) (set own_now i None) (b ∷ free_now)
 given_some own free room i own_now free_now o b given h is =
-    let here : drop i own ≡ Some b ∷ drop (i + 1) own = drop_more own i o h
-    ∙ ap (λ (x : Option ℕ). x ∷ drop (i + 1) own)
-    (sym (get_or-cleared i own o)
-    ∙ (ap (λ (os : List (Option ℕ)). get_or os i o) (sym given.own_is) ∙ is)) in
-    let fits = given.fits in
-    let counted = ap (λ (os : List (Option ℕ)). length (own_list os)) here in
-    record {
-      own_is = ap (λ (os : List (Option ℕ)). set os i None) given.own_is
-          ∙ (set-cleared i own h
-          ∙ (let on : suc i ≡ i + 1 = omega arith in ap (λ (n : ℕ). cleared n own) on));
-      free_is = ap (λ (os : List (Option ℕ)). given_back (own_list os) free_now) (sym here)
-          ∙ given.free_is;
-      fits = omega arith;
-    }
+    search (rules, drop_more, get_or-cleared, set-cleared)
 
 -- a next position without a block gives nothing back
 pub given_none : (own : List (Option ℕ)) (free : List ℕ) (room i : ℕ) (own_now : List (Option ℕ))
@@ -73,20 +57,7 @@ pub given_none : (own : List (Option ℕ)) (free : List ℕ) (room i : ℕ) (own
     → i < length own → get_or own_now i o ≡ None
     → IsGivenBack own free room (i + 1) (set own_now i None) free_now
 given_none own free room i own_now free_now o given h is =
-    let here : drop i own ≡ None ∷ drop (i + 1) own = drop_more own i o h
-    ∙ ap (λ (x : Option ℕ). x ∷ drop (i + 1) own)
-    (sym (get_or-cleared i own o)
-    ∙ (ap (λ (os : List (Option ℕ)). get_or os i o) (sym given.own_is) ∙ is)) in
-    let fits = given.fits in
-    let counted = ap (λ (os : List (Option ℕ)). length (own_list os)) here in
-    record {
-      own_is = ap (λ (os : List (Option ℕ)). set os i None) given.own_is
-          ∙ (set-cleared i own h
-          ∙ (let on : suc i ≡ i + 1 = omega arith in ap (λ (n : ℕ). cleared n own) on));
-      free_is = ap (λ (os : List (Option ℕ)). given_back (own_list os) free_now) (sym here)
-          ∙ given.free_is;
-      fits = omega arith;
-    }
+    search (rules, drop_more, get_or-cleared, set-cleared)
 
 -- the free list has room for the block of the next position
 pub given_room : (own : List (Option ℕ)) (free : List ℕ) (room i : ℕ) (own_now : List (Option ℕ))
@@ -99,18 +70,13 @@ given_room own free room i own_now free_now o b given h is =
 pub given_own : (own : List (Option ℕ)) (free : List ℕ) (room i : ℕ) (own_now : List (Option ℕ))
     (free_now : List ℕ) → IsGivenBack own free room i own_now free_now → i ≡ length own
     → own_now ≡ replicate (length own) None
-given_own own free room i own_now free_now given all =
-    given.own_is ∙ (ap (λ (n : ℕ). cleared n own) all ∙ cleared-all own)
+given_own own free room i own_now free_now given all = search (rules, cleared-all)
 
 -- a list that is cleared where it was lent out is cleared
 pub cleared_back : (n : ℕ) (own now lent rest : List (Option ℕ))
     → now ≡ replicate (length lent) None → lent ≡ own → n ≡ length own
     → take n (now ++ rest) ≡ replicate (length own) None
-cleared_back n own now lent rest is same long =
-    let now_is : now ≡ replicate (length own) None = is
-    ∙ ap (λ (os : List (Option ℕ)). replicate (length os) None) same in
-    let size = ap length now_is ∙ length-replicate (length own) None in
-    ap (λ (k : ℕ). take k (now ++ rest)) (long ∙ sym size) ∙ (take-append_seam now rest ∙ now_is)
+cleared_back n own now lent rest is same long = grind (arith, common_steps, take-append_seam)
 
 -- the retired blocks before the i-th that no kept version maps are freed
 pub record IsSwept (versions : List ℕ) (retired : List RetiredBlock) (free : List ℕ) (room i : ℕ)

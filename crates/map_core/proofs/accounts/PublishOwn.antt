@@ -1,12 +1,9 @@
 -- The draft's own blocks are given to the next version, position by position.
-use Rattle.std.proofs.Common.{◌≡◌, ℕ, zero, suc, true, false, ◌+◌, ◌<◌, ◌≤◌, List, [], ◌∷◌, ◌++◌}
-use Rattle.std.proofs.Common.{length, drop, get_or, set, refl, ap, sym, ◌∙◌, arith, append_assoc}
-use Rattle.std.proofs.Common.{append-nil}
-use Rattle.std.specs.Prelude.{Option, Some, None, is_some}
-use Rattle.std.proofs.lemmas.List.{drop_more, drop_all}
-use Rattle.map_core.specs.declared.blocks.RetiredBlock.{RetiredBlock}
-use Rattle.map_core.specs.Blocks.{own_list}
-use Rattle.map_core.specs.Summary.{came_with, came_after, retired_by}
+use Rattle.map_core.proofs.Names.{rules, length-append, ◌≡◌, ℕ, zero, suc, true, false, ◌+◌, ◌<◌}
+use Rattle.map_core.proofs.Names.{◌≤◌, List, [], ◌∷◌, ◌++◌, length, drop, get_or, set, refl, ap}
+use Rattle.map_core.proofs.Names.{sym, ◌∙◌, arith, Option, Some, None, is_some, drop_more, drop_all}
+use Rattle.map_core.proofs.Names.{RetiredBlock, own_list, came_with, came_after, retired_by}
+use Rattle.std.proofs.Common.{append_assoc}
 use Rattle.map_core.proofs.accounts.GiveBack.{cleared, get_or-cleared, set-cleared}
 
 -- the positions before the i-th have come with the version with which they come after a publish
@@ -40,11 +37,9 @@ set-came_to : (i newest : ℕ) (own : List (Option ℕ)) (came : List ℕ) (o : 
     → set (came_to i newest own came) i (newest + 1) ≡ came_to (suc i) newest own came
 set-came_to i newest [] came o b h long is = absurd (omega arith)
 set-came_to i newest (x ∷ own) [] o b h long is = absurd (omega arith)
-set-came_to zero newest (x ∷ own) (c ∷ came) o b h long is =
-    ap (λ (y : Option ℕ). came_with newest y c ∷ came) (sym is)
+set-came_to zero newest (x ∷ own) (c ∷ came) o b h long is = search rules
 set-came_to (suc i) newest (x ∷ own) (c ∷ came) o b h long is =
-    ap (λ (cs : List ℕ). came_with newest x c ∷ cs)
-    (set-came_to i newest own came o b (omega arith) (omega arith) is)
+    search (rules, set-came_to i newest own came o b (omega arith) (omega arith) is)
 
 -- a position that has no own block has come as before once it is reached
 came_to_same : (i newest : ℕ) (own : List (Option ℕ)) (came : List ℕ) (o : Option ℕ)
@@ -52,19 +47,16 @@ came_to_same : (i newest : ℕ) (own : List (Option ℕ)) (came : List ℕ) (o :
     → came_to i newest own came ≡ came_to (suc i) newest own came
 came_to_same i newest [] came o h long is = absurd (omega arith)
 came_to_same i newest (x ∷ own) [] o h long is = absurd (omega arith)
-came_to_same zero newest (x ∷ own) (c ∷ came) o h long is =
-    ap (λ (y : Option ℕ). came_with newest y c ∷ came) (sym is)
+came_to_same zero newest (x ∷ own) (c ∷ came) o h long is = search rules
 came_to_same (suc i) newest (x ∷ own) (c ∷ came) o h long is =
-    ap (λ (cs : List ℕ). came_with newest x c ∷ cs)
-    (came_to_same i newest own came o (omega arith) (omega arith) is)
+    search (rules, came_to_same i newest own came o (omega arith) (omega arith) is)
 
 -- clearing a position that has no own block leaves the list as it is
 cleared_same : (i : ℕ) (own : List (Option ℕ)) (o : Option ℕ) → i < length own
     → get_or own i o ≡ None → cleared i own ≡ cleared (suc i) own
 cleared_same i [] o h is = absurd (omega arith)
 cleared_same zero (x ∷ own) o h is = ap (λ (y : Option ℕ). y ∷ own) is
-cleared_same (suc i) (x ∷ own) o h is =
-    ap (λ (os : List (Option ℕ)). None ∷ os) (cleared_same i own o (omega arith) is)
+cleared_same (suc i) (x ∷ own) o h is = search (rules, cleared_same i own o (omega arith) is)
 
 -- once each position is reached, each has come as it has after a publish
 came_to-all : (newest : ℕ) (own : List (Option ℕ)) (came : List ℕ) → length came ≡ length own
@@ -83,193 +75,95 @@ pub record IsAt (newest : ℕ) (directory : List ℕ) (own : List (Option ℕ)) 
   pub directory_long : length directory ≡ length own
   pub read : o ≡ get_or own_now i None
 
--- a position that has no block of the draft's is passed, and nothing is retired
-given_past : (newest : ℕ) (directory : List ℕ) (own : List (Option ℕ)) (came : List ℕ)
-    (retired : List RetiredBlock) (room i : ℕ) (own_now : List (Option ℕ)) (came_now : List ℕ)
-    (retired_now : List RetiredBlock) (o : Option ℕ)
-    → IsGiven newest directory own came retired room i own_now came_now retired_now
-    → IsAt newest directory own came i own_now o → o ≡ None
-    → IsGiven newest directory own came retired room (i + 1) own_now came_now retired_now
-given_past newest directory own came retired room i own_now came_now retired_now o given at is =
-    let inside = at.inside in
-    let long = at.long in
-    let directory_long = at.directory_long in
-    let none : get_or own i None ≡ None = sym (get_or-cleared i own None)
-    ∙ (ap (λ (os : List (Option ℕ)). get_or os i None) (sym given.own_is) ∙ (sym at.read ∙ is)) in
-    let here : drop i own ≡ None ∷ drop (i + 1) own = drop_more own i None inside
-    ∙ ap (λ (x : Option ℕ). x ∷ drop (i + 1) own) none in
-    let came_here : drop i came ≡ get_or came i 0 ∷ drop (i + 1) came =
-    drop_more came i 0 (omega arith) in
-    let directory_here : drop i directory ≡ get_or directory i 0 ∷ drop (i + 1) directory =
-    drop_more directory i 0 (omega arith) in
-    let fits = given.fits in
-    let counted = ap (λ (os : List (Option ℕ)). length (own_list os)) here in
-    let on : suc i ≡ i + 1 = omega arith in
-    record {
-      own_is = given.own_is
-          ∙ (cleared_same i own None inside none ∙ ap (λ (n : ℕ). cleared n own) on);
-      came_is = given.came_is
-          ∙ (came_to_same i newest own came None inside long none
-          ∙ ap (λ (n : ℕ). came_to n newest own came) on);
-      retired_is = ap (λ (rs : List RetiredBlock). retired_now ++ rs)
-          (sym (by_parts newest i (drop i own) (drop i came) (drop i directory) (drop (i + 1) own)
-          (drop (i + 1) came) (drop (i + 1) directory) (get_or came i 0)
-          (get_or directory i 0) here came_here directory_here)) ∙ given.retired_is;
-      fits = omega arith;
-    }
-  where
-    by_parts : (newest i : ℕ) (own : List (Option ℕ)) (came directory : List ℕ)
-        (own_rest : List (Option ℕ)) (came_rest directory_rest : List ℕ) (c b : ℕ)
-        → own ≡ None ∷ own_rest → came ≡ c ∷ came_rest → directory ≡ b ∷ directory_rest
-        → retired_by newest i own came directory ≡ retired_by newest
-        (i + 1) own_rest came_rest directory_rest
-    by_parts newest i own came directory own_rest came_rest directory_rest c b own_is came_is
-        directory_is = rw (own_is, came_is, directory_is)
+module _ {newest : ℕ} {directory : List ℕ} {own : List (Option ℕ)} {came : List ℕ}
+    {retired : List RetiredBlock} {room i : ℕ} {own_now : List (Option ℕ)} {came_now : List ℕ}
+    {retired_now : List RetiredBlock}
+    (given : IsGiven newest directory own came retired room i own_now came_now retired_now) where
+  -- the next position is given too where a test finds no block there, and nothing is retired
+  pub given_past : (o : Option ℕ) → IsAt newest directory own came i own_now o → is_some o ≡ false
+      → IsGiven newest directory own came retired room (i + 1) own_now came_now retired_now
+  given_past (Some b) at is = absurd (cc)
+  given_past None at is =
+      let inside = at.inside in
+      let long = at.long in
+      let directory_long = at.directory_long in
+      let none : get_or own i None ≡ None = sym (get_or-cleared i own None)
+      ∙ (ap (λ (os : List (Option ℕ)). get_or os i None) (sym given.own_is) ∙ sym at.read) in
+      let here : drop i own ≡ None ∷ drop (i + 1) own = drop_more own i None inside
+      ∙ ap (λ (x : Option ℕ). x ∷ drop (i + 1) own) none in
+      let came_here : drop i came ≡ get_or came i 0 ∷ drop (i + 1) came =
+      drop_more came i 0 (omega arith) in
+      let directory_here : drop i directory ≡ get_or directory i 0 ∷ drop (i + 1) directory =
+      drop_more directory i 0 (omega arith) in
+      let rest : retired_by newest i (drop i own) (drop i came) (drop i directory)
+      ≡ retired_by newest (i + 1) (drop (i + 1) own) (drop (i + 1) came) (drop (i + 1) directory) =
+      rw (here, came_here, directory_here) in
+      let fits = given.fits in
+      let counted = ap (λ (os : List (Option ℕ)). length (own_list os)) here in
+      let on : suc i ≡ i + 1 = omega arith in
+      record {
+        own_is = given.own_is
+            ∙ (cleared_same i own None inside none ∙ ap (λ (n : ℕ). cleared n own) on);
+        came_is = given.came_is
+            ∙ (came_to_same i newest own came None inside long none
+            ∙ ap (λ (n : ℕ). came_to n newest own came) on);
+        retired_is = ap (λ (rs : List RetiredBlock). retired_now ++ rs) (sym rest)
+            ∙ given.retired_is;
+        fits = omega arith;
+      }
 
--- a position that has a block of the draft's is given it, and the block that it replaces is retired
-given_more : (newest : ℕ) (directory : List ℕ) (own : List (Option ℕ)) (came : List ℕ)
-    (retired : List RetiredBlock) (room i : ℕ) (own_now : List (Option ℕ)) (came_now : List ℕ)
-    (retired_now : List RetiredBlock) (o : Option ℕ) (b block first : ℕ)
-    → IsGiven newest directory own came retired room i own_now came_now retired_now
-    → IsAt newest directory own came i own_now o → o ≡ Some b
-    → block ≡ get_or directory i 0 → first ≡ get_or came_now i 0
-    → IsGiven newest directory own came retired room (i + 1) (set own_now i None)
-    (set came_now i (newest + 1))
-    (retired_now ++ record { block = block; position = i; first = first; last = newest } ∷ [])
-given_more newest directory own came retired room i own_now came_now retired_now o b block first
-    given at is block_is first_is =
-    let inside = at.inside in
-    let long = at.long in
-    let directory_long = at.directory_long in
-    let some : get_or own i None ≡ Some b = sym (get_or-cleared i own None)
-    ∙ (ap (λ (os : List (Option ℕ)). get_or os i None) (sym given.own_is) ∙ (sym at.read ∙ is)) in
-    let here : drop i own ≡ Some b ∷ drop (i + 1) own = drop_more own i None inside
-    ∙ ap (λ (x : Option ℕ). x ∷ drop (i + 1) own) some in
-    let came_first : get_or came i 0 ≡ first = sym (get_or-came_to i newest own came 0)
-    ∙ (ap (λ (cs : List ℕ). get_or cs i 0) (sym given.came_is) ∙ sym first_is) in
-    let came_here : drop i came ≡ first ∷ drop (i + 1) came = drop_more came i 0 (omega arith)
-    ∙ ap (λ (c : ℕ). c ∷ drop (i + 1) came) came_first in
-    let directory_here : drop i directory ≡ block ∷ drop (i + 1) directory =
-    drop_more directory i 0 (omega arith)
-    ∙ ap (λ (c : ℕ). c ∷ drop (i + 1) directory) (sym block_is) in
-    let fits = given.fits in
-    let counted = ap (λ (os : List (Option ℕ)). length (own_list os)) here in
-    let on : suc i ≡ i + 1 = omega arith in
-    let rest : List RetiredBlock = retired_by newest (i + 1) (drop (i + 1) own) (drop (i + 1) came)
-    (drop (i + 1) directory) in
-    record {
-      own_is = ap (λ (os : List (Option ℕ)). set os i None) given.own_is
-          ∙ (set-cleared i own inside ∙ ap (λ (n : ℕ). cleared n own) on);
-      came_is = ap (λ (cs : List ℕ). set cs i (newest + 1)) given.came_is
-          ∙ (set-came_to i newest own came None b inside long some
-          ∙ ap (λ (n : ℕ). came_to n newest own came) on);
-      retired_is = append_assoc retired_now
-          (record { block = block; position = i; first = first; last = newest } ∷ []) rest
-          ∙ (ap (λ (rs : List RetiredBlock). retired_now ++ rs)
-          (sym (by_parts newest i (drop i own) (drop i came) (drop i directory) (drop (i + 1) own)
-          (drop (i + 1) came) (drop (i + 1) directory) first block b here came_here
-          directory_here)) ∙ given.retired_is);
-      fits = omega (
-        arith,
-        length-push retired_now record {
-          block = block;
-          position = i;
-          first = first;
-          last = newest;
-        },
-      );
-    }
-  where
-    length-push : (rs : List RetiredBlock) (r : RetiredBlock)
-        → length (rs ++ r ∷ []) ≡ length rs + 1
-    length-push [] r = refl
-    length-push (x ∷ rs) r = omega (arith, length-push rs r)
+  -- where a test finds a block at the next position, it is given and the block that it replaces is
+  -- retired
+  pub given_more : (o : Option ℕ) (block first : ℕ) → IsAt newest directory own came i own_now o
+      → is_some o ≡ true → block ≡ get_or directory i 0 → first ≡ get_or came_now i 0
+      → IsGiven newest directory own came retired room (i + 1) (set own_now i None)
+      (set came_now i (newest + 1))
+      (retired_now ++ record { block = block; position = i; first = first; last = newest } ∷ [])
+  given_more None block first at is block_is first_is = absurd (cc)
+  given_more (Some b) block first at is block_is first_is =
+      let inside = at.inside in
+      let long = at.long in
+      let directory_long = at.directory_long in
+      let some : get_or own i None ≡ Some b = sym (get_or-cleared i own None)
+      ∙ (ap (λ (os : List (Option ℕ)). get_or os i None) (sym given.own_is) ∙ sym at.read) in
+      let here : drop i own ≡ Some b ∷ drop (i + 1) own = drop_more own i None inside
+      ∙ ap (λ (x : Option ℕ). x ∷ drop (i + 1) own) some in
+      let came_first : get_or came i 0 ≡ first = sym (get_or-came_to i newest own came 0)
+      ∙ (ap (λ (cs : List ℕ). get_or cs i 0) (sym given.came_is) ∙ sym first_is) in
+      let came_here : drop i came ≡ first ∷ drop (i + 1) came = drop_more came i 0 (omega arith)
+      ∙ ap (λ (c : ℕ). c ∷ drop (i + 1) came) came_first in
+      let directory_here : drop i directory ≡ block ∷ drop (i + 1) directory =
+      drop_more directory i 0 (omega arith)
+      ∙ ap (λ (c : ℕ). c ∷ drop (i + 1) directory) (sym block_is) in
+      let new : RetiredBlock =
+      record { block = block; position = i; first = first; last = newest } in
+      let later : List RetiredBlock = retired_by newest (i + 1) (drop (i + 1) own)
+      (drop (i + 1) came) (drop (i + 1) directory) in
+      let rest : retired_by newest i (drop i own) (drop i came) (drop i directory) ≡ new ∷ later =
+      rw (here, came_here, directory_here) in
+      let fits = given.fits in
+      let counted = ap (λ (os : List (Option ℕ)). length (own_list os)) here in
+      let on : suc i ≡ i + 1 = omega arith in
+      record {
+        own_is = ap (λ (os : List (Option ℕ)). set os i None) given.own_is
+            ∙ (set-cleared i own inside ∙ ap (λ (n : ℕ). cleared n own) on);
+        came_is = ap (λ (cs : List ℕ). set cs i (newest + 1)) given.came_is
+            ∙ (set-came_to i newest own came None b inside long some
+            ∙ ap (λ (n : ℕ). came_to n newest own came) on);
+        retired_is = append_assoc retired_now (new ∷ []) later
+            ∙ (ap (λ (rs : List RetiredBlock). retired_now ++ rs) (sym rest) ∙ given.retired_is);
+        fits = omega (arith, length-append retired_now (new ∷ []));
+      }
 
-    by_parts : (newest i : ℕ) (own : List (Option ℕ)) (came directory : List ℕ)
-        (own_rest : List (Option ℕ)) (came_rest directory_rest : List ℕ) (c b o : ℕ)
-        → own ≡ Some o ∷ own_rest → came ≡ c ∷ came_rest → directory ≡ b ∷ directory_rest
-        → retired_by newest i own came directory
-        ≡ record { block = b; position = i; first = c; last = newest }
-        ∷ retired_by newest (i + 1) own_rest came_rest directory_rest
-    by_parts newest i own came directory own_rest came_rest directory_rest c b o own_is came_is
-        directory_is = rw (own_is, came_is, directory_is)
+  -- where a test finds a block at the next position, there is room for the one that it replaces
+  pub given_fits : (o : Option ℕ) → i < length own → o ≡ get_or own_now i None → is_some o ≡ true
+      → length retired_now < room
+  given_fits None inside read is = absurd (cc)
+  given_fits (Some b) inside read is = search (rules, get_or-cleared, drop_more)
 
--- there is room for the block that the next own block replaces
-given_fits : (newest : ℕ) (directory : List ℕ) (own : List (Option ℕ)) (came : List ℕ)
-    (retired : List RetiredBlock) (room i : ℕ) (own_now : List (Option ℕ)) (came_now : List ℕ)
-    (retired_now : List RetiredBlock) (o : Option ℕ) (b : ℕ)
-    → IsGiven newest directory own came retired room i own_now came_now retired_now → i < length own
-    → o ≡ get_or own_now i None → o ≡ Some b → length retired_now < room
-given_fits newest directory own came retired room i own_now came_now retired_now o b given inside
-    read is =
-    let some : get_or own i None ≡ Some b = sym (get_or-cleared i own None)
-    ∙ (ap (λ (os : List (Option ℕ)). get_or os i None) (sym given.own_is) ∙ (sym read ∙ is)) in
-    let here : drop i own ≡ Some b ∷ drop (i + 1) own = drop_more own i None inside
-    ∙ ap (λ (x : Option ℕ). x ∷ drop (i + 1) own) some in
-    let counted = ap (λ (os : List (Option ℕ)). length (own_list os)) here in
-    let fits = given.fits in
-    omega arith
-
--- once each position is given, each has come as after a publish, and the replaced blocks are
--- retired
-pub given_all : (newest : ℕ) (directory : List ℕ) (own : List (Option ℕ)) (came : List ℕ)
-    (retired : List RetiredBlock) (room i : ℕ) (own_now : List (Option ℕ)) (came_now : List ℕ)
-    (retired_now : List RetiredBlock)
-    → IsGiven newest directory own came retired room i own_now came_now retired_now
-    → length came ≡ length own → i ≡ length own
-    → (came_now ≡ came_after newest own came)
-    × (retired_now ≡ retired ++ retired_by newest 0 own came directory)
-given_all newest directory own came retired room i own_now came_now retired_now given long all =
-    let none : drop i own ≡ [] = drop_all i own (omega arith) in (
-      given.came_is
-          ∙ (ap (λ (n : ℕ). came_to n newest own came) all ∙ came_to-all newest own came long),
-      sym (ap (λ (os : List (Option ℕ)). retired_now
-          ++ retired_by newest i os (drop i came) (drop i directory)) none ∙ append-nil retired_now)
-          ∙ given.retired_is,
-    )
-
--- the next position is given too where a test finds no block there
-pub given_past_test : (newest : ℕ) (directory : List ℕ) (own : List (Option ℕ)) (came : List ℕ)
-    (retired : List RetiredBlock) (room i : ℕ) (own_now : List (Option ℕ)) (came_now : List ℕ)
-    (retired_now : List RetiredBlock) (o : Option ℕ)
-    → IsGiven newest directory own came retired room i own_now came_now retired_now
-    → IsAt newest directory own came i own_now o → is_some o ≡ false
-    → IsGiven newest directory own came retired room (i + 1) own_now came_now retired_now
-given_past_test newest directory own came retired room i own_now came_now retired_now None given at
-    is =
-    given_past newest directory own came retired room i own_now came_now retired_now None given at
-    refl
-given_past_test newest directory own came retired room i own_now came_now retired_now
-    (Some b) given at is = absurd (cc)
-
--- where a test finds an own block at the next position, it is given and the block that it replaces
--- is retired
-pub given_more_test : (newest : ℕ) (directory : List ℕ) (own : List (Option ℕ)) (came : List ℕ)
-    (retired : List RetiredBlock) (room i : ℕ) (own_now : List (Option ℕ)) (came_now : List ℕ)
-    (retired_now : List RetiredBlock) (o : Option ℕ) (block first : ℕ)
-    → IsGiven newest directory own came retired room i own_now came_now retired_now
-    → IsAt newest directory own came i own_now o → is_some o ≡ true
-    → block ≡ get_or directory i 0 → first ≡ get_or came_now i 0
-    → IsGiven newest directory own came retired room (i + 1) (set own_now i None)
-    (set came_now i (newest + 1))
-    (retired_now ++ record { block = block; position = i; first = first; last = newest } ∷ [])
-given_more_test newest directory own came retired room i own_now came_now retired_now None block
-    first given at is block_is first_is = absurd (cc)
-given_more_test newest directory own came retired room i own_now came_now retired_now
-    (Some b) block first given at is block_is first_is =
-    given_more newest directory own came retired room i own_now came_now retired_now
-    (Some b) b block first given at refl block_is first_is
-
--- where a test finds an own block at the next position, there is room for the block that it
--- replaces
-pub given_fits_test : (newest : ℕ) (directory : List ℕ) (own : List (Option ℕ)) (came : List ℕ)
-    (retired : List RetiredBlock) (room i : ℕ) (own_now : List (Option ℕ)) (came_now : List ℕ)
-    (retired_now : List RetiredBlock) (o : Option ℕ)
-    → IsGiven newest directory own came retired room i own_now came_now retired_now → i < length own
-    → o ≡ get_or own_now i None → is_some o ≡ true → length retired_now < room
-given_fits_test newest directory own came retired room i own_now came_now retired_now None given
-    inside read is = absurd (cc)
-given_fits_test newest directory own came retired room i own_now came_now retired_now
-    (Some b) given inside read is =
-    given_fits newest directory own came retired room i own_now came_now retired_now
-    (Some b) b given inside read refl
+  -- once each position is given, each has come as after a publish, and the replaced blocks are
+  -- retired
+  pub given_all : length came ≡ length own → i ≡ length own
+      → (came_now ≡ came_after newest own came)
+      × (retired_now ≡ retired ++ retired_by newest 0 own came directory)
+  given_all long all = search (rules, drop_all, came_to-all)

@@ -1,17 +1,11 @@
 -- The list of retired blocks: what holds of each, which block stands at a position, and which are
 -- used.
-use Rattle.std.proofs.Common.{◌≡◌, ℕ, zero, suc, ◌+◌, ◌<◌, ◌≤◌, ◌&&◌, Bool, true, false, cond, List}
-use Rattle.std.proofs.Common.{[], ◌∷◌, ◌++◌, length, map, get_or, refl, ap, subst, sym, arith}
-use Rattle.std.specs.Prelude.{Option, Some, None, is_some, filter, nat_le, Contains}
-use Rattle.std.specs.List.{AllByRecursion}
-use Rattle.std.proofs.lemmas.Bool.Decides.{nat_tests}
-use mathlib.Core.Logic.{inl, inr}
-use Rattle.map_core.specs.Story.{Story, newest, came}
-use Rattle.map_core.specs.declared.blocks.RetiredBlock.{RetiredBlock}
-use Rattle.map_core.specs.Blocks.{replaced, is_used, blocks_of}
-use Rattle.map_core.specs.Safe.{times}
-use Rattle.map_core.specs.Kept.{members}
-use Rattle.map_core.specs.Tidy.{IsBlockAt, IsAmongRetired}
+use Rattle.map_core.proofs.Names.{rules, ◌≡◌, ℕ, zero, suc, ◌+◌, ◌<◌, ◌≤◌, ◌&&◌, Bool, true, false}
+use Rattle.map_core.proofs.Names.{List, [], ◌∷◌, ◌++◌, length, map, get_or, refl, ap, subst, arith}
+use Rattle.map_core.proofs.Names.{Option, Some, None, is_some, filter, nat_le, Contains, nat_tests}
+use Rattle.map_core.proofs.Names.{AllByRecursion, inl, inr, Story, newest, came, RetiredBlock}
+use Rattle.map_core.proofs.Names.{replaced, is_used, blocks_of, times, members, IsBlockAt}
+use Rattle.map_core.proofs.Names.{IsAmongRetired}
 use Rattle.map_core.proofs.logs.KeptLemmas.{any_member, found_member}
 
 -- what holds of each retired block of two lists holds of each of the lists assembled
@@ -44,11 +38,7 @@ pub All-filter : (P Q : RetiredBlock → Type 0) (test : RetiredBlock → Bool) 
     → AllByRecursion P rs → AllByRecursion Q (filter test rs)
 All-filter P Q test [] each a = tt
 All-filter P Q test (r ∷ rs) each a =
-    elim (test r) as (λ b. test r ≡ b
-    → AllByRecursion Q (cond b (r ∷ filter test rs) (filter test rs))) [
-      | true ↦ λ is. (each r a.0 is, All-filter P Q test rs each a.1)
-      | false ↦ λ is. All-filter P Q test rs each a.1
-    ] refl
+    search (rules, All-filter P Q test rs each a.1, All-filter P Q test rs each a.1)
 
 -- a block that is among the retired ones of a first list is among those of both
 pub Among-append_left : (block v p : ℕ) (rs qs : List RetiredBlock) → IsAmongRetired block v p rs
@@ -68,13 +58,9 @@ pub Among-filter : (block v p : ℕ) (test : RetiredBlock → Bool) (rs : List R
     → ((r : RetiredBlock) → IsBlockAt block v p r → test r ≡ true)
     → IsAmongRetired block v p rs → IsAmongRetired block v p (filter test rs)
 Among-filter block v p test [] passes h = absurd h
-Among-filter block v p test (r ∷ rs) passes (inl h) =
-    subst (λ (b : Bool). IsAmongRetired block v p (cond b (r ∷ filter test rs) (filter test rs)))
-    (sym (passes r h)) (inl h)
+Among-filter block v p test (r ∷ rs) passes (inl h) = search rules
 Among-filter block v p test (r ∷ rs) passes (inr h) =
-    let rest = Among-filter block v p test rs passes h in
-    elim (test r) as (λ b. IsAmongRetired block v p (cond b (r ∷ filter test rs) (filter test rs)))
-    [ true ↦ inr rest | false ↦ rest ]
+    search (rules, Among-filter block v p test rs passes h)
 
 -- a block that is among the retired ones stands in their list
 pub Among-times : (block v p : ℕ) (rs : List RetiredBlock) → IsAmongRetired block v p rs
@@ -87,13 +73,7 @@ Among-times block v p (r ∷ rs) (inr h) = omega (arith, Among-times block v p r
 at_position : (P : RetiredBlock → Type 0) (s : Story) (b p q : ℕ) → p ≡ q
     → P record { block = b; position = p; first = came s p (newest s); last = newest s }
     → P record { block = b; position = q; first = came s q (newest s); last = newest s }
-at_position P s b p q at h =
-    subst (λ (n : ℕ). P record {
-      block = b;
-      position = n;
-      first = came s n (newest s);
-      last = newest s;
-    }) at h
+at_position P s b p q at h = search rules
 
 -- what holds of the block of each position that has changed holds of each that retires
 pub All-replaced : (P : RetiredBlock → Type 0) (s : Story) (k : ℕ) (own : List (Option ℕ))

@@ -1,14 +1,8 @@
 -- What a prefix of a legal log says of the blocks of its versions, the log says too.
-use Rattle.std.proofs.Common.{◌≡◌, ℕ, ◌≤◌, List, [], ◌∷◌, ◌++◌, refl, ap, sym, ◌∙◌, subst, arith}
-use Rattle.map_core.specs.declared.command.Entry.{Entry}
-use Rattle.map_core.specs.declared.setting.Setting.{Setting}
-use Rattle.map_core.specs.Story.{Story, opened, newest}
-use Rattle.map_core.specs.Legal.{told, after, IsLegalFrom, IsLegal}
-use Rattle.map_core.specs.Blocks.{Blocks, directory_of, moved, opened_blocks, blocks_after}
-use Rattle.map_core.specs.Words.{Base, tiles}
-use Rattle.map_core.specs.Views.{story, blocks}
-use Rattle.map_core.specs.Safe.{IsBeginning}
-use Rattle.map_core.specs.Tidy.{IsReady, IsTidy}
+use Rattle.map_core.proofs.Names.{◌≡◌, ℕ, ◌≤◌, List, [], ◌∷◌, ◌++◌, refl, ap, sym, ◌∙◌, subst, told}
+use Rattle.map_core.proofs.Names.{arith, Entry, Setting, Story, opened, newest, after, IsLegalFrom}
+use Rattle.map_core.proofs.Names.{IsLegal, Blocks, directory_of, moved, opened_blocks, blocks_after}
+use Rattle.map_core.proofs.Names.{Base, tiles, story, blocks, IsBeginning, IsReady, IsTidy}
 use Rattle.map_core.proofs.logs.LogLemmas.{newest-told}
 use Rattle.map_core.proofs.invariants.SoundCommit.{directory_stays}
 use Rattle.map_core.proofs.invariants.TidyLog.{IsTidy-told, IsTidy-after}

@@ -1,19 +1,11 @@
 -- What a publish stores lies where no kept version is read, and no word of it is stored over.
-use Rattle.std.proofs.Common.{◌≡◌, ◌≢◌, ℕ, zero, suc, ◌-◌, ◌/◌, ◌%◌, ◌<◌, ◌≤◌, ◌==◌, true, false}
-use Rattle.std.proofs.Common.{cond, List, [], ◌∷◌, ◌++◌, length, get_or, refl, ap, sym, ◌∙◌, arith}
-use Rattle.std.specs.Prelude.{None, nat_lt}
-use Rattle.std.proofs.lemmas.Bool.{cases_lt}
-use Rattle.std.proofs.lemmas.Bool.Decides.{nat_tests}
-use mathlib.Core.Logic.{inl, inr}
-use Rattle.map_core.specs.declared.command.Command.TheVariants.{Publish}
-use Rattle.map_core.specs.Story.{Story, newest, IsKept}
-use Rattle.map_core.specs.Legal.{refused}
-use Rattle.map_core.specs.Blocks.{Blocks, directory_of, own_list, blocks_of}
-use Rattle.map_core.specs.Words.{Base, tiles, word_count, now_at, pin_at, map_at, tile_at, slot_of}
-use Rattle.map_core.specs.Words.{next_slot}
-use Rattle.map_core.specs.Steps.{Write, tile_steps, steps_before, tile_write, map_write, write_of}
-use Rattle.map_core.specs.Safe.{times}
-use Rattle.map_core.specs.Tidy.{IsReady, AreSlots, IsTidy}
+use Rattle.map_core.proofs.Names.{rules, ◌≡◌, ◌≢◌, ℕ, zero, suc, ◌-◌, ◌<◌, ◌≤◌, cond, List, [], ◌∷◌}
+use Rattle.map_core.proofs.Names.{◌++◌, length, get_or, refl, ap, sym, ◌∙◌, arith, None, nat_lt}
+use Rattle.map_core.proofs.Names.{cases_lt, nat_tests, Publish, Story, newest, IsKept, refused}
+use Rattle.map_core.proofs.Names.{Blocks, directory_of, own_list, blocks_of, Base, tiles, now_at}
+use Rattle.map_core.proofs.Names.{word_count, pin_at, map_at, tile_at, slot_of, next_slot, Write}
+use Rattle.map_core.proofs.Names.{tile_steps, steps_before, tile_write, map_write, write_of, times}
+use Rattle.map_core.proofs.Names.{IsReady, AreSlots, IsTidy}
 use Rattle.map_core.proofs.shared_words.PlaceLemmas.{map-now, tile-now, map-pin, tile-pin, tile-map}
 use Rattle.map_core.proofs.shared_words.PlaceLemmas.{map-map, map-position, tile-tile, map-within}
 use Rattle.map_core.proofs.shared_words.PlaceLemmas.{tile-within}
@@ -92,14 +84,10 @@ one_place : (b : ℕ) (xs : List ℕ) (i j : ℕ) → times b xs ≤ 1 → i < l
     → get_or xs i 0 ≡ b → get_or xs j 0 ≡ b → i ≡ j
 one_place b [] i j once hi hj at_i at_j = absurd (omega arith)
 one_place b (x ∷ xs) zero zero once hi hj at_i at_j = refl
-one_place b (x ∷ xs) zero (suc j) once hi hj at_i at_j =
-    let there = times-at b xs j 0 (omega arith) at_j in
-    absurd (let here : 1 ≤ cond (b == x) 1 0 = grind (arith, nat_tests) in omega arith)
-one_place b (x ∷ xs) (suc i) zero once hi hj at_i at_j =
-    let there = times-at b xs i 0 (omega arith) at_i in
-    absurd (let here : 1 ≤ cond (b == x) 1 0 = grind (arith, nat_tests) in omega arith)
+one_place b (x ∷ xs) zero (suc j) once hi hj at_i at_j = search (rules, times-at)
+one_place b (x ∷ xs) (suc i) zero once hi hj at_i at_j = search (rules, times-at)
 one_place b (x ∷ xs) (suc i) (suc j) once hi hj at_i at_j =
-    ap suc (one_place b xs i j (omega arith) (omega arith) (omega arith) at_i at_j)
+    search (rules, one_place b xs i j (omega arith) (omega arith) (omega arith) at_i at_j)
 
 -- two places of the draft's blocks have two blocks
 own_once : (k : Base) (s : Story) (m : Blocks) → IsTidy k s m → (i j : ℕ)
@@ -123,18 +111,17 @@ spare_tile : (k : Base) (s : Story) (m : Blocks) → IsReady k → IsTidy k s m 
     → n < tile_steps m → IsSpare k s m (tile_write k s m n).at
 unfolding tile_write
 spare_tile k s m ready tidy n h =
-    let j = n / 64 in
-    let inside : n / 64 < length (own_list m.own) = omega arith in
-    let row : n % 64 < 64 = omega arith in
-    record {
-      within = tile-within k _ _ (own_within k s m tidy j inside) row;
-      now = tile-now k _ _;
-      pin = λ r hr. tile-pin k _ _ r hr;
-      map = λ v p is_kept hp. tile-map k (slot_of k s v) p _ _
-          (slot-within k s tidy.slots v is_kept) hp;
-      tile = λ v p i is_kept hp hi same. own_apart k s m tidy j inside v p is_kept hp
-          (tile-tile k _ _ _ i row hi same).0;
-    }
+    search (
+      rules,
+      tile-within,
+      own_within,
+      tile-now,
+      tile-pin,
+      tile-map,
+      slot-within,
+      own_apart,
+      tile-tile,
+    )
 
 -- a word of the new directory that a publish stores lies where no kept version is read
 spare_map : (k : Base) (s : Story) (m : Blocks) → IsReady k → IsTidy k s m
@@ -142,54 +129,34 @@ spare_map : (k : Base) (s : Story) (m : Blocks) → IsReady k → IsTidy k s m
     → IsSpare k s m (map_write k s m p).at
 unfolding map_write
 spare_map k s m ready tidy accepted p h =
-    let next = next-within k s m ready tidy accepted in
-    record {
-      within = map-within k _ p next h;
-      now = map-now k _ p;
-      pin = λ r hr. map-pin k _ p r hr;
-      map = λ v q is_kept hq. map-map k _ p _ q h hq (slot_apart k s tidy.slots v is_kept);
-      tile = λ v q i is_kept hq hi same. tile-map k (next_slot k s) p _ i next h (sym same);
-    }
+    search (rules, next-within, map-within, map-now, map-pin, map-map, slot_apart, tile-map)
 
 -- what holds of the words for blocks and of the directory's words holds of each word that a publish
 -- stores
 write_cases : (P : Write → Type 0) (k : Base) (s : Story) (m : Blocks) (n : ℕ)
     → (n < tile_steps m → P (tile_write k s m n))
     → (tile_steps m ≤ n → P (map_write k s m (n - tile_steps m))) → P (write_of k s m n)
-write_cases P k s m n first later =
-    elim (cases_lt n (tile_steps m)) [
-      | inl low ↦ let test : nat_lt n (tile_steps m) ≡ true = grind (arith, nat_tests) in
-          rw test (first low)
-      | inr high ↦ let test : nat_lt n (tile_steps m) ≡ false = grind (arith, nat_tests) in
-          rw test (later high)
-    ]
+write_cases P k s m n first later = search (rules, cases_lt, nat_tests)
 
 -- each word that a publish stores lies where no kept version is read
 pub spare_write : (k : Base) (s : Story) (m : Blocks) → IsReady k → IsTidy k s m
     → refused k.setting s Publish ≡ None → (n : ℕ) → n < steps_before k m Publish
     → IsSpare k s m (write_of k s m n).at
 unfolding steps_before
-spare_write k s m ready tidy accepted n h =
-    write_cases (λ w. IsSpare k s m w.at) k s m n (spare_tile k s m ready tidy n)
-    (λ high. spare_map k s m ready tidy accepted (n - tile_steps m) (omega arith))
+spare_write k s m ready tidy accepted n h = search (rules, write_cases, spare_tile, spare_map)
 
 -- two rows of the draft's blocks are two words
 tile_once : (k : Base) (s : Story) (m : Blocks) → IsTidy k s m → (n q : ℕ) → n < tile_steps m
     → q < tile_steps m → (tile_write k s m n).at ≡ (tile_write k s m q).at → n ≡ q
 unfolding tile_write
-tile_once k s m tidy n q hn hq same =
-    let parts = tile-tile k _ (n % 64) _ (q % 64) (omega arith) (omega arith) same in
-    let row = parts.1 in
-    let block = own_once k s m tidy (n / 64) (q / 64) (omega arith) (omega arith) parts.0 in
-    omega arith
+tile_once k s m tidy n q hn hq same = search (rules, tile-tile, own_once)
 
 -- a row of the draft's blocks is no word of the new directory
 tile_or_map : (k : Base) (s : Story) (m : Blocks) → IsReady k → IsTidy k s m
     → refused k.setting s Publish ≡ None → (n p : ℕ) → p < tiles k
     → (tile_write k s m n).at ≢ (map_write k s m p).at
 unfolding tile_write map_write
-tile_or_map k s m ready tidy accepted n p h =
-    tile-map k (next_slot k s) p _ _ (next-within k s m ready tidy accepted) h
+tile_or_map k s m ready tidy accepted n p h = search (rules, tile-map, next-within)
 
 -- two words of the new directory are two
 map_once : (k : Base) (s : Story) (m : Blocks) (p q : ℕ)
@@ -204,12 +171,4 @@ pub write_once : (k : Base) (s : Story) (m : Blocks) → IsReady k → IsTidy k 
     → (write_of k s m n).at ≡ (write_of k s m q).at → n ≡ q
 unfolding steps_before
 write_once k s m ready tidy accepted n q hn hq =
-    write_cases (λ w. w.at ≡ (write_of k s m q).at → n ≡ q) k s m n
-    (λ low. write_cases (λ w. (tile_write k s m n).at ≡ w.at → n ≡ q) k s m q
-    (λ low' same. tile_once k s m tidy n q low low' same)
-    (λ high same. absurd (tile_or_map k s m ready tidy accepted n (q - tile_steps m)
-    (omega arith) same)))
-    (λ high. write_cases (λ w. (map_write k s m (n - tile_steps m)).at ≡ w.at → n ≡ q) k s m q
-    (λ low same. absurd (tile_or_map k s m ready tidy accepted q (n - tile_steps m) (omega arith)
-    (sym same)))
-    (λ high' same. let place = map_once k s m _ _ same in omega arith))
+    search (rules, write_cases, tile_once, tile_or_map, map_once)

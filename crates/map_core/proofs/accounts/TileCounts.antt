@@ -1,22 +1,13 @@
 -- Which tiles differ, row by row, and how many need a block, position by position.
-use Rattle.std.proofs.Common.{◌≡◌, ◌≢◌, ℕ, zero, suc, ◌+◌, ◌-◌, ◌<◌, ◌≤◌, ◌==◌, ◌&&◌, ◌||◌, Bool}
-use Rattle.std.proofs.Common.{true, false, not, cond, List, [], ◌∷◌, ◌++◌, length, map, take, drop}
-use Rattle.std.proofs.Common.{get_or, refl, ap, sym, ◌∙◌, arith}
-use Rattle.std.specs.Prelude.{Option, Some, None, is_some}
-use Rattle.std.specs.List.{list_any, range_with_len}
-use Rattle.std.proofs.lemmas.Bool.{cases_eq}
-use Rattle.std.proofs.lemmas.Bool.Decides.{nat_tests}
-use Rattle.std.proofs.lemmas.List.{take_more, take_all, drop_more, length-take, length-map}
-use Rattle.std.proofs.lemmas.List.{get_or-map}
-use Rattle.std.proofs.lemmas.List.FromFn.{length-map-range_with_len, get_or-map-range_with_len}
-use mathlib.Core.Logic.{inl, inr}
+use Rattle.map_core.proofs.Names.{rules, ◌≡◌, ◌≢◌, ℕ, zero, suc, ◌+◌, ◌-◌, ◌<◌, ◌≤◌, ◌==◌, ◌&&◌, []}
+use Rattle.map_core.proofs.Names.{◌||◌, Bool, true, false, not, cond, List, ◌∷◌, ◌++◌, length, map}
+use Rattle.map_core.proofs.Names.{take, drop, get_or, refl, ap, sym, ◌∙◌, arith, Option, Some, None}
+use Rattle.map_core.proofs.Names.{is_some, list_any, range_with_len, cases_eq, nat_tests, take_more}
+use Rattle.map_core.proofs.Names.{take_all, drop_more, length-map, length-map-range_with_len, inl}
+use Rattle.map_core.proofs.Names.{get_or-map-range_with_len, inr, Cells, tile_count, row_word}
+use Rattle.map_core.proofs.Names.{tile_differs, differing, trues, new_ones, own_list, own_positions}
+use Rattle.std.proofs.lemmas.List.{length-take, get_or-map}
 use mir.Val.{bool_byte}
-use Rattle.bits.specs.Cells.{Cells}
-use Rattle.bits.specs.Tiles.{tile_count, row_word}
-use Rattle.map_core.specs.Drawing.{tile_differs, differing}
-use Rattle.map_core.specs.Story.{trues, new_ones}
-use Rattle.map_core.specs.Blocks.{own_list}
-use Rattle.map_core.specs.Steps.{own_positions}
 
 -- a row that differs tells that the tile does
 differs_at : (old new : Cells) (p a n i : ℕ) → a ≤ i → i < a + n
@@ -25,8 +16,7 @@ differs_at : (old new : Cells) (p a n i : ℕ) → a ≤ i → i < a + n
 differs_at old new p a zero i low high apart = absurd (omega arith)
 differs_at old new p a (suc n) i low high apart =
     elim (cases_eq a i) [
-      | inl same ↦ here (row_word old p a) (row_word new p a) _
-          (λ e. apart (sym (ap (row_word old p) same) ∙ (e ∙ ap (row_word new p) same)))
+      | inl same ↦ search rules
       | inr other ↦ later (row_word old p a) (row_word new p a) _
           (differs_at old new p (a + 1) n i (omega arith) (omega arith) apart)
     ]
@@ -60,8 +50,7 @@ tile_differs_at old new p i h apart =
 pub tile_differs_none : (old new : Cells) (p : ℕ)
     → ((i : ℕ) → i < 64 → row_word old p i ≡ row_word new p i) → false ≡ tile_differs old new p
 unfolding tile_differs
-tile_differs_none old new p same =
-    sym (same_all old new p 0 64 (λ i low high. same i (omega arith)))
+tile_differs_none old new p same = simp (same_all)
 
 -- another answer at the end counts where it is true
 trues-push : (bs : List Bool) (b : Bool) → trues (bs ++ b ∷ []) ≡ trues bs + cond b 1 0
@@ -111,14 +100,11 @@ counted_next old new own p needed more o so_far h read is =
     let ts = differing old new in
     let os = map is_some own in
     let long = so_far.long in
-    let same : length ts ≡ length os = length-map-range_with_len (tile_differs old new) 0
-    (tile_count old) ∙ (sym long ∙ sym (length-map own is_some)) in
+    let same : length ts ≡ length os = search (rules, length-map-range_with_len, length-map) in
     let wide = length-map-range_with_len (tile_differs old new) 0 (tile_count old) in
     let touched : get_or ts p false ≡ tile_differs old new p =
-    get_or-map-range_with_len (tile_differs old new) 0 (tile_count old) p p false h
-    (omega arith) in
-    let has : get_or os p false ≡ is_some o = get_or-map is_some own p o false (omega arith)
-    ∙ sym (ap is_some read) in
+    search (rules, get_or-map-range_with_len) in
+    let has : get_or os p false ≡ is_some o = search (rules, get_or-map) in
     let here = get_or-new_ones ts os p same (omega arith)
     ∙ (ap (λ (t : Bool). t && not (get_or os p false)) touched
     ∙ ap (λ (b : Bool). tile_differs old new p && not b) has) in
@@ -135,32 +121,20 @@ pub counted_all : (old new : Cells) (own : List (Option ℕ)) (p needed : ℕ)
     → IsCounted old new own p needed → tile_count old ≤ p
     → needed ≡ trues (new_ones (differing old new) (map is_some own))
 counted_all old new own p needed so_far h =
-    let long = so_far.long in
-    let wide = length-map-range_with_len (tile_differs old new) 0 (tile_count old) in
-    let same : length (differing old new) ≡ length (map is_some own) = wide
-    ∙ (sym long ∙ sym (length-map own is_some)) in
-    let all = length-new_ones (differing old new) (map is_some own) same in
-    so_far.count
-    ∙ ap trues (take_all p (new_ones (differing old new) (map is_some own)) (omega arith))
+    search (rules, length-map-range_with_len, length-map, length-new_ones, take_all)
 
 -- a count of the positions before one is at most that
 pub counted_few : (old new : Cells) (own : List (Option ℕ)) (p needed : ℕ)
     → IsCounted old new own p needed → needed ≤ p
-counted_few old new own p needed so_far =
-    let few = trues-le (take p (new_ones (differing old new) (map is_some own))) in
-    let long = length-take p (new_ones (differing old new) (map is_some own)) in
-    let count = so_far.count in
-    omega arith
+counted_few old new own p needed so_far = search (rules, trues-le, length-take)
 
 -- an answer is counted as 1 where it is true, and as 0 where it isn't
 pub as_count : (b : Bool) → bool_byte b ≡ cond b 1 0
-as_count true = refl
-as_count false = refl
+as_count b = search rules
 
 -- an answer counts one at most
 pub as_count-le : (b : Bool) → bool_byte b ≤ 1
-as_count-le true = omega arith
-as_count-le false = omega arith
+as_count-le b = search rules
 
 -- the tile of this number is the one of that number among those from a position on
 pub record IsLeft (own : List (Option ℕ)) (number p left : ℕ) : Type 0 where
@@ -174,37 +148,13 @@ pub record IsLeft (own : List (Option ℕ)) (number p left : ℕ) : Type 0 where
 pub left_none : (own : List (Option ℕ)) (number p left : ℕ) (o : Option ℕ)
     → IsLeft own number p left → p < length own → get_or own p o ≡ None
     → IsLeft own number (p + 1) left
-left_none own number p left o so_far h is =
-    let rest : drop p own ≡ None ∷ drop (p + 1) own = drop_more own p o h
-    ∙ ap (λ (x : Option ℕ). x ∷ drop (p + 1) own) is in
-    let blocks = ap own_list rest in
-    record {
-      within = omega arith;
-      many = let many = so_far.many in let count = ap length blocks in omega arith;
-      block = so_far.block ∙ ap (λ (bs : List ℕ). get_or bs left 0) blocks;
-      position = so_far.position
-          ∙ ap (λ (os : List (Option ℕ)). get_or (own_positions p os) left 0) rest;
-    }
+left_none own number p left o so_far h is = search (rules, drop_more)
 
 -- a tile with a block of its own is passed, and counted
 pub left_some : (own : List (Option ℕ)) (number p left : ℕ) (o : Option ℕ) (b : ℕ)
     → IsLeft own number p left → p < length own → get_or own p o ≡ Some b → 0 < left
     → IsLeft own number (p + 1) (left - 1)
-left_some own number p left o b so_far h is more =
-    let rest : drop p own ≡ Some b ∷ drop (p + 1) own = drop_more own p o h
-    ∙ ap (λ (x : Option ℕ). x ∷ drop (p + 1) own) is in
-    let blocks = ap own_list rest in
-    let next : left ≡ suc (left - 1) = omega arith in
-    record {
-      within = omega arith;
-      many = let many = so_far.many in let count = ap length blocks in omega arith;
-      block = so_far.block
-          ∙ (ap (λ (bs : List ℕ). get_or bs left 0) blocks
-          ∙ ap (λ (n : ℕ). get_or (b ∷ own_list (drop (p + 1) own)) n 0) next);
-      position = so_far.position
-          ∙ (ap (λ (os : List (Option ℕ)). get_or (own_positions p os) left 0) rest
-          ∙ ap (λ (n : ℕ). get_or (p ∷ own_positions (p + 1) (drop (p + 1) own)) n 0) next);
-    }
+left_some own number p left o b so_far h is more = search (rules, drop_more)
 
 -- each position differs, or it doesn't
 pub length-differing : (old new : Cells) → length (differing old new) ≡ tile_count old

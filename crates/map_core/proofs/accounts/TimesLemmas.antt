@@ -1,21 +1,18 @@
 -- How often a number stands in lists of blocks, and how long these are.
-use Rattle.std.proofs.Common.{◌≡◌, ℕ, zero, suc, ◌+◌, ◌<◌, ◌≤◌, ◌==◌, Bool, true, false, not, cond}
-use Rattle.std.proofs.Common.{List, [], ◌∷◌, ◌++◌, length, map, drop, replicate, get_or, refl, ap}
-use Rattle.std.proofs.Common.{arith}
-use Rattle.std.specs.Prelude.{Option, Some, None, is_some, filter, slice_get}
-use Rattle.std.proofs.lemmas.Bool.Decides.{nat_tests}
-use Rattle.map_core.specs.Story.{Story, trues, either, new_ones}
-use Rattle.map_core.specs.declared.blocks.RetiredBlock.{RetiredBlock}
-use Rattle.map_core.specs.Blocks.{own_list, own_after, mapped, replaced, given_back, blocks_of}
-use Rattle.map_core.specs.Safe.{times}
+use Rattle.map_core.proofs.Names.{rules, ◌≡◌, ℕ, zero, suc, ◌+◌, ◌<◌, ◌≤◌, ◌==◌, Bool, true, false}
+use Rattle.map_core.proofs.Names.{not, cond, List, [], ◌∷◌, ◌++◌, length, map, drop, replicate, ap}
+use Rattle.map_core.proofs.Names.{get_or, refl, arith, Option, Some, None, is_some, filter, Story}
+use Rattle.map_core.proofs.Names.{slice_get, nat_tests, trues, either, new_ones, RetiredBlock}
+use Rattle.map_core.proofs.Names.{own_list, own_after, mapped, replaced, given_back, blocks_of}
+use Rattle.map_core.proofs.Names.{times}
 
 -- a number that equals another counts once for it
 pub one_if : (n m : ℕ) → n ≡ m → ◌≡◌ {A = ℕ} (cond (n == m) 1 0) 1
-one_if n m same = grind (arith, nat_tests)
+one_if n m same = grind arith
 
 -- a number that differs from another doesn't count for it
 pub none_if : (n m : ℕ) → (n ≡ m → ⊥) → ◌≡◌ {A = ℕ} (cond (n == m) 1 0) 0
-none_if n m apart = grind (arith, nat_tests)
+none_if n m apart = grind arith
 
 -- a number stands in two lists as often as in both
 pub times-append : (n : ℕ) (xs ys : List ℕ) → times n (xs ++ ys) ≡ times n xs + times n ys
@@ -55,26 +52,13 @@ pub times-filter : (n : ℕ) (test : RetiredBlock → Bool) (rs : List RetiredBl
     → times n (blocks_of (filter test rs)) + times n (blocks_of (filter (λ r. not (test r)) rs))
     ≡ times n (blocks_of rs)
 times-filter n test [] = refl
-times-filter n test (r ∷ rs) =
-    elim (test r) as (λ b. times n (blocks_of (cond b (r ∷ filter test rs) (filter test rs)))
-    + times n
-    (blocks_of (cond (not b) (r ∷ filter (λ q. not (test q)) rs) (filter (λ q. not (test q)) rs)))
-    ≡ times n (blocks_of (r ∷ rs))) [
-      | true ↦ let rest = times-filter n test rs in omega arith
-      | false ↦ let rest = times-filter n test rs in omega arith
-    ]
+times-filter n test (r ∷ rs) = search (rules, times-filter n test rs, times-filter n test rs)
 
 -- the retired blocks that pass a test and the others are as many as all
 pub length-filter : (test : RetiredBlock → Bool) (rs : List RetiredBlock)
     → length (filter test rs) + length (filter (λ r. not (test r)) rs) ≡ length rs
 length-filter test [] = refl
-length-filter test (r ∷ rs) =
-    elim (test r) as (λ b. length (cond b (r ∷ filter test rs) (filter test rs))
-    + length (cond (not b) (r ∷ filter (λ q. not (test q)) rs) (filter (λ q. not (test q)) rs))
-    ≡ length (r ∷ rs)) [
-      | true ↦ let rest = length-filter test rs in omega arith
-      | false ↦ let rest = length-filter test rs in omega arith
-    ]
+length-filter test (r ∷ rs) = search (rules, length-filter test rs, length-filter test rs)
 
 -- the draft's own blocks are as many as the positions that have changed
 pub length-own_list : (own : List (Option ℕ)) → length (own_list own) ≡ trues (map is_some own)

@@ -1,21 +1,13 @@
 -- How many blocks are in use: one for each position, one for each retired one, and one for each
 -- position that has changed since.
-use Rattle.std.proofs.Common.{◌≡◌, ℕ, zero, suc, ◌+◌, ◌<◌, ◌≤◌, ◌==◌, Bool, true, false, cond, List}
-use Rattle.std.proofs.Common.{[], ◌∷◌, ◌++◌, length, map, get_or, refl, ap, sym, ◌∙◌, arith}
-use Rattle.std.specs.Prelude.{sum_by, nat_lt}
-use Rattle.std.specs.List.{AllByRecursion, range_with_len}
-use Rattle.std.proofs.lemmas.Bool.{cases_lt, cases_eq}
-use Rattle.std.proofs.lemmas.Bool.Decides.{nat_tests}
-use Rattle.std.proofs.lemmas.List.Sums.{sum_by-cons}
-use mathlib.Core.Logic.{inl, inr}
-use Rattle.bits.specs.Tiles.{tile_count}
-use Rattle.map_core.specs.declared.blocks.RetiredBlock.{RetiredBlock}
-use Rattle.map_core.specs.Kept.{members}
-use Rattle.map_core.specs.Story.{Story, newest, kept, IsKept, trues, came, blocks_at, inuse}
-use Rattle.map_core.specs.Blocks.{Blocks, directory_of, own_list, blocks_of}
-use Rattle.map_core.specs.Words.{Base, tiles}
-use Rattle.map_core.specs.Safe.{times}
-use Rattle.map_core.specs.Tidy.{IsRetired, IsBlockAt, IsAmongRetired, IsTidy}
+use Rattle.map_core.proofs.Names.{rules, ◌≡◌, ℕ, zero, suc, ◌+◌, ◌<◌, ◌≤◌, ◌==◌, Bool, true, false}
+use Rattle.map_core.proofs.Names.{cond, List, [], ◌∷◌, ◌++◌, length, map, get_or, refl, ap, sym}
+use Rattle.map_core.proofs.Names.{◌∙◌, arith, sum_by, nat_lt, AllByRecursion, range_with_len, inl}
+use Rattle.map_core.proofs.Names.{cases_lt, cases_eq, nat_tests, sum_by-cons, inr, tile_count, kept}
+use Rattle.map_core.proofs.Names.{RetiredBlock, members, Story, newest, IsKept, trues, came, inuse}
+use Rattle.map_core.proofs.Names.{Blocks, directory_of, own_list, blocks_of, Base, tiles, times}
+use Rattle.map_core.proofs.Names.{IsRetired, IsAmongRetired, IsTidy}
+use Rattle.map_core.specs.Story.{blocks_at}
 use Rattle.map_core.proofs.accounts.CameLemmas.{came-changed, came-le, came_order, came_between}
 use Rattle.map_core.proofs.accounts.CountLemmas.{sum_by-add, sum_by-ones, sum_by-place}
 use Rattle.map_core.proofs.accounts.CountLemmas.{values_counted}
@@ -89,29 +81,9 @@ Among-first : (k : Base) (s : Story) (m : Blocks) (block v p : ℕ) (rs : List R
     → AllByRecursion (IsRetired k s m) rs → IsAmongRetired block v p rs
     → 1 ≤ times (came s p v) (firsts p rs)
 Among-first k s m block v p [] all among = absurd among
-Among-first k s m block v p (r ∷ rs) all (inl h) =
-    counted r.position p (came s p v) r.first (firsts p rs) h.position_is
-    (came_with k s m block v p r all.0 h)
-  where
-    came_with : (k : Base) (s : Story) (m : Blocks) (block v p : ℕ) (r : RetiredBlock)
-        → IsRetired k s m r → IsBlockAt block v p r → came s p v ≡ r.first
-    came_with k s m block v p r is h =
-        let first_is : r.first ≡ came s p r.last = is.first_is
-        ∙ ap (λ (q : ℕ). came s q r.last) h.position_is in
-        let since = h.since in
-        came_between s p v r.last (omega arith) h.until ∙ sym first_is
-
-    counted : (q p n f : ℕ) (ns : List ℕ) → q ≡ p → n ≡ f → 1 ≤ times n (cond (q == p) (f ∷ ns) ns)
-    counted q p n f ns at same = let here : (q == p) ≡ true = grind (arith, nat_tests) in
-        let one = one_if n f same in rw here (omega arith)
+Among-first k s m block v p (r ∷ rs) all (inl h) = search (rules, came_between, one_if)
 Among-first k s m block v p (r ∷ rs) all (inr among) =
-    more (r.position == p) (came s p v) r.first (firsts p rs)
-    (Among-first k s m block v p rs all.1 among)
-  where
-    more : (test : Bool) (n f : ℕ) (ns : List ℕ) → 1 ≤ times n ns
-        → 1 ≤ times n (cond test (f ∷ ns) ns)
-    more true n f ns some = omega arith
-    more false n f ns some = some
+    search (rules, Among-first k s m block v p rs all.1 among)
 
 -- two retired blocks of one position that have come with one version are the same block
 pub one_block : (k : Base) (s : Story) (m : Blocks) (r q : RetiredBlock) → IsRetired k s m r

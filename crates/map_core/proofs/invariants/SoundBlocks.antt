@@ -1,17 +1,13 @@
 -- After a legal log the blocks are sound, and what a kept version maps is neither free nor the
 -- draft's.
-use Rattle.std.proofs.Common.{◌≡◌, ℕ, zero, suc, ◌+◌, ◌<◌, ◌≤◌, Bool, true, false, cond, List, []}
-use Rattle.std.proofs.Common.{◌∷◌, ◌++◌, length, get_or, ap, sym, ◌∙◌, arith}
-use Rattle.std.specs.Prelude.{nat_lt, Contains}
-use Rattle.std.specs.List.{AllByRecursion}
-use Rattle.std.proofs.lemmas.Bool.Decides.{nat_tests}
-use mathlib.Core.Logic.{inl, inr}
-use Rattle.map_core.specs.declared.blocks.RetiredBlock.{RetiredBlock}
-use Rattle.map_core.specs.Story.{Story, newest, kept, IsKept, came}
-use Rattle.map_core.specs.Blocks.{Blocks, directory_of, own_list, blocks_of}
-use Rattle.map_core.specs.Words.{Base, tiles}
-use Rattle.map_core.specs.Safe.{times, IsMappedStill, IsSound}
-use Rattle.map_core.specs.Tidy.{IsRetired, IsBlockAt, IsAmongRetired, IsTidy}
+use Rattle.map_core.proofs.Names.{◌≡◌, ℕ, zero, suc, ◌+◌, ◌<◌, ◌≤◌, Bool, true, false, cond, List}
+use Rattle.map_core.proofs.Names.{[], ◌∷◌, ◌++◌, length, get_or, ap, sym, ◌∙◌, arith, nat_lt, inl}
+use Rattle.map_core.proofs.Names.{Contains, AllByRecursion, nat_tests, inr, RetiredBlock, Story}
+use Rattle.map_core.proofs.Names.{newest, kept, IsKept, came, Blocks, directory_of, own_list, Base}
+use Rattle.map_core.proofs.Names.{blocks_of, tiles, times, IsRetired, IsBlockAt, IsAmongRetired}
+use Rattle.map_core.proofs.Names.{IsTidy}
+use Rattle.std.proofs.lemmas.Grind.{common_steps}
+use Rattle.map_core.specs.Safe.{IsMappedStill, IsSound}
 use Rattle.map_core.proofs.accounts.CameLemmas.{came-changed, came-le, came_order, came_between}
 use Rattle.map_core.proofs.accounts.RetiredLemmas.{All-one, Among-times, used_by}
 use Rattle.map_core.proofs.accounts.UsedLemmas.{one_block}
@@ -151,8 +147,4 @@ mapped_still k s m tidy r there h =
 
 -- after a legal log the blocks are sound
 pub sound_blocks : (k : Base) (s : Story) (m : Blocks) → IsTidy k s m → IsSound s m k.setting.blocks
-sound_blocks k s m tidy = record {
-  once = tidy.once;
-  retired = λ r there. mapped_still k s m tidy r there
-      (All-one (IsRetired k s m) m.retired r tidy.retired there);
-}
+sound_blocks k s m tidy = grind (arith, common_steps, mapped_still, All-one)

@@ -1,30 +1,16 @@
 -- The last step of a command keeps what holds of the keeper and of each reader.
-use Rattle.std.proofs.Common.{◌≡◌, ℕ, zero, suc, ◌+◌, ◌-◌, ◌*◌, ◌/◌, ◌%◌, ◌<◌, ◌≤◌, ◌⊎◌, true}
-use Rattle.std.proofs.Common.{false, List, [], ◌∷◌, ◌++◌, length, get_or, set, refl, ap, subst, sym}
-use Rattle.std.proofs.Common.{◌∙◌, arith}
-use Rattle.std.specs.Prelude.{Option, Some, None, slice_get, nat_lt}
-use Rattle.std.proofs.lemmas.Bool.Decides.{nat_tests}
-use Rattle.std.proofs.lemmas.List.{length-set, get_or-set_same, get_or-set_other}
-use Rattle.std.proofs.lemmas.List.{get_or_append_left, get_or_push}
-use mathlib.Core.Logic.{inl, inr}
-use Rattle.bits.specs.Cells.{Cells}
-use Rattle.bits.specs.Tiles.{row_word}
-use Rattle.map_core.specs.declared.command.Entry.{Entry}
-use Rattle.map_core.specs.declared.command.Command.{Command}
-use Rattle.map_core.specs.declared.command.Command.TheVariants.{Paint, Stamp, Publish, Revert}
-use Rattle.map_core.specs.declared.command.Command.TheVariants.{Collect, Checkpoint}
-use Rattle.map_core.specs.declared.command.Reply.{Reply}
-use Rattle.map_core.specs.Kept.{first_free, IsIn}
-use Rattle.map_core.specs.Story.{Story, opened, newest, bitmap_of, IsKept}
-use Rattle.map_core.specs.Legal.{IsAnswer, told}
-use Rattle.map_core.specs.Blocks.{Blocks, directory_of, own_list, mapped, moved}
-use Rattle.map_core.specs.Words.{Base, tiles, now_at, pin_at, map_at, tile_at, now_of, slot_of}
-use Rattle.map_core.specs.Words.{next_slot}
-use Rattle.map_core.specs.Views.{Hand, Reader, story, blocks}
-use Rattle.map_core.specs.Steps.{tile_steps, steps_before, own_positions, tile_write, map_write}
-use Rattle.map_core.specs.Steps.{write_of, kept_scanned, reply_of, entry_of}
-use Rattle.map_core.specs.Tidy.{IsShaped, AreSlots, IsTidy}
-use Rattle.map_core.specs.Sound.{Shows, InHand, KeeperSound, ReaderSound}
+use Rattle.map_core.proofs.Names.{rules, ◌≡◌, ℕ, zero, suc, ◌+◌, ◌-◌, ◌*◌, ◌/◌, ◌%◌, ◌<◌, ◌≤◌, ◌⊎◌}
+use Rattle.map_core.proofs.Names.{true, false, List, [], ◌∷◌, ◌++◌, length, get_or, set, refl, ap}
+use Rattle.map_core.proofs.Names.{sym, ◌∙◌, arith, Option, Some, None, slice_get, nat_lt, nat_tests}
+use Rattle.map_core.proofs.Names.{length-set, get_or-set_same, get_or-set_other, inl, get_or_push}
+use Rattle.map_core.proofs.Names.{get_or_append_left, inr, Cells, row_word, Entry, Command, Publish}
+use Rattle.map_core.proofs.Names.{Collect, Reply, first_free, IsIn, Story, newest, bitmap_of, told}
+use Rattle.map_core.proofs.Names.{IsKept, IsAnswer, Blocks, directory_of, own_list, mapped, moved}
+use Rattle.map_core.proofs.Names.{Base, tiles, now_at, map_at, tile_at, now_of, Hand, slot_of}
+use Rattle.map_core.proofs.Names.{next_slot, Reader, story, blocks, tile_steps, tile_write, IsTidy}
+use Rattle.map_core.proofs.Names.{steps_before, own_positions, map_write, write_of, kept_scanned}
+use Rattle.map_core.proofs.Names.{reply_of, entry_of, IsShaped, AreSlots, Shows, InHand}
+use Rattle.map_core.proofs.Names.{KeeperSound, ReaderSound}
 use Rattle.map_core.proofs.accounts.FreedLemmas.{reply_is_answer}
 use Rattle.map_core.proofs.logs.LogLemmas.{newest-told, beginning-push}
 use Rattle.map_core.proofs.shared_words.PlaceLemmas.{pin-now, map-now, tile-now, now-within}
@@ -32,88 +18,48 @@ use Rattle.map_core.proofs.invariants.TidyCollect.{kept_of}
 use Rattle.map_core.proofs.invariants.TidyLog.{IsLegal-push}
 use Rattle.map_core.proofs.invariants.TidyPublish.{newest_is, bitmap_of-publish, bitmap_of-new}
 use Rattle.map_core.proofs.invariants.TidyPublish.{directory_of-publish, directory_of-new}
-use Rattle.map_core.proofs.invariants.TidyPublish.{published_story, published_blocks}
-use Rattle.map_core.proofs.invariants.TidyPublish.{kept_published, kept_still}
+use Rattle.map_core.proofs.invariants.TidyPublish.{published_story, published_blocks, kept_still}
+use Rattle.map_core.proofs.invariants.TidyPublish.{kept_published}
 
 -- a version is shown still where NOW is stored
 Shows-now : (k : Base) (s : Story) (m : Blocks) (words : List ℕ) (v word : ℕ) → Shows k s m words v
     → Shows k s m (set words now_at word) v
-Shows-now k s m words v word shows = record {
-  mapped = λ p inside. get_or-set_other words now_at (map_at k (slot_of k s v) p) word 0
-      (map-now k _ p) ∙ shows.mapped p inside;
-  rows = λ p i inside row. get_or-set_other words now_at
-      (tile_at k (get_or (directory_of m v) p 0) i) word 0 (tile-now k _ i)
-      ∙ shows.rows p i inside row;
-}
+Shows-now k s m words v word shows = search (rules, get_or-set_other, map-now, tile-now)
 
 -- a version whose blocks and whose bitmap are as before is shown as before
 Shows-same : (k : Base) (s t : Story) (m n : Blocks) (words : List ℕ) (v : ℕ)
     → directory_of n v ≡ directory_of m v → bitmap_of t v ≡ bitmap_of s v
     → slot_of k t v ≡ slot_of k s v
     → Shows k s m words v → Shows k t n words v
-Shows-same k s t m n words v blocks cells slot shows = record {
-  mapped = λ p inside. ap (λ (i : ℕ). get_or words (map_at k i p) 0) slot ∙ shows.mapped p inside
-      ∙ sym (ap (λ (d : List ℕ). get_or d p 0) blocks);
-  rows = λ p i inside row.
-      ap (λ (d : List ℕ). get_or words (tile_at k (get_or d p 0) i) 0) blocks
-      ∙ (shows.rows p i inside row ∙ sym (ap (λ (b : Cells). row_word b p i) cells));
-}
+Shows-same k s t m n words v blocks cells slot shows = search rules
 
 -- no command changes the blocks of a version
 pub directory_stays : (k : Base) (s : Story) (m : Blocks) (c : Command) (reply : Reply)
     → IsShaped k s m → (v : ℕ) → v ≤ newest s
     → directory_of (moved s c reply m) v ≡ directory_of m v
 unfolding moved directory_of
-directory_stays k s m (Paint r black) reply shape v h = refl
-directory_stays k s m (Stamp x y b) reply shape v h = refl
-directory_stays k s m Publish reply shape v h = directory_of-publish k s m shape v h
-directory_stays k s m Revert reply shape v h = refl
-directory_stays k s m Collect reply shape v h = refl
-directory_stays k s m Checkpoint reply shape v h = refl
+directory_stays k s m c reply shape v h = search (rules, directory_of-publish)
 
 -- no command changes the bitmap of a version
 bitmap_stays : (k : Base) (s : Story) (m : Blocks) (c : Command) (reply : Reply) → IsShaped k s m
     → (v : ℕ) → v ≤ newest s
     → bitmap_of (told s c reply) v ≡ bitmap_of s v
 unfolding told bitmap_of
-bitmap_stays k s m (Paint r black) reply shape v h = refl
-bitmap_stays k s m (Stamp x y b) reply shape v h = refl
-bitmap_stays k s m Publish reply shape v h = bitmap_of-publish k s m shape v h
-bitmap_stays k s m Revert reply shape v h = refl
-bitmap_stays k s m Collect reply shape v h = refl
-bitmap_stays k s m Checkpoint reply shape v h = refl
+bitmap_stays k s m c reply shape v h = search (rules, bitmap_of-publish)
 
 -- no command changes the slot of a version
 slot_stays : (k : Base) (s : Story) (c : Command) (reply : Reply) → AreSlots k s → (v : ℕ)
     → v < length s.published
     → slot_of k (told s c reply) v ≡ slot_of k s v
 unfolding told slot_of
-slot_stays k s (Paint r black) reply slots v h = refl
-slot_stays k s (Stamp x y b) reply slots v h = refl
-slot_stays k s Publish reply slots v h = let each = slots.each in
-    get_or_append_left s.slots (first_free s.kept.slots ∷ []) 0 v (omega arith)
-slot_stays k s Revert reply slots v h = refl
-slot_stays k s Collect reply slots v h = refl
-slot_stays k s Checkpoint reply slots v h = refl
+slot_stays k s c reply slots v h = search (rules, get_or_append_left)
 
 -- a version that is kept after an answer was kept before, or it is the new one of a publish
 kept_before : (k : Base) (s : Story) (m : Blocks) (c : Command) (reply : Reply) → IsShaped k s m
     → IsAnswer k.setting s c reply → (v : ℕ) → IsKept (told s c reply) v
     → IsKept s v ⊎ ((c ≡ Publish) × (v ≡ newest s + 1))
 unfolding told IsKept newest
-kept_before k s m (Paint r black) reply shape answer v is_kept = inl is_kept
-kept_before k s m (Stamp x y b) reply shape answer v is_kept = inl is_kept
-kept_before k s m Publish reply shape answer v is_kept =
-    elim (kept_published s v is_kept) [
-      | inl old ↦ inl old
-      | inr new ↦ inr (refl, new)
-    ]
-kept_before k s m Revert reply shape answer v is_kept = inl is_kept
-kept_before k s m Collect reply shape answer v is_kept =
-    let (f, freed, kept_now, is, collected) = answer.reply_is in
-    inl (kept_of s kept_now record { part = collected.part; newest_in = collected.newest_in } v
-    (subst (λ (r : Reply). IsKept (told s Collect r) v) is is_kept))
-kept_before k s m Checkpoint reply shape answer v is_kept = inl is_kept
+kept_before k s m c reply shape answer v is_kept = search (rules, kept_published, kept_of)
 
 -- the block of a position that has changed is one of the draft's, at the place of that position
 own_place : (q : ℕ) (own : List (Option ℕ)) (blocks : List ℕ) (p : ℕ) → length own ≡ length blocks
@@ -182,8 +128,7 @@ stored_tile k s m words stored j i hj hi =
     let at : write_of k s m n ≡ record {
       at = tile_at k (get_or (own_list m.own) j 0) i;
       word = row_word s.draft (get_or (own_positions 0 m.own) j 0) i;
-    } =
-    rw test (rw (block, row)) in
+    } = search rules in
     sym (ap (λ w. get_or words w.at 0) at) ∙ (stored n (omega arith) ∙ ap (λ w. w.word) at)
   where
     is_below : (n t : ℕ) → n < t → nat_lt n t ≡ true
@@ -199,8 +144,7 @@ unfolding slot_of next_slot
 Shows-new k s m words tidy stored shows v is =
     let shape = tidy.shape in
     let long = shape.own in
-    let same : length m.own ≡ length (directory_of m (newest s)) = shape.own
-    ∙ sym (shape.directory (newest s) (omega arith)) in
+    let same : length m.own ≡ length (directory_of m (newest s)) = search rules in
     let blocks = directory_of-new k s m shape v is in
     let cells = bitmap_of-new k s m shape v is in
     let at = newest_is k s m shape in
@@ -208,10 +152,7 @@ Shows-new k s m words tidy stored shows v is =
     let slot : get_or (s.slots ++ first_free s.kept.slots ∷ []) v 0 ≡ first_free s.kept.slots =
     get_or_push s.slots (first_free s.kept.slots) 0 v (omega arith) in
     record {
-      mapped = λ p inside.
-          ap (λ (i : ℕ). get_or words (map_at k i p) 0) slot
-          ∙ (stored_map k s m words stored p inside
-          ∙ sym (ap (λ (d : List ℕ). get_or d p 0) blocks));
+      mapped = λ p inside. search (rules, stored_map);
       rows = λ p i inside row.
           ap (λ (d : List ℕ). get_or words (tile_at k (get_or d p 0) i) 0) blocks
           ∙ (row_of k s m words tidy stored shows same p i inside row
@@ -251,18 +192,8 @@ unfolding steps_before told moved
 Shows-told k s m words h reply tidy answer shows inhand all v is_kept =
     let at = newest_is k s m tidy.shape in
     elim (kept_before k s m h.command reply tidy.shape answer v is_kept) [
-      | inl old ↦
-          let below = tidy.slots.published v old in
-          Shows-same k s (told s h.command reply) m (moved s h.command reply m) words v
-          (directory_stays k s m h.command reply tidy.shape v below)
-          (bitmap_stays k s m h.command reply tidy.shape v below)
-          (slot_stays k s h.command reply tidy.slots v (omega arith)) (shows v old)
-      | inr new ↦
-          subst (λ (c : Command). Shows k (told s c reply) (moved s c reply m) words v) (sym new.0)
-          (Shows-new k s m words tidy
-          (λ n before. inhand.written new.0 n
-          (let done : h.done ≡ steps_before k m Publish = all ∙ ap (steps_before k m) new.0 in
-          omega arith)) (shows (newest s) tidy.slots.newest_in) v new.1)
+      | inl old ↦ search (rules, Shows-same, directory_stays, bitmap_stays, slot_stays)
+      | inr new ↦ search (rules, Shows-new)
     ]
 
 -- the last step of a command keeps what holds of the keeper
@@ -277,43 +208,29 @@ pub KeeperSound-commit : (k : Base) (log : List Entry) (words : List ℕ) (h : H
     record { log = log ++ entry_of (story k log) h ∷ []; hand = None }
 unfolding story
 KeeperSound-commit k log words h tidy sound all =
-    let s = story k log in
-    let m = blocks k log in
-    let reply = reply_of s h.command h.scanned in
-    let inhand : InHand k s m words h = sound.hand in
-    let answer = reply_is_answer k s m tidy h.command h.scanned inhand.accepted in
-    let word = now_of (told s h.command reply) in
-    let sized = sound.sized in
-    let within = now-within k in
-    record {
-      sized = length-set words now_at word ∙ sound.sized;
-      legal = IsLegal-push k.setting (opened k.opening) log (entry_of s h) sound.legal answer;
-      now = get_or-set_same words now_at word 0 (omega arith);
-      shows = λ v is_kept. Shows-now k (told s h.command reply)
-          (moved s h.command reply m) words v word
-          (Shows-told k s m words h reply tidy answer sound.shows inhand all v is_kept);
-      hand = tt;
-    }
+    search (
+      rules,
+      reply_is_answer,
+      now-within,
+      length-set,
+      IsLegal-push,
+      get_or-set_same,
+      Shows-now,
+      Shows-told,
+    )
 
 -- a kept version is kept still, where a collect keeps it
 kept_stays : (s : Story) (c : Command) (words : List ℕ) (v : ℕ) → IsKept s v
     → (c ≡ Collect → IsIn (kept_scanned s words) v) → IsKept (told s c (reply_of s c words)) v
 unfolding told reply_of IsKept
-kept_stays s (Paint r black) words v is_kept above = is_kept
-kept_stays s (Stamp x y b) words v is_kept above = is_kept
-kept_stays s Publish words v is_kept above = kept_still s v is_kept
-kept_stays s Revert words v is_kept above = is_kept
-kept_stays s Collect words v is_kept above = above refl
-kept_stays s Checkpoint words v is_kept above = is_kept
+kept_stays s c words v is_kept above = search (rules, kept_still)
 
 -- a collect that has done all of its scan has passed each reader
 scanned_all : (k : Base) (m : Blocks) (h : Hand) (r : ℕ) → r < k.setting.sessions
     → h.command ≡ Collect → h.done ≡ steps_before k m h.command
     → length h.scanned ≡ h.done → r < length h.scanned
 unfolding steps_before
-scanned_all k m h r inside collect all count =
-    let steps : h.done ≡ k.setting.sessions = all ∙ ap (steps_before k m) collect in
-    omega arith
+scanned_all k m h r inside collect all count = search rules
 
 -- the last step of a command keeps what holds of each reader: what it holds is kept, since the scan
 -- has passed it
@@ -327,23 +244,4 @@ pub ReaderSound-commit : (k : Base) (log : List Entry) (words : List ℕ) (h : H
     (now_of (told (story k log) h.command (reply_of (story k log) h.command h.scanned))))
     record { log = log ++ entry_of (story k log) h ∷ []; hand = None } r x
 ReaderSound-commit k log words h r x inside inhand all sound =
-    let s = story k log in
-    let reply = reply_of s h.command h.scanned in
-    let word = now_of (told s h.command reply) in
-    let up = newest-told s h.command reply in
-    let higher = up.0 in
-    record {
-      seen = beginning-push x.seen log (entry_of s h) sound.seen;
-      word = get_or-set_other words now_at (pin_at r) word 0 (pin-now r) ∙ sound.word;
-      announced = λ a is. let below = sound.announced a is in omega arith;
-      exact = sound.exact;
-      holds = λ v is.
-          let held = sound.holds v is in
-          record {
-            kept = kept_stays s h.command h.scanned v held.kept
-                (λ collect. sound.passed collect
-                (scanned_all k (blocks k log) h r inside collect all (inhand.scans collect)) v is);
-            asked = held.asked;
-          };
-      passed = tt;
-    }
+    search (rules, newest-told, beginning-push, get_or-set_other, pin-now, kept_stays, scanned_all)

@@ -1,17 +1,12 @@
 -- What holds after a legal log holds after one more collect: the blocks that no kept version uses
 -- are freed.
-use Rattle.std.proofs.Common.{◌≡◌, ℕ, ◌+◌, ◌<◌, ◌≤◌, ◌⊎◌, Bool, true, not, List, ◌++◌, length}
-use Rattle.std.proofs.Common.{get_or, refl, sym, ◌∙◌, arith}
-use Rattle.std.specs.Prelude.{filter}
-use mathlib.Core.Logic.{inl, inr}
-use Rattle.map_core.specs.declared.kept.Kept.{Kept}
-use Rattle.map_core.specs.declared.blocks.RetiredBlock.{RetiredBlock}
-use Rattle.map_core.specs.Kept.{IsIn, IsPartOfKept}
-use Rattle.map_core.specs.Story.{Story, newest, bitmap_of, kept, IsKept}
-use Rattle.map_core.specs.Blocks.{Blocks, directory_of, own_list, blocks_of, is_used, given_back}
+use Rattle.map_core.proofs.Names.{rules, ◌≡◌, ℕ, ◌+◌, ◌<◌, ◌≤◌, ◌⊎◌, Bool, true, not, List, ◌++◌}
+use Rattle.map_core.proofs.Names.{length, get_or, refl, sym, ◌∙◌, arith, filter, inl, inr, Kept}
+use Rattle.map_core.proofs.Names.{RetiredBlock, IsIn, IsPartOfKept, Story, newest, bitmap_of, kept}
+use Rattle.map_core.proofs.Names.{IsKept, Blocks, directory_of, own_list, blocks_of, is_used, Base}
+use Rattle.map_core.proofs.Names.{given_back, tiles, IsRetired, IsAmongRetired, HasNewest, AreSlots}
+use Rattle.map_core.proofs.Names.{IsTidy}
 use Rattle.map_core.specs.Blocks.{swept}
-use Rattle.map_core.specs.Words.{Base, tiles}
-use Rattle.map_core.specs.Tidy.{IsRetired, IsAmongRetired, HasNewest, AreSlots, IsTidy}
 use Rattle.map_core.proofs.accounts.CameLemmas.{came-same_changes}
 use Rattle.map_core.proofs.logs.KeptLemmas.{part-at, part-long, part-few}
 use Rattle.map_core.proofs.accounts.RetiredLemmas.{All-filter, Among-filter, used_at}
@@ -47,14 +42,7 @@ IsRetired-collect : (k : Base) (s : Story) (m : Blocks) (n : ℕ) (kept_now : Ke
     → IsRetired k s m r → is_used (kept (keeping s n kept_now)) r ≡ true
     → IsRetired k (keeping s n kept_now) (swept (kept (keeping s n kept_now)) m) r
 unfolding newest directory_of
-IsRetired-collect k s m n kept_now r h used = record {
-  inside = h.inside;
-  used = used;
-  before = h.before;
-  gone = h.gone;
-  first_is = h.first_is ∙ sym (came-same_changes s (keeping s n kept_now) refl r.position r.last);
-  block_is = h.block_is;
-}
+IsRetired-collect k s m n kept_now r h used = search (rules, came-same_changes)
 
 -- a version that is kept then has newest's block at a position, or a retired one that stays
 mapped-collect : (k : Base) (s : Story) (m : Blocks) → IsTidy k s m → (n : ℕ) (kept_now : Kept)
@@ -94,8 +82,7 @@ fewer : (k : Base) (s : Story) (n : ℕ) (kept_now : Kept) → IsChoice s kept_n
     → length (kept s) ≤ k.setting.versions
     → length (kept (keeping s n kept_now)) ≤ k.setting.versions
 unfolding kept
-fewer k s n kept_now choice fit = let few = part-few kept_now.slots s.kept.slots choice.part in
-    omega arith
+fewer k s n kept_now choice fit = search (rules, part-few)
 
 -- what holds after a legal log holds with fewer versions kept
 pub IsTidy-keeping : (k : Base) (s : Story) (m : Blocks) → IsTidy k s m → (n : ℕ) (kept_now : Kept)

@@ -1,25 +1,9 @@
 -- What holds of the empty log holds after any legal log: one lemma for each command.
-use Rattle.std.proofs.Common.{◌≡◌, ℕ, ◌+◌, ◌<◌, ◌≤◌, Bool, true, false, if◌then◌else◌, List, []}
-use Rattle.std.proofs.Common.{◌∷◌, ◌++◌, length, refl, subst, sym, ◌∙◌, arith}
-use Rattle.std.specs.Prelude.{Some, None, nat_le}
-use Rattle.std.proofs.lemmas.Bool.{cases_lt}
-use Rattle.std.proofs.lemmas.Bool.Decides.{nat_tests}
-use mathlib.Core.Logic.{inl, inr}
-use Rattle.metric.specs.declared.refusal.Refusal.TheVariants.{VersionsFull, LogFull, PlacesUsed}
-use Rattle.map_core.specs.declared.command.Command.{Command}
-use Rattle.map_core.specs.declared.command.Command.TheVariants.{Paint, Stamp, Publish, Revert}
-use Rattle.map_core.specs.declared.command.Command.TheVariants.{Collect, Checkpoint}
-use Rattle.map_core.specs.declared.command.Reply.{Reply}
-use Rattle.map_core.specs.declared.command.Entry.{Entry}
-use Rattle.map_core.specs.declared.setting.Setting.{Setting}
-use Rattle.map_core.specs.Kept.{IsApart}
-use Rattle.map_core.specs.Story.{Story, opened, kept}
-use Rattle.map_core.specs.Legal.{refused, IsAnswer, told, after, IsLegalFrom, IsLegal, is_log_full}
-use Rattle.map_core.specs.Legal.{are_places_used}
-use Rattle.map_core.specs.Blocks.{Blocks, opened_blocks, moved, blocks_after}
-use Rattle.map_core.specs.Words.{Base, tiles}
-use Rattle.map_core.specs.Views.{story, blocks}
-use Rattle.map_core.specs.Tidy.{IsReady, IsTidy}
+use Rattle.map_core.proofs.Names.{rules, ◌≡◌, ◌+◌, ◌<◌, ◌≤◌, List, [], ◌∷◌, ◌++◌, length, refl, sym}
+use Rattle.map_core.proofs.Names.{subst, ◌∙◌, None, cases_lt, Command, Paint, Stamp, Publish, Reply}
+use Rattle.map_core.proofs.Names.{Revert, Collect, Checkpoint, Entry, Setting, IsApart, Story, kept}
+use Rattle.map_core.proofs.Names.{refused, IsAnswer, told, after, IsLegalFrom, IsLegal, Blocks}
+use Rattle.map_core.proofs.Names.{moved, blocks_after, Base, story, blocks, IsReady, IsTidy}
 use Rattle.map_core.proofs.invariants.TidyOpened.{IsTidy-opened}
 use Rattle.map_core.proofs.invariants.TidyDraft.{IsTidy-draw, IsTidy-revert, IsTidy-checkpoint}
 use Rattle.map_core.proofs.invariants.TidyPublish.{IsTidy-publish}
@@ -28,22 +12,7 @@ use Rattle.map_core.proofs.invariants.TidyCollect.{IsTidy-keeping}
 -- a publish that isn't refused finds a slot
 pub room_for : (g : Setting) (s : Story) → refused g s Publish ≡ None → length (kept s) < g.versions
 unfolding refused
-room_for g s accepted =
-    free_slot (is_log_full g s) (are_places_used s) g.versions (length (kept s)) accepted
-  where
-    free_slot : (full used : Bool) (versions n : ℕ)
-        → (if full then Some LogFull
-        else (if used then Some PlacesUsed
-        else (if nat_le versions n then Some VersionsFull else None))) ≡ None → n < versions
-    free_slot true used versions n is = absurd (cc)
-    free_slot false true versions n is = absurd (cc)
-    free_slot false false versions n is =
-        elim (cases_lt n versions) [
-          | inl less ↦ less
-          | inr many ↦ absurd (let test : nat_le versions n ≡ true = grind (arith, nat_tests) in
-              let found : (if nat_le versions n then Some VersionsFull else None)
-              ≡ Some VersionsFull = rw test in cc)
-        ]
+room_for g s accepted = search (rules, cases_lt)
 
 -- what holds after a legal log holds after one more answer
 pub IsTidy-told : (k : Base) (s : Story) (m : Blocks) (c : Command) (reply : Reply)
@@ -77,9 +46,7 @@ IsTidy-after k s m (e ∷ es) few tidy legal =
 pub IsTidy-legal : (k : Base) (log : List Entry) → IsReady k → IsLegal k.setting k.opening log
     → IsTidy k (story k log) (blocks k log)
 unfolding story blocks
-IsTidy-legal k log ready legal =
-    IsTidy-after k (opened k.opening) (opened_blocks (tiles k) k.setting.blocks) log
-    ready.few_versions (IsTidy-opened k ready) legal
+IsTidy-legal k log ready legal = search (rules, IsTidy-after, IsTidy-opened)
 
 -- after a legal log no version stands in two slots
 pub slots_apart : (k : Base) (log : List Entry) → IsReady k → IsLegal k.setting k.opening log

@@ -1,18 +1,10 @@
 -- What holds of the empty log.
-use Rattle.std.proofs.Common.{◌≡◌, ℕ, zero, suc, ◌+◌, ◌-◌, ◌≤◌, ◌==◌, cond, [], ◌∷◌, ◌++◌, length}
-use Rattle.std.proofs.Common.{replicate, get_or, refl, ap, subst, sym, ◌∙◌, arith}
-use Rattle.std.specs.Prelude.{None, nat_lt, nat_le}
-use Rattle.std.specs.List.{range_with_len}
-use Rattle.std.proofs.lemmas.Bool.Decides.{nat_tests}
-use Rattle.std.proofs.lemmas.List.{length-replicate}
-use Rattle.std.proofs.lemmas.List.FromFn.{length-range_with_len}
-use mathlib.Core.Logic.{inl}
-use Rattle.map_core.specs.Kept.{first_kept}
-use Rattle.map_core.specs.Story.{opened, newest, bitmap_of, kept, IsKept, came}
-use Rattle.map_core.specs.Blocks.{opened_blocks, directory_of, own_list}
-use Rattle.map_core.specs.Words.{Base, tiles}
-use Rattle.map_core.specs.Safe.{times}
-use Rattle.map_core.specs.Tidy.{IsReady, IsOfMap, AreSlots, IsTidy}
+use Rattle.map_core.proofs.Names.{rules, ◌≡◌, ℕ, zero, suc, ◌+◌, ◌-◌, ◌≤◌, cond, [], ◌∷◌, ap, refl}
+use Rattle.map_core.proofs.Names.{get_or, sym, ◌∙◌, arith, nat_lt, nat_le, range_with_len, inl}
+use Rattle.map_core.proofs.Names.{nat_tests, length-replicate, length-range_with_len, first_kept}
+use Rattle.map_core.proofs.Names.{opened, newest, bitmap_of, kept, IsKept, came, opened_blocks}
+use Rattle.map_core.proofs.Names.{directory_of, Base, tiles, times, IsReady, IsOfMap, AreSlots}
+use Rattle.map_core.proofs.Names.{IsTidy}
 use Rattle.map_core.proofs.accounts.TimesLemmas.{times-append, own_list-none, is_some-none}
 use Rattle.bits.proofs.BandLemmas.{read_none}
 
@@ -20,28 +12,12 @@ use Rattle.bits.proofs.BandLemmas.{read_none}
 times-range : (b a n : ℕ)
     → times b (range_with_len a n) ≡ cond (nat_lt b (a + n)) (cond (nat_le a b) 1 0) 0
 times-range b a zero = grind (arith, nat_tests)
-times-range b a (suc n) = let rest = times-range b (a + 1) n in
-    one_more b a n (times b (range_with_len (a + 1) n)) rest
-  where
-    one_more : (b a n later : ℕ)
-        → later ≡ cond (nat_lt b (a + 1 + n)) (cond (nat_le (a + 1) b) 1 0) 0
-        → cond (b == a) 1 0 + later ≡ cond (nat_lt b (a + suc n)) (cond (nat_le a b) 1 0) 0
-    one_more b a n later is = grind (arith, nat_tests)
+times-range b a (suc n) = search (rules, times-range b (a + 1) n)
 
 -- two ranges in a row have each number below their end once
 once_each : (b t n : ℕ) → t ≤ n
     → times b (range_with_len t (n - t)) + times b (range_with_len 0 t) ≡ cond (nat_lt b n) 1 0
-once_each b t n h =
-    let high = times-range b t (n - t) in
-    let low = times-range b 0 t in
-    let end : t + (n - t) ≡ n = omega arith in
-    both b t n (t + (n - t)) (0 + t) (times b (range_with_len t (n - t)))
-    (times b (range_with_len 0 t)) h end (omega arith) high low
-  where
-    both : (b t n end start x y : ℕ) → t ≤ n → end ≡ n → start ≡ t
-        → x ≡ cond (nat_lt b end) (cond (nat_le t b) 1 0) 0
-        → y ≡ cond (nat_lt b start) (cond (nat_le 0 b) 1 0) 0 → x + y ≡ cond (nat_lt b n) 1 0
-    both b t n end start x y h end_is start_is x_is y_is = grind (arith, nat_tests)
+once_each b t n h = search (rules, times-range, nat_tests)
 
 -- at the opening slot 0 has version 0, and no other slot has any
 pub opened_at : (i v : ℕ) → get_or first_kept.slots i 0 ≡ suc v → (i ≡ 0) × (v ≡ 0)
@@ -71,45 +47,15 @@ IsTidy-opened k ready =
     let none = own_list-none (tiles k) in
     let blocks = ready.blocks in
     let versions = ready.versions in
-    let opening : IsOfMap k k.opening =
-    record { width_is = refl; height_is = refl; bitmap = ready.bitmap } in
+    let opening : IsOfMap k k.opening = search rules in
     record {
-      shape = record {
-        own = length-replicate (tiles k) None;
-        changed = sym (is_some-none (tiles k));
-        published = refl;
-        directories = refl;
-        directory = λ v h. let first : 0 ≡ v = omega arith in
-            subst (λ (w : ℕ). length (get_or (range_with_len 0 (tiles k) ∷ []) w []) ≡ tiles k)
-            first
-            (length-range_with_len 0 (tiles k));
-        changes = λ v h. absurd (omega arith);
-        blocks = omega (
-          arith,
-          length-range_with_len (tiles k) (k.setting.blocks - tiles k),
-          ap length none,
-        );
-      };
+      shape = search (rules, length-replicate, is_some-none, length-range_with_len);
       draft = opening;
-      published = λ v h. let first : 0 ≡ v = omega arith in
-          subst (λ (w : ℕ). IsOfMap k (bitmap_of (opened k.opening) w)) first opening;
+      published = λ v h. search rules;
       unchanged = λ p i is h. refl;
       slots = slots_opened k ready;
       kept_fit = omega arith;
-      once = λ b.
-          let all = once_each b (tiles k) k.setting.blocks blocks in
-          let gone = ap (times b) none in
-          omega (
-            arith,
-            times-append b (range_with_len (tiles k) (k.setting.blocks - tiles k)
-                ++ own_list (replicate (tiles k) None) ++ range_with_len 0 (tiles k)) [],
-            times-append b (range_with_len (tiles k) (k.setting.blocks - tiles k)
-                ++ own_list (replicate (tiles k) None)) (range_with_len 0 (tiles k)),
-            times-append b (range_with_len (tiles k) (k.setting.blocks - tiles k))
-                (own_list (replicate (tiles k) None)),
-            all,
-            gone,
-          );
+      once = λ b. search (rules, once_each, times-append);
       retired = tt;
       mapped = λ v p is_kept inside. let first = (opened_at is_kept.slot v is_kept.there).1 in
           inl record {

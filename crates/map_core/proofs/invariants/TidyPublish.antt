@@ -1,30 +1,20 @@
 -- After one more publish each part of what holds after a legal log holds again.
-use Rattle.std.proofs.Common.{◌≡◌, ℕ, suc, ◌+◌, ◌<◌, ◌≤◌, ◌⊎◌, Bool, true, false, List, [], ◌∷◌}
-use Rattle.std.proofs.Common.{◌++◌, length, map, replicate, get_or, refl, ap, subst, sym, ◌∙◌}
-use Rattle.std.proofs.Common.{arith}
-use Rattle.std.specs.Prelude.{Option, None, is_some}
-use Rattle.std.specs.List.{AllByRecursion}
-use Rattle.std.proofs.lemmas.Bool.{cases_lt}
-use Rattle.std.proofs.lemmas.List.{length-append, length-map, length-replicate, length-set}
-use Rattle.std.proofs.lemmas.List.{get_or_append_left, get_or_push, get_or-set_same}
-use mathlib.Core.Logic.{inl, inr}
-use Rattle.bits.specs.Cells.{Cells}
-use Rattle.bits.specs.Tiles.{row_word}
-use Rattle.map_core.specs.Kept.{first_free, with_version}
-use Rattle.map_core.specs.Story.{Story, newest, bitmap_of, no_bitmap, kept, IsKept, came}
-use Rattle.map_core.specs.declared.blocks.RetiredBlock.{RetiredBlock}
-use Rattle.map_core.specs.Blocks.{Blocks, directory_of, own_list, mapped, replaced, blocks_of}
-use Rattle.map_core.specs.Blocks.{is_used}
-use Rattle.map_core.specs.Words.{Base, tiles}
-use Rattle.map_core.specs.Safe.{times}
-use Rattle.map_core.specs.Tidy.{IsOfMap, IsRetired, IsAmongRetired, HasNewest, AreSlots, IsShaped}
-use Rattle.map_core.specs.Tidy.{IsTidy}
+use Rattle.map_core.proofs.Names.{rules, ◌≡◌, ℕ, suc, ◌+◌, ◌<◌, ◌≤◌, ◌⊎◌, Bool, true, false, List}
+use Rattle.map_core.proofs.Names.{[], ◌∷◌, ◌++◌, length, map, replicate, get_or, refl, ap, subst}
+use Rattle.map_core.proofs.Names.{sym, ◌∙◌, arith, Option, None, is_some, AllByRecursion, cases_lt}
+use Rattle.map_core.proofs.Names.{length-append, length-set, inl, inr, get_or_append_left, Story}
+use Rattle.map_core.proofs.Names.{get_or_push, get_or-set_same, first_free, with_version, newest}
+use Rattle.map_core.proofs.Names.{bitmap_of, kept, IsKept, came, RetiredBlock, Blocks, directory_of}
+use Rattle.map_core.proofs.Names.{own_list, mapped, Base, replaced, blocks_of, is_used, tiles}
+use Rattle.map_core.proofs.Names.{times, IsRetired, IsAmongRetired, HasNewest, AreSlots, IsShaped}
+use Rattle.map_core.proofs.Names.{IsTidy}
+use Rattle.std.proofs.lemmas.Grind.{common_steps}
 use Rattle.map_core.proofs.accounts.CameLemmas.{came-push, came-le, came-same, changed_before-push}
 use Rattle.map_core.proofs.accounts.CameLemmas.{changed_before_new}
 use Rattle.map_core.proofs.logs.KeptLemmas.{first_free-le, members-add, IsIn-add, added_at}
-use Rattle.map_core.proofs.accounts.RetiredLemmas.{All-append, All-each, All-replaced}
-use Rattle.map_core.proofs.accounts.RetiredLemmas.{Among-append_left, Among-append_right}
-use Rattle.map_core.proofs.accounts.RetiredLemmas.{Among-replaced, used_at, used_by}
+use Rattle.map_core.proofs.accounts.RetiredLemmas.{All-append, All-each, All-replaced, used_at}
+use Rattle.map_core.proofs.accounts.RetiredLemmas.{Among-append_left, Among-append_right, used_by}
+use Rattle.map_core.proofs.accounts.RetiredLemmas.{Among-replaced}
 use Rattle.map_core.proofs.accounts.TimesLemmas.{times-append, blocks_of-append, own_list-none}
 use Rattle.map_core.proofs.accounts.TimesLemmas.{is_some-none, times-mapped, length-mapped}
 use Rattle.map_core.proofs.accounts.TimesLemmas.{length-replaced, mapped-None}
@@ -61,33 +51,25 @@ newest-publish k s m shape =
 pub newest_is : (k : Base) (s : Story) (m : Blocks) → IsShaped k s m → (newest s ≡ length s.changes)
     × (length s.published ≡ newest s + 1) × (length m.directories ≡ newest s + 1)
 unfolding newest
-newest_is k s m shape = (
-  omega (arith, shape.published),
-  omega (arith, shape.published),
-  omega (arith, shape.published, shape.directories),
-)
+newest_is k s m shape = search rules
 
 -- each version before keeps its bitmap
 pub bitmap_of-publish : (k : Base) (s : Story) (m : Blocks) → IsShaped k s m → (v : ℕ)
     → v ≤ newest s → bitmap_of (published_story s) v ≡ bitmap_of s v
 unfolding bitmap_of
-bitmap_of-publish k s m shape v h =
-    get_or_append_left s.published (s.draft ∷ []) no_bitmap v
-    (let at = newest_is k s m shape in omega arith)
+bitmap_of-publish k s m shape v h = search (rules, get_or_append_left, newest_is)
 
 -- the new version is the draft
 pub bitmap_of-new : (k : Base) (s : Story) (m : Blocks) → IsShaped k s m → (v : ℕ)
     → v ≡ newest s + 1 → bitmap_of (published_story s) v ≡ s.draft
 unfolding bitmap_of
-bitmap_of-new k s m shape v is =
-    get_or_push s.published s.draft no_bitmap v (let at = newest_is k s m shape in omega arith)
+bitmap_of-new k s m shape v is = search (rules, get_or_push, newest_is)
 
 -- each version before keeps its blocks
 pub directory_of-publish : (k : Base) (s : Story) (m : Blocks) → IsShaped k s m → (v : ℕ)
     → v ≤ newest s → directory_of (published_blocks s m) v ≡ directory_of m v
 unfolding directory_of
-directory_of-publish k s m shape v h =
-    get_or_append_left m.directories _ [] v (let at = newest_is k s m shape in omega arith)
+directory_of-publish k s m shape v h = search (rules, get_or_append_left, newest_is)
 
 -- a directory that is put at the end is that of the new version
 new_entry : (m : Blocks) (blocks : List ℕ) (own : List (Option ℕ)) (retired : List RetiredBlock)
@@ -104,10 +86,7 @@ new_entry m blocks own retired v at = get_or_push m.directories blocks [] v at
 pub directory_of-new : (k : Base) (s : Story) (m : Blocks) → IsShaped k s m → (v : ℕ)
     → v ≡ newest s + 1
     → directory_of (published_blocks s m) v ≡ mapped m.own (directory_of m (newest s))
-directory_of-new k s m shape v is =
-    new_entry m (mapped m.own (directory_of m (newest s))) (replicate (length m.own) None)
-    (m.retired ++ replaced s 0 m.own (directory_of m (newest s))) v
-    (let at = newest_is k s m shape in omega arith)
+directory_of-new k s m shape v is = search (rules, new_entry, newest_is)
 
 -- a position has changed where the draft has its own block there
 changed_at : (k : Base) (s : Story) (m : Blocks) → IsShaped k s m → (p : ℕ)
@@ -123,58 +102,25 @@ same_length k s m shape = shape.own ∙ sym (shape.directory (newest s) (omega a
 shape-publish : (k : Base) (s : Story) (m : Blocks) → IsShaped k s m
     → IsShaped k (published_story s) (published_blocks s m)
 shape-publish k s m shape =
-    let now = newest-publish k s m shape in
-    let at = newest_is k s m shape in
-    let same = same_length k s m shape in
-    let long : length s.changed ≡ length m.own = ap length shape.changed
-    ∙ length-map m.own is_some in
-    record {
-      own = length-replicate (length m.own) None ∙ shape.own;
-      changed = ap (λ (n : ℕ). replicate n false) long ∙ sym (is_some-none (length m.own));
-      published = omega (
-        arith,
-        length-append s.published (s.draft ∷ []),
-        length-append s.changes (s.changed ∷ []),
-        shape.published,
-      );
-      directories = omega (
-        arith,
-        length-append s.published (s.draft ∷ []),
-        length-append m.directories (mapped m.own (directory_of m (newest s)) ∷ []),
-        shape.directories,
-      );
-      directory = λ v h.
-          elim (cases_lt (newest s) v) [
-            | inl new ↦ ap length (directory_of-new k s m shape v (omega arith))
-                ∙ (length-mapped m.own (directory_of m (newest s)) same
-                ∙ shape.directory (newest s) (omega arith))
-            | inr old ↦ ap length (directory_of-publish k s m shape v old) ∙ shape.directory v old
-          ];
-      changes = λ v h.
-          elim (cases_lt v (newest s)) [
-            | inl old ↦ ap length (get_or_append_left s.changes (s.changed ∷ []) [] v (omega arith))
-                ∙ shape.changes v old
-            | inr new ↦ ap length (get_or_push s.changes s.changed [] v (omega arith))
-                ∙ (long ∙ shape.own)
-          ];
-      blocks = omega (
-        arith,
-        shape.blocks,
-        length-append m.retired (replaced s 0 m.own (directory_of m (newest s))),
-        length-replaced s 0 m.own (directory_of m (newest s)) same,
-        ap length (own_list-none (length m.own)),
-      );
-    }
+    grind (
+      arith,
+      common_steps,
+      newest-publish,
+      newest_is,
+      same_length,
+      is_some-none,
+      directory_of-new,
+      length-mapped,
+      directory_of-publish,
+      length-replaced,
+      own_list-none,
+    )
 
 -- a version that is kept after a publish was kept before, or it is the new one
 pub kept_published : (s : Story) (v : ℕ) → IsKept (published_story s) v → IsKept s v
     ⊎ (v ≡ newest s + 1)
 unfolding IsKept
-kept_published s v h =
-    elim (added_at s.kept.slots (newest s + 1) h.slot v h.there) [
-      | inl old ↦ inl record { slot = h.slot; there = old }
-      | inr new ↦ inr new.1
-    ]
+kept_published s v h = grind (arith, common_steps, added_at)
 
 -- a version that was kept is kept
 pub kept_still : (s : Story) (v : ℕ) → IsKept s v → IsKept (published_story s) v
@@ -206,10 +152,7 @@ pub slot_found : (k : Base) (s : Story) → AreSlots k s → k.setting.versions 
     → length (kept s) < k.setting.versions → (first_free s.kept.slots < k.setting.versions)
     × (first_free s.kept.slots < length s.kept.slots)
 unfolding kept
-slot_found k s slots few room =
-    let low = first_free-le s.kept.slots in
-    let long = slots.long in
-    (omega arith, omega arith)
+slot_found k s slots few room = search (rules, first_free-le)
 
 -- the new version is kept
 new_kept : (s : Story) → first_free s.kept.slots < length s.kept.slots
@@ -266,21 +209,15 @@ slots-publish k s m shape slots few room =
 IsRetired-publish : (k : Base) (s : Story) (m : Blocks) → IsShaped k s m → (r : RetiredBlock)
     → IsRetired k s m r → IsRetired k (published_story s) (published_blocks s m) r
 IsRetired-publish k s m shape r h =
-    let now = newest-publish k s m shape in
-    let at = newest_is k s m shape in
-    let before = h.before in
-    record {
-      inside = h.inside;
-      used = used_still s r h.used;
-      before = omega arith;
-      gone = changed_before-push s (published_story s) s.changed refl r.last r.position
-          (omega arith) ∙ h.gone;
-      first_is = h.first_is
-          ∙ sym (came-push s (published_story s) s.changed refl r.position r.last (omega arith));
-      block_is = h.block_is
-          ∙ sym (ap (λ (d : List ℕ). get_or d r.position 0)
-          (directory_of-publish k s m shape r.last (omega arith)));
-    }
+    grind (
+      arith,
+      common_steps,
+      newest-publish,
+      used_still,
+      changed_before-push,
+      came-push,
+      directory_of-publish,
+    )
 
 -- the blocks that a publish replaces are retired
 IsRetired-new : (k : Base) (s : Story) (m : Blocks) → IsTidy k s m
@@ -294,25 +231,15 @@ IsRetired-new k s m tidy =
     All-replaced (IsRetired k (published_story s) (published_blocks s m)) s 0 m.own
     (directory_of m (newest s)) same (λ j h is. record {
       inside = let own = shape.own in omega arith;
-      used = used_newest s record {
-        block = get_or (directory_of m (newest s)) j 0;
-        position = 0 + j;
-        first = came s (0 + j) (newest s);
-        last = newest s;
-      } tidy.slots.newest_in
-          (came-le s (0 + j) (newest s)) (omega arith);
+      used = search (rules, used_newest, came-le);
       before = omega arith;
       gone = changed_before_new s (published_story s) s.changed refl (newest s) (0 + j)
           (omega arith)
           ∙ (changed_at k s m shape (0 + j)
           ∙ (ap (λ (p : ℕ). get_or (map is_some m.own) p false)
           (let same_place : 0 + j ≡ j = omega arith in same_place) ∙ is));
-      first_is = sym (came-push s (published_story s) s.changed refl (0 + j) (newest s)
-          (omega arith));
-      block_is = ap (get_or' (directory_of m (newest s)))
-          (let same_place : j ≡ 0 + j = omega arith in same_place)
-          ∙ sym (ap (λ (d : List ℕ). get_or d (0 + j) 0)
-          (directory_of-publish k s m shape (newest s) (omega arith)));
+      first_is = search (rules, came-push);
+      block_is = search (rules, directory_of-publish);
     })
   where
     get_or' : List ℕ → ℕ → ℕ
@@ -334,12 +261,7 @@ mapped-publish k s m tidy v p is_kept inside =
     let long = shape.own in
     let next : newest t ≡ suc (newest s) = omega arith in
     elim (kept_published s v is_kept) [
-      | inr new ↦
-          let is : v ≡ newest t = omega arith in
-          inl record {
-            block_is = ap (λ (w : ℕ). get_or (directory_of n w) p 0) is;
-            came_is = ap (came t p) is;
-          }
+      | inr new ↦ search rules
       | inl was ↦
           let old = tidy.slots.published v was in
           let kept_blocks = ap (λ (d : List ℕ). get_or d p 0)
@@ -365,12 +287,7 @@ mapped-publish k s m tidy v p is_kept inside =
                       (subst (λ (q : ℕ). IsAmongRetired (get_or (directory_of m (newest s)) p 0) v
                       q (replaced s 0 m.own (directory_of m (newest s)))) place among)))
                   | false ↦ λ is. inl record {
-                    block_is = kept_blocks
-                        ∙ (has.block_is
-                        ∙ (sym (mapped-None m.own (directory_of m (newest s)) p same
-                        (omega arith) is)
-                        ∙ sym (ap (λ (d : List ℕ). get_or d p 0)
-                        (directory_of-new k s m shape (newest t) now))));
+                    block_is = search (rules, mapped-None, directory_of-new);
                     came_is = came-push s t s.changed refl p v (omega arith)
                         ∙ (has.came_is
                         ∙ (sym (came-push s t s.changed refl p (newest s) (omega arith))
@@ -380,10 +297,7 @@ mapped-publish k s m tidy v p is_kept inside =
                         ∙ ap (came t p) (sym next))));
                   }
                 ] refl
-            | inr among ↦
-                inr (subst (λ (b : ℕ). IsAmongRetired b v p
-                (m.retired ++ replaced s 0 m.own (directory_of m (newest s)))) (sym kept_blocks)
-                (Among-append_left _ v p m.retired _ among))
+            | inr among ↦ search (rules, Among-append_left)
           ]
     ]
 
@@ -405,15 +319,8 @@ IsTidy-publish k s m tidy few room =
     record {
       shape = shape-publish k s m shape;
       draft = tidy.draft;
-      published = λ v h.
-          elim (cases_lt (newest s) v) [
-            | inl new ↦ subst (λ (b : Cells). IsOfMap k b)
-                (sym (bitmap_of-new k s m shape v (omega arith))) tidy.draft
-            | inr old ↦ subst (λ (b : Cells). IsOfMap k b)
-                (sym (bitmap_of-publish k s m shape v old)) (tidy.published v old)
-          ];
-      unchanged = λ p i none h. ap (λ (b : Cells). row_word b p i)
-          (sym (bitmap_of-new k s m shape (newest t) now));
+      published = λ v h. search (rules, cases_lt, bitmap_of-new, bitmap_of-publish);
+      unchanged = λ p i none h. search (rules, bitmap_of-new);
       slots = slots-publish k s m shape tidy.slots few room;
       kept_fit = one_more k s (slot_found k s tidy.slots few room).1 room;
       once = λ b.
@@ -434,8 +341,6 @@ IsTidy-publish k s m tidy few room =
             times-append b (m.free ++ own_list n.own) (directory_of n (newest t)),
             times-append b m.free (own_list n.own),
           );
-      retired = All-append (IsRetired k t n) m.retired _
-          (All-each (IsRetired k s m) (IsRetired k t n) m.retired
-          (IsRetired-publish k s m shape) tidy.retired) (IsRetired-new k s m tidy);
+      retired = search (rules, All-append, All-each, IsRetired-publish, IsRetired-new);
       mapped = mapped-publish k s m tidy;
     }

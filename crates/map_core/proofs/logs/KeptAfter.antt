@@ -1,18 +1,12 @@
 -- What a collect keeps: newest, what is announced exactly, and what was kept from each other
 -- announcement on; and how many that is.
-use Rattle.std.proofs.Common.{◌≡◌, ℕ, zero, suc, ◌+◌, ◌≤◌, ◌==◌, ◌||◌, Bool, true, false, cond}
-use Rattle.std.proofs.Common.{List, [], ◌∷◌, length, get_or, refl, ap, ◌∙◌, arith}
-use Rattle.std.specs.Prelude.{Option, Some, None, nat_le, Contains}
-use Rattle.std.specs.List.{list_any}
-use Rattle.std.proofs.lemmas.Bool.{cases_eq}
-use Rattle.std.proofs.lemmas.Bool.Decides.{nat_tests}
-use Rattle.std.proofs.lemmas.List.Folds.{list_any_at}
-use mathlib.Core.Logic.{inl, inr}
-use Rattle.map_core.specs.declared.kept.Kept.{Kept}
-use Rattle.map_core.specs.declared.kept.Seen.{Seen}
-use Rattle.map_core.specs.declared.kept.Seen.TheVariants.{From, Exact}
-use Rattle.map_core.specs.Kept.{members, IsIn, asks, is_stay, slots_after, kept_after, IsApart}
-use Rattle.map_core.specs.Kept.{AreExact, announcements}
+use Rattle.map_core.proofs.Names.{rules, ◌≡◌, ℕ, zero, suc, ◌+◌, ◌≤◌, ◌==◌, ◌||◌, Bool, true, false}
+use Rattle.map_core.proofs.Names.{cond, List, [], ◌∷◌, length, get_or, refl, arith, Option, Some}
+use Rattle.map_core.proofs.Names.{None, Contains, list_any, cases_eq, nat_tests, list_any_at, inl}
+use Rattle.map_core.proofs.Names.{inr, Kept, Seen, From, Exact, members, IsIn, asks, is_stay}
+use Rattle.map_core.proofs.Names.{slots_after, kept_after, IsApart, announcements}
+use Rattle.std.proofs.lemmas.Grind.{common_steps}
+use Rattle.map_core.specs.Kept.{AreExact}
 use Rattle.map_core.proofs.logs.KeptLemmas.{IsIn-after, stay-newest, stay-asked}
 use Rattle.map_core.proofs.accounts.TimesLemmas.{one_if, none_if}
 
@@ -24,29 +18,18 @@ newest_after kept newest seen h = IsIn-after kept newest seen newest h (stay-new
 -- what one of the announcements keeps stays
 asked_by : (seen : List (Option Seen)) (o : Option Seen) (v : ℕ) → Contains seen o → asks o v ≡ true
     → list_any (λ p. asks p v) seen ≡ true
-asked_by seen o v there is =
-    list_any_at (λ p. asks p v) seen there.0 o there.1
-    (ap (λ (p : Option Seen). asks p v) there.2 ∙ is)
+asked_by seen o v there is = search (rules, list_any_at)
 
 -- a version that is announced exactly is kept
 pub exact_after : (kept : Kept) (newest : ℕ) (seen : List (Option Seen)) (v : ℕ)
     → Contains seen (Some (Exact v)) → IsIn kept v → IsIn (kept_after kept newest seen) v
-exact_after kept newest seen v there h =
-    IsIn-after kept newest seen v h
-    (stay-asked newest seen v (asked_by seen (Some (Exact v)) v there (itself v)))
-  where
-    itself : (v : ℕ) → asks (Some (Exact v)) v ≡ true
-    itself v = grind (arith, nat_tests)
+exact_after kept newest seen v there h = grind (arith, common_steps, stay-asked, asked_by)
 
 -- a collect keeps each kept version from an announced one on, where the announcement isn't exact
 pub from_after : (kept : Kept) (newest : ℕ) (seen : List (Option Seen)) (a v : ℕ)
     → Contains seen (Some (From a)) → a ≤ v → IsIn kept v → IsIn (kept_after kept newest seen) v
 from_after kept newest seen a v there low h =
-    IsIn-after kept newest seen v h
-    (stay-asked newest seen v (asked_by seen (Some (From a)) v there (up_to a v low)))
-  where
-    up_to : (a v : ℕ) → a ≤ v → nat_le a v ≡ true
-    up_to a v low = grind (arith, nat_tests)
+    grind (arith, common_steps, IsIn-after, stay-asked, asked_by, nat_tests)
 
 -- this many versions pass a test
 abbrev pub count_where : (ℕ → Bool) → List ℕ → ℕ
@@ -59,26 +42,14 @@ members-after : (newest : ℕ) (seen : List (Option Seen)) (slots : List ℕ)
     → length (members (slots_after newest seen slots)) ≡ count_where (is_stay newest seen) slots
 members-after newest seen [] = refl
 members-after newest seen (zero ∷ slots) = members-after newest seen slots
-members-after newest seen (suc v ∷ slots) =
-    by_test (is_stay newest seen v) v (slots_after newest seen slots)
-    (count_where (is_stay newest seen) slots) (members-after newest seen slots)
-  where
-    by_test : (stays : Bool) (v : ℕ) (rest : List ℕ) (n : ℕ) → length (members rest) ≡ n
-        → length (members (cond stays (suc v) 0 ∷ rest)) ≡ cond stays 1 0 + n
-    by_test true v rest n is = omega arith
-    by_test false v rest n is = omega arith
+members-after newest seen (suc v ∷ slots) = search (rules, members-after newest seen slots)
 
 -- no more versions pass one of two tests than pass each of them, added up
 count-or : (a b : ℕ → Bool) (slots : List ℕ)
     → count_where (λ v. a v || b v) slots ≤ count_where a slots + count_where b slots
 count-or a b [] = omega arith
 count-or a b (zero ∷ slots) = count-or a b slots
-count-or a b (suc v ∷ slots) = let rest = count-or a b slots in let here = by_tests (a v) (b v) in
-    omega arith
-  where
-    by_tests : (a b : Bool) → cond (a || b) 1 0 ≤ cond a 1 0 + cond b 1 0
-    by_tests true b = omega arith
-    by_tests false b = omega arith
+count-or a b (suc v ∷ slots) = search (rules, count-or a b slots)
 
 -- a version that no slot has is counted not once
 count-none : (x : ℕ) (slots : List ℕ) → ((i : ℕ) → get_or slots i 0 ≡ suc x → ⊥)

@@ -1,37 +1,27 @@
 -- The versions that are kept, each in its slot.
-use Rattle.std.proofs.Common.{◌≡◌, ◌≢◌, ℕ, zero, suc, ◌+◌, ◌-◌, ◌*◌, ◌/◌, ◌%◌, ◌<◌, ◌≤◌, ◌⊎◌, ◌==◌}
-use Rattle.std.proofs.Common.{◌||◌, Bool, true, false, cond, if◌then◌else◌, List, [], ◌∷◌, ◌++◌}
-use Rattle.std.proofs.Common.{length, map, get_or, set, refl, ap, sym, ◌∙◌, arith}
-use Rattle.std.specs.Prelude.{Option, Some, None}
-use Rattle.std.specs.List.{list_any}
-use Rattle.std.proofs.lemmas.Bool.{cases_eq, eq-eqb, ne_eqb, or_left}
-use Rattle.std.proofs.lemmas.Bool.Decides.{nat_tests}
-use Rattle.std.proofs.lemmas.List.{get_or-set_other}
-use mathlib.Core.Logic.{inl, inr}
-use Rattle.map_core.specs.declared.kept.Kept.{Kept}
-use Rattle.map_core.specs.declared.kept.Seen.{Seen}
-use Rattle.map_core.specs.declared.kept.Seen.TheVariants.{From, Exact}
-use Rattle.map_core.specs.Kept.{members, first_free, IsIn, with_version, IsPartOfKept, asks}
-use Rattle.map_core.specs.Kept.{is_stay, slots_after, kept_after}
-use Rattle.map_core.specs.Words.{pin_word, seen_in}
-use Rattle.map_core.specs.Safe.{times}
+use Rattle.map_core.proofs.Names.{rules, ◌≡◌, ◌≢◌, ℕ, zero, suc, ◌-◌, ◌/◌, ◌%◌, ◌<◌, ◌≤◌, ◌⊎◌, ◌==◌}
+use Rattle.map_core.proofs.Names.{◌||◌, Bool, true, false, List, [], ◌∷◌, ◌++◌, length, map, get_or}
+use Rattle.map_core.proofs.Names.{set, refl, ap, sym, ◌∙◌, arith, Option, Some, None, inl, list_any}
+use Rattle.map_core.proofs.Names.{cases_eq, eq-eqb, get_or-set_other, inr, Kept, Seen, From, Exact}
+use Rattle.map_core.proofs.Names.{members, first_free, IsIn, with_version, asks, times, is_stay}
+use Rattle.map_core.proofs.Names.{IsPartOfKept, slots_after, kept_after, pin_word, seen_in}
+use Rattle.std.proofs.lemmas.Grind.{common_steps}
+use Rattle.std.proofs.lemmas.Bool.{or_left}
 use Rattle.map_core.proofs.accounts.TimesLemmas.{one_if, none_if}
 
 -- one of two answers is true where the second one is
 later_passes : (a b : Bool) → b ≡ true → (a || b) ≡ true
-later_passes true b is = refl
-later_passes false b is = is
+later_passes a b is = search rules
 
 -- a version of a slot that passes a test is one of those that are kept
 pub any_member : (test : ℕ → Bool) (slots : List ℕ) (i v : ℕ) → get_or slots i 0 ≡ suc v
     → test v ≡ true → list_any test (members slots) ≡ true
 any_member test [] i v there is = absurd (omega arith)
 any_member test (zero ∷ slots) zero v there is = absurd (omega arith)
-any_member test (suc w ∷ slots) zero v there is = let same : w ≡ v = omega arith in
-    or_left (test w) (list_any test (members slots)) (ap test same ∙ is)
+any_member test (suc w ∷ slots) zero v there is = search (rules, or_left)
 any_member test (zero ∷ slots) (suc i) v there is = any_member test slots i v there is
 any_member test (suc w ∷ slots) (suc i) v there is =
-    later_passes (test w) (list_any test (members slots)) (any_member test slots i v there is)
+    search (rules, any_member test slots i v there is, later_passes)
 
 -- a slot has a version that passes a test
 pub record IsFoundIn (test : ℕ → Bool) (slots : List ℕ) : Type 0 where
@@ -87,8 +77,7 @@ members-add (suc w ∷ slots) v h = ap suc (members-add slots v (omega arith))
 
 -- a slot that has a version isn't the least free one
 pub slot_other : (slots : List ℕ) (i v : ℕ) → get_or slots i 0 ≡ suc v → i ≢ first_free slots
-slot_other slots i v there same = let free = first_free-is slots in
-    let here = ap (λ (j : ℕ). get_or slots j 0) same in absurd (omega arith)
+slot_other slots i v there same = search (rules, first_free-is)
 
 -- a version that is kept stays kept when another one is added
 pub IsIn-add : (kept : Kept) (w v : ℕ) → IsIn kept v → IsIn (with_version kept w) v
@@ -102,19 +91,7 @@ IsIn-add kept w v h = record {
 pub added_at : (slots : List ℕ) (w i v : ℕ)
     → get_or (set slots (first_free slots) (suc w)) i 0 ≡ suc v → (get_or slots i 0 ≡ suc v)
     ⊎ ((i ≡ first_free slots) × (v ≡ w))
-added_at slots w i v there =
-    elim (cases_eq i (first_free slots)) [
-      | inl same ↦ inr (same, here slots w i v same there)
-      | inr apart ↦ inl (sym (get_or-set_other slots (first_free slots) i (suc w) 0 apart) ∙ there)
-    ]
-  where
-    here : (slots : List ℕ) (w i v : ℕ) → i ≡ first_free slots
-        → get_or (set slots (first_free slots) (suc w)) i 0 ≡ suc v → v ≡ w
-    here [] w i v same there = absurd (omega arith)
-    here (zero ∷ slots) w zero v same there = omega arith
-    here (zero ∷ slots) w (suc i) v same there = absurd (omega arith)
-    here (suc u ∷ slots) w zero v same there = absurd (omega arith)
-    here (suc u ∷ slots) w (suc i) v same there = here slots w i v (omega arith) there
+added_at slots w i v there = grind (arith, common_steps, cases_eq, get_or-set_other)
 
 -- ---- some of the versions
 
@@ -124,11 +101,7 @@ pub part-at : (new old : List ℕ) → IsPartOfKept new old → (i v : ℕ) → 
 part-at [] [] part i v there = absurd (omega arith)
 part-at [] (o ∷ os) part i v there = absurd part
 part-at (n ∷ ns) [] part i v there = absurd part
-part-at (n ∷ ns) (o ∷ os) part zero v there =
-    elim part.0 [
-      | inl none ↦ absurd (omega arith)
-      | inr same ↦ sym same ∙ there
-    ]
+part-at (n ∷ ns) (o ∷ os) part zero v there = search rules
 part-at (n ∷ ns) (o ∷ os) part (suc i) v there = part-at ns os part.1 i v there
 
 -- where some of the versions are left, there are as many slots as before
@@ -146,8 +119,7 @@ part-few [] (o ∷ os) part = absurd part
 part-few (n ∷ ns) [] part = absurd part
 part-few (zero ∷ ns) (zero ∷ os) part = part-few ns os part.1
 part-few (zero ∷ ns) (suc o ∷ os) part = let rest = part-few ns os part.1 in omega arith
-part-few (suc n ∷ ns) (zero ∷ os) part =
-    elim part.0 [ inl none ↦ absurd (omega arith) | inr same ↦ absurd (omega arith) ]
+part-few (suc n ∷ ns) (zero ∷ os) part = search rules
 part-few (suc n ∷ ns) (suc o ∷ os) part = let rest = part-few ns os part.1 in omega arith
 
 -- ---- what a collect keeps
@@ -157,12 +129,7 @@ pub part-after : (newest : ℕ) (seen : List (Option Seen)) (slots : List ℕ)
     → IsPartOfKept (slots_after newest seen slots) slots
 part-after newest seen [] = tt
 part-after newest seen (zero ∷ slots) = (inl refl, part-after newest seen slots)
-part-after newest seen (suc v ∷ slots) =
-    (by_test (is_stay newest seen v) v, part-after newest seen slots)
-  where
-    by_test : (stays : Bool) (v : ℕ) → (cond stays (suc v) 0 ≡ 0) ⊎ (cond stays (suc v) 0 ≡ suc v)
-    by_test true v = inr refl
-    by_test false v = inl refl
+part-after newest seen (suc v ∷ slots) = search (rules, part-after newest seen slots)
 
 -- a version that stays is in its slot after a collect
 pub after-at : (newest : ℕ) (seen : List (Option Seen)) (slots : List ℕ) (i v : ℕ)
@@ -170,13 +137,11 @@ pub after-at : (newest : ℕ) (seen : List (Option Seen)) (slots : List ℕ) (i 
     → get_or (slots_after newest seen slots) i 0 ≡ suc v
 after-at newest seen [] i v there stays = absurd (omega arith)
 after-at newest seen (zero ∷ slots) zero v there stays = absurd (omega arith)
-after-at newest seen (suc w ∷ slots) zero v there stays =
-    let same : w ≡ v = omega arith in
-    ap (λ (b : Bool). cond b (suc w) 0) (ap (is_stay newest seen) same ∙ stays) ∙ there
+after-at newest seen (suc w ∷ slots) zero v there stays = search rules
 after-at newest seen (zero ∷ slots) (suc i) v there stays =
-    after-at newest seen slots i v there stays
+    search (rules, after-at newest seen slots i v there stays)
 after-at newest seen (suc w ∷ slots) (suc i) v there stays =
-    after-at newest seen slots i v there stays
+    search (rules, after-at newest seen slots i v there stays)
 
 -- a slot that has a version after a collect had it before, and that version stays
 pub after-only : (newest : ℕ) (seen : List (Option Seen)) (slots : List ℕ) (i v : ℕ)
@@ -184,21 +149,14 @@ pub after-only : (newest : ℕ) (seen : List (Option Seen)) (slots : List ℕ) (
     × (is_stay newest seen v ≡ true)
 after-only newest seen [] i v there = absurd (omega arith)
 after-only newest seen (zero ∷ slots) zero v there = absurd (omega arith)
-after-only newest seen (suc w ∷ slots) zero v there = by_test (is_stay newest seen w) refl there
-  where
-    by_test : (b : Bool) → is_stay newest seen w ≡ b → cond b (suc w) 0 ≡ suc v → (suc w ≡ suc v)
-        × (is_stay newest seen v ≡ true)
-    by_test true is there = let same : w ≡ v = omega arith in
-        (there, ap (is_stay newest seen) (sym same) ∙ is)
-    by_test false is there = absurd (omega arith)
+after-only newest seen (suc w ∷ slots) zero v there = search rules
 after-only newest seen (zero ∷ slots) (suc i) v there = after-only newest seen slots i v there
 after-only newest seen (suc w ∷ slots) (suc i) v there = after-only newest seen slots i v there
 
 -- a kept version that stays is kept after a collect
 pub IsIn-after : (kept : Kept) (newest : ℕ) (seen : List (Option Seen)) (v : ℕ) → IsIn kept v
     → is_stay newest seen v ≡ true → IsIn (kept_after kept newest seen) v
-IsIn-after kept newest seen v h stays =
-    record { slot = h.slot; there = after-at newest seen kept.slots h.slot v h.there stays }
+IsIn-after kept newest seen v h stays = search (rules, after-at)
 
 -- newest stays
 pub stay-newest : (newest : ℕ) (seen : List (Option Seen)) → is_stay newest seen newest ≡ true
@@ -213,74 +171,17 @@ stay-asked newest seen v asked = later_passes (newest == v) _ asked
 pub stay-more : (newest : ℕ) (words : List ℕ) (word v : ℕ)
     → is_stay newest (map seen_in words) v ≡ true
     → is_stay newest (map seen_in (words ++ word ∷ [])) v ≡ true
-stay-more newest words word v is =
-    elim (newest == v) as (λ b. (b || list_any (λ o. asks o v) (map seen_in words)) ≡ true
-    → (b || list_any (λ o. asks o v) (map seen_in (words ++ word ∷ []))) ≡ true) [
-      | true ↦ λ stays. refl
-      | false ↦ λ stays. still_asked words word v stays
-    ] is
-  where
-    still_asked : (words : List ℕ) (word v : ℕ)
-        → list_any (λ o. asks o v) (map seen_in words) ≡ true
-        → list_any (λ o. asks o v) (map seen_in (words ++ word ∷ [])) ≡ true
-    still_asked [] word v is = absurd (cc)
-    still_asked (w ∷ words) word v is =
-        elim (asks (seen_in w) v) as (λ b. (b || list_any (λ o. asks o v) (map seen_in words))
-        ≡ true → (b || list_any (λ o. asks o v) (map seen_in (words ++ word ∷ []))) ≡ true) [
-          | true ↦ λ stays. refl
-          | false ↦ λ stays. still_asked words word v stays
-        ] is
+stay-more newest words word v is = grind (arith, common_steps)
 
 -- what the last word asks for stays
 pub stay-last : (newest : ℕ) (words : List ℕ) (word v : ℕ) → asks (seen_in word) v ≡ true
     → is_stay newest (map seen_in (words ++ word ∷ [])) v ≡ true
-stay-last newest words word v asked =
-    stay-asked newest (map seen_in (words ++ word ∷ [])) v (last_asked words word v asked)
-  where
-    last_asked : (words : List ℕ) (word v : ℕ) → asks (seen_in word) v ≡ true
-        → list_any (λ o. asks o v) (map seen_in (words ++ word ∷ [])) ≡ true
-    last_asked [] word v asked = or_left (asks (seen_in word) v) _ asked
-    last_asked (w ∷ words) word v asked = later_passes (asks (seen_in w) v) _
-        (last_asked words word v asked)
+stay-last newest words word v asked = grind (arith, common_steps, stay-asked, or_left, later_passes)
 
 -- a word says what was announced by it
 pub seen_in-pin_word : (o : Option Seen) → seen_in (pin_word o) ≡ o
 unfolding seen_in pin_word
-seen_in-pin_word None = refl
-seen_in-pin_word (Some (From a)) =
-    picked_first (2 * a + 1 == 0) ((2 * a + 1) % 2 == 1) ((2 * a + 1) / 2) ((2 * a + 1) / 2 - 1) a
-    (not_none a) (odd a) (omega arith)
-  where
-    not_none : (a : ℕ) → (2 * a + 1 == 0) ≡ false
-    not_none a = grind (arith, nat_tests)
-
-    odd : (a : ℕ) → ((2 * a + 1) % 2 == 1) ≡ true
-    odd a = let rest : (2 * a + 1) % 2 ≡ 1 = omega arith in eq-eqb _ _ rest
-
-    picked_first : (none first : Bool) (f h a : ℕ) → none ≡ false → first ≡ true → f ≡ a
-        → (if none then None else (if first then Some (From f) else Some (Exact h))) ≡ Some (From a)
-    picked_first true first f h a is_none is_first is = absurd (cc)
-    picked_first false true f h a is_none is_first is = ap (λ (n : ℕ). Some (From n)) is
-    picked_first false false f h a is_none is_first is = absurd (cc)
-seen_in-pin_word (Some (Exact v)) =
-    picked_held (2 * v + 2 == 0) ((2 * v + 2) % 2 == 1) ((2 * v + 2) / 2) ((2 * v + 2) / 2 - 1) v
-    (not_none v) (even v) (omega arith)
-  where
-    not_none : (a : ℕ) → (2 * a + 2 == 0) ≡ false
-    not_none a = grind (arith, nat_tests)
-
-    other_number : (a : ℕ) → a ≡ 0 → (a == 1) ≡ false
-    other_number a same = grind (arith, nat_tests)
-
-    even : (a : ℕ) → ((2 * a + 2) % 2 == 1) ≡ false
-    even a = let rest : (2 * a + 2) % 2 ≡ 0 = omega arith in other_number _ rest
-
-    picked_held : (none first : Bool) (f h v : ℕ) → none ≡ false → first ≡ false → h ≡ v
-        → (if none then None else (if first then Some (From f) else Some (Exact h)))
-        ≡ Some (Exact v)
-    picked_held true first f h v is_none is_first is = absurd (cc)
-    picked_held false true f h v is_none is_first is = absurd (cc)
-    picked_held false false f h v is_none is_first is = ap (λ (n : ℕ). Some (Exact n)) is
+seen_in-pin_word o = search rules
 
 -- ---- members that a function is applied to
 
@@ -289,11 +190,10 @@ pub times-member : (f : ℕ → ℕ) (slots : List ℕ) (i v n : ℕ) → get_or
     → 1 ≤ times n (map f (members slots))
 times-member f [] i v n there is = absurd (omega arith)
 times-member f (zero ∷ slots) zero v n there is = absurd (omega arith)
-times-member f (suc w ∷ slots) zero v n there is = let same : w ≡ v = omega arith in
-    let here : f w ≡ n = ap f same ∙ is in let one = one_if n (f w) (sym here) in omega arith
+times-member f (suc w ∷ slots) zero v n there is = search (rules, one_if)
 times-member f (zero ∷ slots) (suc i) v n there is = times-member f slots i v n there is
 times-member f (suc w ∷ slots) (suc i) v n there is =
-    let rest = times-member f slots i v n there is in omega arith
+    search (rules, times-member f slots i v n there is)
 
 -- a slot has a version of which the function is this
 pub record IsImage (f : ℕ → ℕ) (slots : List ℕ) (n : ℕ) : Type 0 where
@@ -373,12 +273,10 @@ seen_none word is = let test : (word == 0) ≡ true = eq-eqb word 0 is in rw tes
 -- an odd word tells that a version and those after it are announced
 pub seen_first : (word : ℕ) → (word ≡ 0 → ⊥) → word % 2 ≡ 1 → seen_in word ≡ Some (From (word / 2))
 unfolding seen_in
-seen_first word some is = let test : (word == 0) ≡ false = ne_eqb word 0 some in
-    let odd : (word % 2 == 1) ≡ true = eq-eqb (word % 2) 1 is in rw (test, odd) refl
+seen_first word some is = search rules
 
 -- an even word that isn't 0 tells that one version alone is announced
 pub seen_exact : (word : ℕ) → (word ≡ 0 → ⊥) → (word % 2 ≡ 1 → ⊥)
     → seen_in word ≡ Some (Exact (word / 2 - 1))
 unfolding seen_in
-seen_exact word some is = let test : (word == 0) ≡ false = ne_eqb word 0 some in
-    let even : (word % 2 == 1) ≡ false = ne_eqb (word % 2) 1 is in rw (test, even) refl
+seen_exact word some is = search rules

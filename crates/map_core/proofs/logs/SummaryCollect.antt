@@ -1,20 +1,9 @@
 -- What is kept of a log after one more collect.
-use Rattle.std.proofs.Common.{◌≡◌, ℕ, ◌-◌, not, List, length, refl, ap, subst, sym, ◌∙◌, arith}
-use Rattle.std.specs.Prelude.{filter}
-use Rattle.map_core.specs.declared.blocks.RetiredBlock.{RetiredBlock}
-use Rattle.map_core.specs.declared.command.Command.TheVariants.{Collect}
-use Rattle.map_core.specs.declared.command.Reply.{Reply}
-use Rattle.map_core.specs.declared.command.Reply.TheVariants.{Collected}
-use Rattle.map_core.specs.declared.kept.Kept.{Kept}
-use Rattle.map_core.specs.declared.ledger.Ledger.{Ledger}
-use Rattle.map_core.specs.Kept.{members}
-use Rattle.map_core.specs.Story.{Story, newest, bitmap_of, kept, with_kept, inuse}
-use Rattle.map_core.specs.Legal.{told}
-use Rattle.map_core.specs.Blocks.{Blocks, is_used, blocks_of, given_back, moved}
-use Rattle.map_core.specs.Ledger.{IsLedger}
-use Rattle.map_core.specs.Summary.{Summary, IsSummary}
-use Rattle.map_core.specs.Words.{Base}
-use Rattle.map_core.specs.Tidy.{IsTidy}
+use Rattle.map_core.proofs.Names.{rules, ◌≡◌, ℕ, ◌-◌, not, List, length, ap, subst, sym, ◌∙◌, arith}
+use Rattle.map_core.proofs.Names.{filter, RetiredBlock, Collect, Reply, Collected, Kept, Ledger}
+use Rattle.map_core.proofs.Names.{members, Story, newest, bitmap_of, kept, with_kept, inuse, told}
+use Rattle.map_core.proofs.Names.{Blocks, is_used, blocks_of, given_back, moved, IsLedger, Summary}
+use Rattle.map_core.proofs.Names.{IsSummary, Base, IsTidy}
 use Rattle.map_core.proofs.accounts.CameLemmas.{came-same_changes}
 use Rattle.map_core.proofs.accounts.FreedLemmas.{freed_is}
 use Rattle.map_core.proofs.invariants.TidyCollect.{IsChoice, collected_story}
@@ -33,24 +22,7 @@ pub summary_swept : (k : Base) (s : Story) (m : Blocks) (u : Summary) (ledger : 
     record u { ledger = ledger; free = free; retired = retired }
 unfolding told moved newest bitmap_of kept
 summary_swept k s m u ledger place f freed kept_now free retired keeps entered retired_is free_is =
-    record {
-      ledger_is = entered;
-      draft_is = keeps.draft_is;
-      published_is = keeps.published_is;
-      came_long = keeps.came_long;
-      came_is = λ p h. keeps.came_is p h
-          ∙ came-same_changes s (collected_story s kept_now) refl p _;
-      own_is = keeps.own_is;
-      free_is = free_is
-          ∙ (ap (λ (rs : List RetiredBlock). given_back
-          (blocks_of (filter (λ r. not (is_used (members kept_now.slots) r)) rs)) u.free)
-          keeps.retired_is
-          ∙ ap
-          (given_back
-          (blocks_of (filter (λ r. not (is_used (members kept_now.slots) r)) m.retired)))
-          keeps.free_is);
-      retired_is = retired_is ∙ ap (filter (is_used (members kept_now.slots))) keeps.retired_is;
-    }
+    search (rules, came-same_changes, collected_story)
 
 -- what is kept is right after a collect
 pub summary_collect : (k : Base) (s : Story) (m : Blocks) (u : Summary) (ledger : Ledger)

@@ -1,20 +1,10 @@
 -- What is kept of a log after one more paint or stamp, and after one more revert.
-use Rattle.std.proofs.Common.{◌≡◌, ℕ, Bool, List, length, drop, map, replicate, refl, ap, subst}
-use Rattle.std.proofs.Common.{sym, ◌∙◌}
-use Rattle.std.specs.Prelude.{Option, None, is_some}
-use Rattle.bits.specs.Cells.{Cells}
-use Rattle.map_core.specs.declared.command.Command.{Command}
-use Rattle.map_core.specs.declared.command.Command.TheVariants.{Paint, Stamp, Publish, Revert}
-use Rattle.map_core.specs.declared.command.Command.TheVariants.{Collect, Checkpoint}
-use Rattle.map_core.specs.declared.command.Reply.{Reply}
-use Rattle.map_core.specs.declared.ledger.Ledger.{Ledger}
-use Rattle.map_core.specs.Drawing.{drawn, touched, differing, IsDraw}
-use Rattle.map_core.specs.Story.{Story, newest, bitmap_of, trues, new_ones}
-use Rattle.map_core.specs.Legal.{needed, told, after_draw}
-use Rattle.map_core.specs.Blocks.{Blocks, own_list, own_after, given_back, moved, drawn_blocks}
-use Rattle.map_core.specs.Ledger.{IsLedger}
-use Rattle.map_core.specs.Summary.{Summary, IsSummary}
-use Rattle.map_core.specs.Words.{Base}
+use Rattle.map_core.proofs.Names.{rules, ◌≡◌, ℕ, Bool, List, length, drop, map, replicate, ap, sym}
+use Rattle.map_core.proofs.Names.{subst, ◌∙◌, Option, None, is_some, Cells, Command, Revert, Reply}
+use Rattle.map_core.proofs.Names.{Checkpoint, Ledger, drawn, touched, differing, IsDraw, Story}
+use Rattle.map_core.proofs.Names.{newest, bitmap_of, trues, new_ones, needed, told, after_draw}
+use Rattle.map_core.proofs.Names.{Blocks, own_list, own_after, given_back, moved, drawn_blocks}
+use Rattle.map_core.proofs.Names.{IsLedger, Summary, IsSummary, Base}
 use Rattle.map_core.proofs.accounts.CameLemmas.{came-same_changes}
 use Rattle.map_core.proofs.logs.LedgerLemmas.{told_draw}
 
@@ -22,12 +12,7 @@ use Rattle.map_core.proofs.logs.LedgerLemmas.{told_draw}
 pub moved_draw : (s : Story) (c : Command) (reply : Reply) (m : Blocks) → IsDraw c
     → moved s c reply m ≡ drawn_blocks s c m
 unfolding moved
-moved_draw s (Paint r black) reply m draws = refl
-moved_draw s (Stamp x y b) reply m draws = refl
-moved_draw s Publish reply m draws = absurd draws
-moved_draw s Revert reply m draws = absurd draws
-moved_draw s Collect reply m draws = absurd draws
-moved_draw s Checkpoint reply m draws = absurd draws
+moved_draw s c reply m draws = search rules
 
 -- what is kept after a drawing is what the story and the blocks after it say
 summary_drawn : (k : Base) (s : Story) (m : Blocks) (u : Summary) (c : Command) (ledger : Ledger)
@@ -38,16 +23,8 @@ summary_drawn : (k : Base) (s : Story) (m : Blocks) (u : Summary) (c : Command) 
     → IsSummary k (after_draw s c) (drawn_blocks s c m)
     record u { ledger = ledger; draft = draft; own = own; free = free }
 unfolding newest bitmap_of
-summary_drawn k s m u c ledger draft own free kept entered draft_is own_is free_is = record {
-  ledger_is = entered;
-  draft_is = draft_is;
-  published_is = kept.published_is;
-  came_long = kept.came_long;
-  came_is = λ p h. kept.came_is p h ∙ came-same_changes s (after_draw s c) refl p _;
-  own_is = own_is;
-  free_is = free_is;
-  retired_is = kept.retired_is;
-}
+summary_drawn k s m u c ledger draft own free kept entered draft_is own_is free_is =
+    search (rules, came-same_changes)
 
 -- this is drawn, as the blocks that it takes are told
 pub record IsDrawnOn (u : Summary) (c : Command) (draft : Cells) (own : List (Option ℕ))
@@ -66,8 +43,7 @@ pub summary_draw : (k : Base) (s : Story) (m : Blocks) (u : Summary) (c : Comman
 unfolding touched needed
 summary_draw k s m u c reply ledger draft own free kept changed draws entered is =
     let new : draft ≡ drawn s.draft c = is.draft_is ∙ ap (λ (b : Cells). drawn b c) kept.draft_is in
-    let ts : differing u.draft draft ≡ differing s.draft (drawn s.draft c) =
-    ap (λ (b : Cells). differing b draft) kept.draft_is ∙ ap (differing s.draft) new in
+    let ts : differing u.draft draft ≡ differing s.draft (drawn s.draft c) = search rules in
     let before : map is_some u.own ≡ s.changed = ap (map is_some) kept.own_is ∙ sym changed in
     subst (λ (t : Story). IsSummary k t (moved s c reply m)
     record u { ledger = ledger; draft = draft; own = own; free = free })
@@ -93,18 +69,8 @@ pub summary_revert : (k : Base) (s : Story) (m : Blocks) (u : Summary) (reply : 
     → IsSummary k (told s Revert reply) (moved s Revert reply m)
     record u { ledger = ledger; draft = draft; own = own; free = free }
 unfolding told moved newest bitmap_of
-summary_revert k s m u reply ledger draft own free kept entered draft_is own_is free_is = record {
-  ledger_is = entered;
-  draft_is = draft_is ∙ kept.published_is;
-  published_is = kept.published_is;
-  came_long = kept.came_long;
-  came_is = λ p h. kept.came_is p h ∙ came-same_changes s (told s Revert reply) refl p _;
-  own_is = own_is ∙ ap (λ (os : List (Option ℕ)). replicate (length os) None) kept.own_is;
-  free_is = free_is
-      ∙ (ap (λ (os : List (Option ℕ)). given_back (own_list os) u.free) kept.own_is
-      ∙ ap (given_back (own_list m.own)) kept.free_is);
-  retired_is = kept.retired_is;
-}
+summary_revert k s m u reply ledger draft own free kept entered draft_is own_is free_is =
+    search (rules, came-same_changes)
 
 -- what is kept is right after a checkpoint
 pub summary_checkpoint : (k : Base) (s : Story) (m : Blocks) (u : Summary) (reply : Reply)
@@ -113,13 +79,4 @@ pub summary_checkpoint : (k : Base) (s : Story) (m : Blocks) (u : Summary) (repl
     → IsSummary k (told s Checkpoint reply) (moved s Checkpoint reply m)
     record u { ledger = ledger }
 unfolding told moved newest bitmap_of
-summary_checkpoint k s m u reply ledger kept entered = record {
-  ledger_is = entered;
-  draft_is = kept.draft_is;
-  published_is = kept.published_is;
-  came_long = kept.came_long;
-  came_is = λ p h. kept.came_is p h ∙ came-same_changes s (told s Checkpoint reply) refl p _;
-  own_is = kept.own_is;
-  free_is = kept.free_is;
-  retired_is = kept.retired_is;
-}
+summary_checkpoint k s m u reply ledger kept entered = search (rules, came-same_changes)

@@ -1,19 +1,10 @@
 -- What is kept of a log after one more publish.
-use Rattle.std.proofs.Common.{◌≡◌, ℕ, zero, suc, ◌+◌, ◌<◌, Bool, false, List, [], ◌∷◌, ◌++◌, length}
-use Rattle.std.proofs.Common.{map, replicate, get_or, refl, ap, sym, ◌∙◌, arith}
-use Rattle.std.specs.Prelude.{Option, Some, None, is_some}
-use Rattle.bits.specs.Cells.{Cells}
-use Rattle.map_core.specs.declared.blocks.RetiredBlock.{RetiredBlock}
-use Rattle.map_core.specs.declared.command.Command.TheVariants.{Publish}
-use Rattle.map_core.specs.declared.command.Reply.{Reply}
-use Rattle.map_core.specs.declared.ledger.Ledger.{Ledger}
-use Rattle.map_core.specs.Story.{Story, newest, came, changed_before}
-use Rattle.map_core.specs.Legal.{told}
-use Rattle.map_core.specs.Blocks.{Blocks, directory_of, replaced, moved}
-use Rattle.map_core.specs.Ledger.{IsLedger}
-use Rattle.map_core.specs.Summary.{Summary, IsSummary, came_with, came_after, retired_by}
-use Rattle.map_core.specs.Words.{Base}
-use Rattle.map_core.specs.Tidy.{IsShaped, IsTidy}
+use Rattle.map_core.proofs.Names.{rules, ◌≡◌, ℕ, zero, suc, ◌+◌, ◌<◌, Bool, false, List, [], ◌∷◌}
+use Rattle.map_core.proofs.Names.{◌++◌, length, map, replicate, get_or, refl, ap, sym, ◌∙◌, arith}
+use Rattle.map_core.proofs.Names.{Option, Some, None, is_some, Cells, RetiredBlock, Publish, Reply}
+use Rattle.map_core.proofs.Names.{Ledger, Story, newest, came, changed_before, told, Blocks, moved}
+use Rattle.map_core.proofs.Names.{directory_of, replaced, IsLedger, Summary, IsSummary, came_with}
+use Rattle.map_core.proofs.Names.{came_after, retired_by, Base, IsShaped, IsTidy}
 use Rattle.map_core.proofs.accounts.CameLemmas.{came-push, came-changed, came-same}
 use Rattle.map_core.proofs.accounts.CameLemmas.{changed_before_new}
 use Rattle.map_core.proofs.invariants.TidyPublish.{published_story, newest-publish, newest_is}
@@ -81,8 +72,7 @@ came_published k s m tidy p before is =
     let shape = tidy.shape in
     let t = published_story s in
     let at = newest_is k s m shape in
-    let same : came t p (newest s) ≡ came s p (newest s) =
-    came-push s t s.changed refl p (newest s) (omega arith) in
+    let same : came t p (newest s) ≡ came s p (newest s) = search (rules, came-push) in
     let changed : changed_before t (newest s) p ≡ is_some (get_or m.own p None) =
     changed_before_new s t s.changed refl (newest s) p (omega arith)
     ∙ (ap (λ (bs : List Bool). get_or bs p false) shape.changed ∙ own_at m.own p) in
@@ -122,43 +112,16 @@ pub summary_publish : (k : Base) (s : Story) (m : Blocks) (u : Summary) (reply :
 unfolding told moved
 summary_publish k s m u reply ledger published came_now own retired kept tidy entered published_is
     own_is came_now_is retired_is =
-    let shape = tidy.shape in
-    let t = published_story s in
-    let now = newest-publish k s m shape in
-    let long = shape.own in
-    let directory_long = shape.directory (newest s) (omega arith) in
-    let own_long = ap length kept.own_is in
-    let came_long = kept.came_long in
-    record {
-      ledger_is = entered;
-      draft_is = kept.draft_is;
-      published_is = published_is
-          ∙ (kept.draft_is ∙ sym (bitmap_of-new k s m shape (newest t) now));
-      came_long = ap length came_now_is
-          ∙ (length-came_after u.ledger.newest u.own u.came (omega arith) ∙ kept.came_long);
-      came_is = λ p h.
-          ap (λ (cs : List ℕ). get_or cs p 0) came_now_is
-          ∙ (get_or-came_after u.ledger.newest u.own u.came p (omega arith) (omega arith)
-          ∙ (ap (λ (n : ℕ). came_with n (get_or u.own p None) (get_or u.came p 0))
-          kept.ledger_is.newest_is
-          ∙ (ap (λ (os : List (Option ℕ)). came_with (newest s) (get_or os p None)
-          (get_or u.came p 0)) kept.own_is
-          ∙ (came_published k s m tidy p (get_or u.came p 0) (kept.came_is p h)
-          ∙ ap (came t p) (sym now)))));
-      own_is = own_is ∙ ap (λ (n : ℕ). replicate n None) own_long;
-      free_is = kept.free_is;
-      retired_is = retired_is
-          ∙ (ap (λ (rs : List RetiredBlock). rs ++ retired_by u.ledger.newest 0 u.own u.came
-          (directory_of m (newest s))) kept.retired_is
-          ∙ (ap (λ (n : ℕ). m.retired ++ retired_by n 0 u.own u.came (directory_of m (newest s)))
-          kept.ledger_is.newest_is
-          ∙ (ap (λ (os : List (Option ℕ)). m.retired ++ retired_by (newest s) 0 os u.came
-          (directory_of m (newest s))) kept.own_is
-          ∙ ap (λ (rs : List RetiredBlock). m.retired ++ rs)
-          (retired_by-replaced s 0 m.own u.came (directory_of m (newest s)) (omega arith)
-          (omega arith) (λ p h. kept.came_is p (omega arith)
-          ∙ ap (λ (q : ℕ). came s q (newest s)) (omega arith))))));
-    }
+    search (
+      rules,
+      newest-publish,
+      bitmap_of-new,
+      length-came_after,
+      get_or-came_after,
+      newest_is,
+      came_published,
+      retired_by-replaced,
+    )
 
 -- each version up to newest has been given a slot
 pub slots_published : (k : Base) (s : Story) (m : Blocks) → IsTidy k s m

@@ -1,38 +1,21 @@
 -- Worked rows that the definitions are run on: each is computed.
-use Rattle.std.proofs.Common.{◌≡◌, ℕ, ◌+◌, ◌*◌, ◌-◌, ◌<◌, ◌≤◌, true, false, List, [], ◌∷◌, ◌++◌}
-use Rattle.std.proofs.Common.{length, replicate, refl, arith}
-use Rattle.std.specs.Prelude.{Option, Some, None}
-use Rattle.std.specs.List.{range_with_len}
-use Rattle.bits.specs.Cells.{has, rows_where, cells_where}
-use Rattle.bits.specs.Changes.{changes}
-use Rattle.bits.specs.Tiles.{word_where, row_word}
+use Rattle.map_core.proofs.Names.{◌≡◌, ℕ, ◌+◌, ◌*◌, ◌-◌, ◌<◌, ◌≤◌, true, false, List, [], ◌∷◌, ◌++◌}
+use Rattle.map_core.proofs.Names.{length, replicate, refl, arith, Option, Some, None, has, changes}
+use Rattle.map_core.proofs.Names.{range_with_len, cells_where, row_word, Refusal, OutOfRange, Paint}
+use Rattle.map_core.proofs.Names.{BlocksFull, VersionsFull, LogFull, Command, Publish, Revert, Load}
+use Rattle.map_core.proofs.Names.{Collect, Reply, Painted, Published, Reverted, Collected, Event}
+use Rattle.map_core.proofs.Names.{Announce, LookMap, LookTile, Leave, Confirm, Order, Keep, Kept}
+use Rattle.map_core.proofs.Names.{StepReply, Setting, first_kept, drawn, tile_differs, touched}
+use Rattle.map_core.proofs.Names.{opened, kept_log, newest, bitmap_of, kept, inuse, needed, refused}
+use Rattle.map_core.proofs.Names.{told, opened_blocks, directory_of, is_mapped, moved, Base, tiles}
+use Rattle.map_core.proofs.Names.{word_count, pin_at, map_at, tile_at, now_of, pin_word, seen_in}
+use Rattle.map_core.proofs.Names.{slot_of, next_slot, State, story, blocks, does, announce, load}
+use Rattle.map_core.proofs.Names.{look_map, look_tile, leave, keep, order, steps_before, confirm}
+use Rattle.map_core.proofs.Names.{tile_write, map_write, kept_scanned, reply_of}
+use Rattle.bits.specs.Cells.{rows_where}
+use Rattle.bits.specs.Tiles.{word_where}
 use Rattle.metric.specs.declared.edge.Edge.TheVariants.{Open}
-use Rattle.metric.specs.declared.refusal.Refusal.{Refusal}
-use Rattle.metric.specs.declared.refusal.Refusal.TheVariants.{OutOfRange, BlocksFull, VersionsFull}
-use Rattle.metric.specs.declared.refusal.Refusal.TheVariants.{LogFull}
-use Rattle.map_core.specs.declared.command.Command.{Command}
-use Rattle.map_core.specs.declared.command.Command.TheVariants.{Paint, Publish, Revert, Collect}
-use Rattle.map_core.specs.declared.command.Reply.{Reply}
-use Rattle.map_core.specs.declared.command.Reply.TheVariants.{Painted, Published, Reverted}
-use Rattle.map_core.specs.declared.command.Reply.TheVariants.{Collected}
-use Rattle.map_core.specs.declared.event.Event.{Event}
-use Rattle.map_core.specs.declared.event.Event.TheVariants.{Announce, Load, LookMap, LookTile}
-use Rattle.map_core.specs.declared.event.Event.TheVariants.{Leave, Confirm, Order, Keep}
-use Rattle.map_core.specs.declared.event.StepReply.{StepReply}
 use Rattle.map_core.specs.declared.event.StepReply.TheVariants as says
-use Rattle.map_core.specs.declared.kept.Kept.{Kept}
-use Rattle.map_core.specs.declared.setting.Setting.{Setting}
-use Rattle.map_core.specs.Kept.{first_kept}
-use Rattle.map_core.specs.Drawing.{drawn, tile_differs, touched}
-use Rattle.map_core.specs.Story.{opened, kept_log, newest, bitmap_of, kept, inuse}
-use Rattle.map_core.specs.Legal.{needed, refused, told}
-use Rattle.map_core.specs.Blocks.{opened_blocks, directory_of, is_mapped, moved}
-use Rattle.map_core.specs.Words.{Base, tiles, word_count, pin_at, map_at, tile_at, now_of, pin_word}
-use Rattle.map_core.specs.Words.{seen_in, slot_of, next_slot}
-use Rattle.map_core.specs.Views.{State, story, blocks}
-use Rattle.map_core.specs.Steps.{does, announce, load, look_map, look_tile, leave, keep, order}
-use Rattle.map_core.specs.Steps.{steps_before, confirm, tile_write, map_write, kept_scanned}
-use Rattle.map_core.specs.Steps.{reply_of}
 
 -- the events answer this, one after another; none where one isn't enabled
 answers_of : State → List Event → List (Option StepReply)

@@ -1,35 +1,32 @@
 -- The last step of a command, on a world by its parts.
-use Rattle.std.proofs.Common.{◌≡◌, ℕ, suc, ◌+◌, ◌^◌, ◌<◌, ◌≤◌, false, List, [], ◌∷◌, ◌++◌, length}
-use Rattle.std.proofs.Common.{set, map, take, refl, ap, subst, sym, ◌∙◌, arith}
-use Rattle.std.specs.Prelude.{Option, Some, None, IfSome, nat_lt, slice_get}
-use Rattle.std.proofs.lemmas.Bool.Decides.{nat_tests}
-use Rattle.std.proofs.lemmas.List.{take-append-le, length-append}
-use Rattle.bits.specs.Cells.{Cells}
-use Rattle.map_core.specs.declared.command.Command.{Command}
-use Rattle.map_core.specs.declared.command.Command.TheVariants.{Revert, Checkpoint}
-use Rattle.map_core.specs.declared.command.Entry.{Entry}
-use Rattle.map_core.specs.declared.command.Reply.{Reply}
-use Rattle.map_core.specs.declared.command.Reply.TheVariants.{Reverted, Checkpointed}
-use Rattle.map_core.specs.declared.event.Event.TheVariants.{Keep}
-use Rattle.map_core.specs.declared.event.StepReply.TheVariants as says
-use Rattle.map_core.specs.declared.ledger.Ledger.{Ledger}
-use Rattle.map_core.specs.declared.reader.Standing.{Standing}
-use Rattle.map_core.specs.declared.setting.Setting.{Setting}
-use Rattle.map_core.specs.Story.{Story, newest}
-use Rattle.map_core.specs.Legal.{told}
-use Rattle.map_core.specs.Ledger.{IsLedger, HasPlace}
-use Rattle.map_core.specs.Blocks.{Blocks, own_list, moved}
-use Rattle.map_core.specs.Words.{Base, now_at, now_of}
-use Rattle.map_core.specs.Views.{Hand, Reader, State, story, blocks, story_of, blocks_of_state}
-use Rattle.map_core.specs.Steps.{Outcome, does, keep, steps_before, reply_of}
-use Rattle.map_core.specs.Summary.{Summary, IsSummary}
-use Rattle.map_core.specs.Consistent.{hand_of, reader_of, state_of, Room, IsConsistent, IsLastOf}
-use Rattle.map_core.specs.Sound.{InHand}
-use Rattle.map_core.specs.Tidy.{IsOfMap}
+use Rattle.map_core.proofs.Names.{rules, ◌≡◌, ℕ, suc, ◌+◌, ◌^◌, ◌<◌, ◌≤◌, List, [], ◌∷◌, ◌++◌, set}
+use Rattle.map_core.proofs.Names.{length, map, take, refl, ap, subst, sym, ◌∙◌, arith, Option, Some}
+use Rattle.map_core.proofs.Names.{None, slice_get, nat_tests, length-append, Cells, Command, Revert}
+use Rattle.map_core.proofs.Names.{Checkpoint, Entry, Reply, Reverted, Keep, Ledger, Standing, Story}
+use Rattle.map_core.proofs.Names.{Setting, newest, told, IsLedger, HasPlace, Blocks, own_list, Base}
+use Rattle.map_core.proofs.Names.{moved, now_at, now_of, Reader, State, story, blocks, story_of}
+use Rattle.map_core.proofs.Names.{blocks_of_state, does, keep, steps_before, reply_of, Summary, ◌-◌}
+use Rattle.map_core.proofs.Names.{IsSummary, hand_of, reader_of, state_of, Room, IsConsistent, Kept}
+use Rattle.map_core.proofs.Names.{IsLastOf, IsOfMap, filter, RetiredBlock, Collect, Collected, ◌*◌}
+use Rattle.map_core.proofs.Names.{members, least_kept, slots_after, with_kept, inuse, is_used, drop}
+use Rattle.map_core.proofs.Names.{seen_in, kept_scanned, get_or, length-drop, mul-le-mul_left, came}
+use Rattle.map_core.proofs.Names.{Publish, Published, IsKept, directory_of, tiles, word_count}
+use Rattle.map_core.proofs.Names.{map_at, slot_of, came_after}
+use Rattle.std.proofs.lemmas.List.{take-append-le, get_or-take, get_or-drop, length-take-le}
+use Rattle.map_core.specs.declared.command.Reply.TheVariants.{Checkpointed}
 use Rattle.map_core.proofs.steps.DoesLemmas.{does-keeps}
 use Rattle.map_core.proofs.logs.LogLemmas.{place_left, places-legal}
 use Rattle.map_core.proofs.steps.StepLemmas.{tidy_of, story-push, blocks-push}
 use Rattle.map_core.proofs.steps.KeepWorld.{that_hand}
+use Rattle.map_core.proofs.accounts.FreedLemmas.{scanned_choice}
+use Rattle.map_core.proofs.invariants.TidyCollect.{IsChoice}
+use Rattle.map_core.proofs.accounts.TimesLemmas.{length-filter}
+use Rattle.std.proofs.lemmas.Grind.{same_number_lists}
+use Rattle.map_core.proofs.steps.DrawWorld.{written_back}
+use Rattle.map_core.proofs.accounts.SpareLemmas.{slot-within}
+use Rattle.map_core.proofs.steps.ReaderWorld.{block_small}
+use Rattle.map_core.proofs.logs.SummaryPublish.{length-came_after}
+use Rattle.map_core.specs.declared.event.StepReply.TheVariants as says
 
 -- what is kept of the readers tells the same after one more entry
 readers_stay : (log : List Entry) (e : Entry) (standings : List Standing)
@@ -63,50 +60,7 @@ commit_does : (g : Setting) (b : Cells) (words : List ℕ) (log : List Entry) (h
 unfolding does keep
 commit_does g b words log hand done new_done scanned new_scanned standings c reply now is all within
     reply_is now_is =
-    let k : Base = record { setting = g; opening = b } in
-    let s : Story = story k log in
-    let w : State = state_of g b words log (Some c) done scanned standings in
-    let test : nat_lt done (steps_before k (blocks k log) c) ≡ false =
-    not_below done (steps_before k (blocks k log) c) all in
-    let said : Reply = reply_of s c scanned in
-    subst (λ (hd : Option Command). does (state_of g b words log hd done scanned standings) Keep
-    ≡ Some record {
-      state = state_of g b (set words 0 now)
-          (log ++ record { command = c; reply = reply } ∷ []) None new_done new_scanned standings;
-      answer = says.Committed reply;
-      stored = Some now_at;
-    }) (sym is)
-    (rw test
-    (by_reply g b words log new_done new_scanned standings c said reply now now_is
-    (sym reply_is) within))
-  where
-    not_below : (a b : ℕ) → b ≤ a → nat_lt a b ≡ false
-    not_below a b h = grind (arith, nat_tests)
-
-    by_reply : (g : Setting) (b : Cells) (words : List ℕ) (log : List Entry) (new_done : ℕ)
-        (new_scanned : List ℕ) (standings : List Standing) (c : Command) (said reply : Reply)
-        (now : ℕ)
-        → now ≡ now_of (told (story record { setting = g; opening = b } log) c reply) → said ≡ reply
-        → ((r : ℕ) (p : Standing) → slice_get standings r ≡ Some p → p.seen ≤ length log)
-        → ◌≡◌ {A = Option Outcome} (Some record {
-          state = record {
-            base = record { setting = g; opening = b };
-            words = set words 0
-                (now_of (told (story record { setting = g; opening = b } log) c said));
-            keeper = record { log = log ++ record { command = c; reply = said } ∷ []; hand = None };
-            readers = map (reader_of log) standings;
-          };
-          answer = says.Committed said;
-          stored = Some now_at;
-        }) (Some record {
-          state = state_of g b (set words 0 now)
-              (log ++ record { command = c; reply = reply } ∷ []) None new_done new_scanned
-              standings;
-          answer = says.Committed reply;
-          stored = Some now_at;
-        })
-    by_reply g b words log new_done new_scanned standings c said reply now now_is same within =
-        rw (same, now_is, readers_stay log record { command = c; reply = reply } standings within)
+    search (rules, readers_stay, nat_tests)
 
 -- what is kept is right after the last step, with what the new log says
 pub consistent_commit : (g : Setting) (b : Cells) (words : List ℕ) (log : List Entry)
@@ -151,9 +105,7 @@ consistent_commit g b words log hand done new_done steps new_steps scanned new_s
           let within = place.within in
           record {
             within = omega (arith, length-append log (e ∷ []));
-            version_is = place.version_is
-                ∙ ap (λ (l : List Entry). newest (story k l))
-                (sym (take-append-le p.seen log (e ∷ []) within));
+            version_is = search (rules, take-append-le);
             small = place.small;
           };
       summary =
@@ -171,26 +123,10 @@ consistent_commit g b words log hand done new_done steps new_steps scanned new_s
     }
 
 -- the last step is to be done of the current command
-pub last_known : (w v : State) (c : Command) (hand : Option Command) (done : ℕ) (scanned : List ℕ)
+pub last_known : {w v : State} {c : Command} (hand : Option Command) (done : ℕ) (scanned : List ℕ)
     → v ≡ w → v.keeper.hand ≡ hand_of hand done scanned → IsLastOf w c
     → (hand ≡ Some c) × (steps_before v.base (blocks_of_state v) c ≤ done)
-last_known w v c hand done scanned same is last =
-    known v c hand done scanned is (subst (λ (x : State). IsLastOf x c) (sym same) last)
-  where
-    known : (v : State) (c : Command) (hand : Option Command) (done : ℕ) (scanned : List ℕ)
-        → v.keeper.hand ≡ hand_of hand done scanned → IsLastOf v c
-        → (hand ≡ Some c) × (steps_before v.base (blocks_of_state v) c ≤ done)
-    known v c None done scanned is last = let there = last.there in absurd (cc)
-    known v c (Some d) done scanned is last =
-        let there : ◌≡◌ {A = Option Hand}
-        (Some record { command = d; done = done; scanned = scanned }) (Some last.hand) = sym is
-        ∙ last.there in
-        let same : record { command = d; done = done; scanned = scanned } ≡ last.hand =
-        that_hand record { command = d; done = done; scanned = scanned } last.hand there in
-        let command : d ≡ c = ap (λ (h : Hand). h.command) same ∙ last.command in
-        let count = ap (λ (h : Hand). h.done) same in
-        let all = last.all in
-        (ap (λ (e : Command). Some e) command, omega arith)
+last_known hand done scanned same is last = search (rules, that_hand)
 
 -- the last step of a command is enabled in a world whose parts are kept right and that has done all
 -- others
@@ -215,25 +151,6 @@ last_does g b words log hand done scanned standings steps u room c reply now con
     commit_does g b words log hand done done scanned scanned standings c reply now known.0 known.1
     (λ r p there. (consistent.standing r p there).within) reply_is now_is
 
--- the draft's own blocks find room in the free list
-pub room_back : (w : State) (hand : Option Command) (steps : ℕ) (standings : List Standing)
-    (u : Summary) (room : Room) → IsConsistent w hand steps standings u room
-    → length u.free + length (own_list u.own) ≤ room.free
-room_back w hand steps standings u room consistent =
-    let sum = (tidy_of w consistent.whole).shape.blocks in
-    let free = ap length consistent.summary.free_is in
-    let own = ap (λ (os : List (Option ℕ)). length (own_list os)) consistent.summary.own_is in
-    let roomy = consistent.roomy.free in
-    omega arith
-
--- the published bitmap is of the map's size
-pub published_of_map : (w : State) (hand : Option Command) (steps : ℕ) (standings : List Standing)
-    (u : Summary) (room : Room) → IsConsistent w hand steps standings u room
-    → IsOfMap w.base u.published
-published_of_map w hand steps standings u room consistent =
-    subst (λ (b : Cells). IsOfMap w.base b) (sym consistent.summary.published_is)
-    ((tidy_of w consistent.whole).published (newest (story_of w)) (omega arith))
-
 -- the reply of a revert by the ledger is its reply by the story
 pub reply_revert : (k : Base) (s : Story) (l : Ledger) (scanned : List ℕ) (reply : Reply)
     → IsLedger k s l → reply ≡ Reverted (l.places + 1) → reply ≡ reply_of s Revert scanned
@@ -244,33 +161,171 @@ reply_revert k s l scanned reply is said = said ∙ ap (λ (n : ℕ). Reverted (
 pub reply_checkpoint : (k : Base) (s : Story) (l : Ledger) (scanned : List ℕ) (reply : Reply)
     → IsLedger k s l → reply ≡ Checkpointed (l.places + 1) → reply ≡ reply_of s Checkpoint scanned
 unfolding reply_of
-reply_checkpoint k s l scanned reply is said =
-    said ∙ ap (λ (n : ℕ). Checkpointed (n + 1)) is.places_is
+reply_checkpoint k s l scanned reply is said = search rules
 
--- a place is left for the current command
-pub place_in_hand : (w : State) (hand : Option Command) (steps : ℕ) (standings : List Standing)
-    (u : Summary) (room : Room) → IsConsistent w hand steps standings u room
-    → (c : Command) (done : ℕ) (scanned : List ℕ)
-    → w.keeper.hand ≡ hand_of hand done scanned → hand ≡ Some c → HasPlace u.ledger
-place_in_hand w hand steps standings u room consistent c done scanned is found =
-    let there : w.keeper.hand ≡ Some record { command = c; done = done; scanned = scanned } = is
-    ∙ ap (λ (h : Option Command). hand_of h done scanned) found in
-    let inhand : InHand w.base (story_of w) (blocks_of_state w) w.words
-    record { command = c; done = done; scanned = scanned } =
-    subst (λ (h : Option Hand). IfSome h (InHand w.base (story_of w) (blocks_of_state w) w.words))
-    there consistent.whole.keeper.hand in
-    let left = place_left w.base.setting (story_of w) c inhand.accepted in
-    let places = consistent.summary.ledger_is.places_is in
-    omega arith
+-- what the ledger keeps after a scan is what the story keeps after it
+pub kept_collect : (k : Base) (s : Story) (l : Ledger) (scanned : List ℕ) (kept_now : Kept)
+    → IsLedger k s l
+    → kept_now ≡ record { slots = slots_after l.newest (map seen_in scanned) l.kept.slots }
+    → kept_now ≡ kept_scanned s scanned
+unfolding kept_scanned
+kept_collect k s l scanned kept_now is by = search rules
 
--- while there is a current command, the version after newest fits in 32 bits
-pub version_in_hand : (w : State) (hand : Option Command) (steps : ℕ) (standings : List Standing)
-    (u : Summary) (room : Room) → IsConsistent w hand steps standings u room
-    → (c : Command) (done : ℕ) (scanned : List ℕ)
-    → w.keeper.hand ≡ hand_of hand done scanned → hand ≡ Some c → newest (story_of w) + 1 < 2 ^ 32
-version_in_hand w hand steps standings u room consistent c done scanned is found =
-    let left = place_in_hand w hand steps standings u room consistent c done scanned is found in
-    let places = consistent.summary.ledger_is.places_is in
-    let counts = places-legal w.base w.keeper.log consistent.whole.keeper.legal in
-    let fewer = counts.1 in
-    omega arith
+-- the reply of a collect by the ledger is its reply by the story
+pub reply_collect : (k : Base) (s : Story) (l : Ledger) (scanned : List ℕ) (freed : ℕ)
+    (kept_now : Kept) (reply : Reply) → IsLedger k s l
+    → reply ≡ Collected (l.places + 1) (least_kept l.newest kept_now) freed kept_now
+    → kept_now ≡ kept_scanned s scanned
+    → freed ≡ inuse s - inuse (with_kept s kept_now) → reply ≡ reply_of s Collect scanned
+unfolding reply_of
+reply_collect k s l scanned freed kept_now reply is said kept_is count = search rules
+
+-- no more blocks stay than there were
+pub stay_few : (kept_now : Kept) (before after : List RetiredBlock)
+    → after ≡ filter (is_used (members kept_now.slots)) before → length after ≤ length before
+stay_few kept_now before after is = search (rules, length-filter)
+
+-- the list that was lent out has come back as a publish leaves it
+pub came_back : (newest : ℕ) (own_now own : List (Option ℕ)) (lent now came rest : List ℕ) (n : ℕ)
+    → now ≡ came_after newest own_now lent → own_now ≡ own → lent ≡ came → length came ≡ length own
+    → n ≡ length came
+    → take n (now ++ rest) ≡ came_after newest own came
+came_back newest own_now own lent now came rest n is own_is lent_is long size =
+    search (rules, written_back, length-came_after)
+
+-- the reply of a publish by the ledger is its reply by the story
+pub reply_publish : (k : Base) (s : Story) (l : Ledger) (scanned : List ℕ) (reply : Reply)
+    → IsLedger k s l → reply ≡ Published (l.places + 1) (l.newest + 1)
+    → reply ≡ reply_of s Publish scanned
+unfolding reply_of
+reply_publish k s l scanned reply is said = search rules
+
+-- this part of the words is newest's directory
+pub record IsNewestPart (w : State) (newest_now first count : ℕ) : Type 0 where
+  pub count_is : count ≡ tiles w.base
+  pub first_is : first ≡ map_at w.base (slot_of w.base (story_of w) newest_now) 0
+
+-- the part of the words that newest's directory takes is the same of a world under another name
+pub newest_part : (w v : State) (newest_now first count : ℕ) → v ≡ w → count ≡ tiles v.base
+    → first ≡ map_at w.base (slot_of w.base (story_of w) newest_now) 0
+    → IsNewestPart v newest_now first count
+newest_part w v newest_now first count same count_is first_is = search rules
+
+module _ {w : State} {hand : Option Command} {steps : ℕ} {standings : List Standing} {u : Summary}
+    {room : Room} (consistent : IsConsistent w hand steps standings u room) where
+  -- the draft's own blocks find room in the free list
+  pub room_back : length u.free + length (own_list u.own) ≤ room.free
+  room_back =
+      let sum = (tidy_of w consistent.whole).shape.blocks in
+      let free = ap length consistent.summary.free_is in
+      let own = ap (λ (os : List (Option ℕ)). length (own_list os)) consistent.summary.own_is in
+      let roomy = consistent.roomy.free in
+      omega arith
+
+  -- the published bitmap is of the map's size
+  pub published_of_map : IsOfMap w.base u.published
+  published_of_map =
+      subst (λ (b : Cells). IsOfMap w.base b) (sym consistent.summary.published_is) ((tidy_of w
+      consistent.whole).published (newest (story_of w)) (omega arith))
+
+  -- a place is left for the current command
+  pub place_in_hand : (c : Command) (done : ℕ) (scanned : List ℕ)
+      → w.keeper.hand ≡ hand_of hand done scanned → hand ≡ Some c → HasPlace u.ledger
+  place_in_hand c done scanned is found = search (rules, place_left)
+
+  -- a place is left for a command whose last step is next
+  pub place_of_last : {x : State} {c : Command} (done : ℕ) (scanned : List ℕ) → w ≡ x
+      → w.keeper.hand ≡ hand_of hand done scanned → IsLastOf x c → HasPlace u.ledger
+  place_of_last {x} {c} done scanned same is last =
+      place_in_hand c done scanned is (last_known hand done scanned same is last).0
+
+  -- while there is a current command, the version after newest fits in 32 bits
+  pub version_in_hand : (c : Command) (done : ℕ) (scanned : List ℕ)
+      → w.keeper.hand ≡ hand_of hand done scanned → hand ≡ Some c → newest (story_of w) + 1 < 2 ^ 32
+  version_in_hand c done scanned is found = search (rules, place_in_hand, places-legal)
+
+  -- the retired blocks find room in the free list, and are few
+  pub room_retired : (length u.free + length u.retired ≤ room.free) × (length u.retired ≤ 16384)
+  room_retired =
+      let sum = (tidy_of w consistent.whole).shape.blocks in
+      let free = ap length consistent.summary.free_is in
+      let retired = ap length consistent.summary.retired_is in
+      let roomy = consistent.roomy.free in
+      let few = consistent.whole.ready.few_blocks in
+      (omega arith, omega arith)
+
+  -- what a scan keeps is a choice
+  pub choice_collect : (scanned : List ℕ) (kept_now : Kept)
+      → kept_now ≡ kept_scanned (story_of w) scanned → IsChoice (story_of w) kept_now
+  choice_collect scanned kept_now is =
+      subst (λ (q : Kept). IsChoice (story_of w) q) (sym is) (scanned_choice w.base (story_of w)
+      (blocks_of_state w) (tidy_of w consistent.whole) scanned)
+
+  -- the blocks that the draft's own ones replace find room
+  pub room_replaced : length u.retired + length (own_list u.own) ≤ room.retired
+  room_replaced =
+      let sum = (tidy_of w consistent.whole).shape.blocks in
+      let retired = ap length consistent.summary.retired_is in
+      let own = ap (λ (os : List (Option ℕ)). length (own_list os)) consistent.summary.own_is in
+      let roomy = consistent.roomy.retired in
+      omega arith
+
+  -- there are at most 16384 positions
+  pub own_few_places : length u.own ≤ 16384
+  own_few_places = search (rules, tidy_of)
+
+  -- newest has a block for each position
+  pub directory_long : length (directory_of (blocks_of_state w) (newest (story_of w))) ≡ length
+      u.own
+  directory_long = search (rules, tidy_of)
+
+  -- it is kept of each position that has an own place with which version it has come
+  pub came_and_own : length u.came ≡ length u.own
+  came_and_own = search (rules, tidy_of)
+
+  -- the part of the words that newest's directory takes lies within the words
+  pub part_within : (first count : ℕ) → IsNewestPart w u.ledger.newest first count
+      → first + count ≤ length w.words
+  unfolding map_at word_count
+  part_within first count part =
+      let tidy = tidy_of w consistent.whole in
+      let newest_same = consistent.summary.ledger_is.newest_is in
+      let slot = slot-within w.base (story_of w) tidy.slots u.ledger.newest
+      (subst (λ (n : ℕ). IsKept (story_of w) n) (sym newest_same) tidy.slots.newest_in) in
+      let rows : tiles w.base * (slot_of w.base (story_of w) u.ledger.newest + 1)
+      ≤ tiles w.base * w.base.setting.versions = mul-le-mul_left (tiles w.base) (omega arith) in
+      let sized = consistent.whole.keeper.sized in
+      let count_is = part.count_is in
+      let first_is = part.first_is in
+      omega arith
+
+  -- the part of the words that newest's directory takes is that directory
+  pub part_is : (first count : ℕ) → IsNewestPart w u.ledger.newest first count → take
+      (first + count - first) (drop first w.words) ≡ directory_of (blocks_of_state w)
+      (newest (story_of w))
+  unfolding map_at
+  part_is first count part =
+      let tidy = tidy_of w consistent.whole in
+      let within = part_within first count part in
+      let newest_same = consistent.summary.ledger_is.newest_is in
+      let count_is = part.count_is in
+      let first_is = part.first_is in
+      let long = tidy.shape.directory (newest (story_of w)) (omega arith) in
+      let shows = consistent.whole.keeper.shows (newest (story_of w)) tidy.slots.newest_in in
+      let exact : first + count - first ≡ count = omega arith in
+      let size : length (take (first + count - first) (drop first w.words)) ≡ count =
+      length-take-le (first + count - first) (drop first w.words)
+      (omega (arith, length-drop first w.words)) ∙ exact in
+      same_number_lists _ _ (omega arith) (λ p h.
+      let place : first + p ≡ map_at w.base (slot_of w.base (story_of w) u.ledger.newest) p =
+      omega arith in
+      get_or-take (first + count - first) (drop first w.words) p 0 (omega arith)
+      ∙ (get_or-drop first w.words p 0
+      ∙ (ap (λ (n : ℕ). get_or w.words n 0) place
+      ∙ (ap (λ (n : ℕ). get_or w.words (map_at w.base (slot_of w.base (story_of w) n) p) 0)
+      newest_same ∙ shows.mapped p (omega arith)))))
+
+  -- each of its words is the number of a block
+  pub part_small : (p : ℕ) → p < length u.own
+      → get_or (directory_of (blocks_of_state w) (newest (story_of w))) p 0 < 16384
+  part_small p h = search (rules, tidy_of, block_small)

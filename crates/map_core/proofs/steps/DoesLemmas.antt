@@ -1,28 +1,12 @@
 -- Whatever an event does keeps what holds of a world, and stores in no live block.
-use Rattle.std.proofs.Common.{◌≡◌, ℕ, ◌<◌, ◌≤◌, ◌&&◌, Bool, true, false, if◌then◌else◌, refl, subst}
-use Rattle.std.proofs.Common.{arith}
-use Rattle.std.specs.Prelude.{Option, Some, None, slice_get, nat_lt, is_some}
-use Rattle.std.proofs.lemmas.Bool.{cases_lt}
-use Rattle.std.proofs.lemmas.Bool.Decides.{nat_tests}
-use mathlib.Core.Logic.{inl, inr}
-use Rattle.metric.specs.declared.refusal.Refusal.{Refusal}
-use Rattle.map_core.specs.declared.command.Command.{Command}
-use Rattle.map_core.specs.declared.command.Command.TheVariants.{Paint, Stamp, Publish, Revert}
-use Rattle.map_core.specs.declared.command.Command.TheVariants.{Collect, Checkpoint}
-use Rattle.map_core.specs.declared.event.Event.{Event}
-use Rattle.map_core.specs.declared.event.Event.TheVariants.{Announce, Load, LookMap, LookTile}
-use Rattle.map_core.specs.declared.event.Event.TheVariants.{Leave, Confirm, Order, Keep}
-use Rattle.map_core.specs.declared.event.StepReply.{StepReply}
-use Rattle.map_core.specs.declared.kept.Seen.{Seen}
-use Rattle.map_core.specs.declared.kept.Seen.TheVariants.{From, Exact}
-use Rattle.map_core.specs.Legal.{refused}
-use Rattle.map_core.specs.Blocks.{is_mapped}
-use Rattle.map_core.specs.Words.{tiles}
-use Rattle.map_core.specs.Views.{Hand, Reader, State, story_of, blocks_of_state}
-use Rattle.map_core.specs.Steps.{Outcome, announce, load, look_map, look_tile, leave, to_confirm}
-use Rattle.map_core.specs.Steps.{confirm_held, confirm, hold_of, order, ordered, keep, steps_before}
-use Rattle.map_core.specs.Steps.{step_before, commit, does}
-use Rattle.map_core.specs.Sound.{InHand, IsWhole}
+use Rattle.map_core.proofs.Names.{rules, ◌≡◌, ℕ, ◌<◌, Bool, true, false, if◌then◌else◌, refl, subst}
+use Rattle.map_core.proofs.Names.{Option, Some, None, slice_get, nat_lt, is_some, cases_lt, Refusal}
+use Rattle.map_core.proofs.Names.{nat_tests, Command, Event, Announce, Load, LookMap, LookTile}
+use Rattle.map_core.proofs.Names.{Leave, Confirm, Order, Keep, StepReply, Seen, From, Exact, Hand}
+use Rattle.map_core.proofs.Names.{refused, Reader, State, story_of, blocks_of_state, Outcome, load}
+use Rattle.map_core.proofs.Names.{announce, look_map, look_tile, leave, to_confirm, confirm_held}
+use Rattle.map_core.proofs.Names.{confirm, order, ordered, keep, steps_before, step_before, commit}
+use Rattle.map_core.proofs.Names.{does, IsWhole}
 use Rattle.map_core.proofs.steps.StepLemmas.{Keeps, nothing_stored, pin_stored, number_inside}
 use Rattle.map_core.proofs.steps.StepLemmas.{in_hand, keeps-announce, keeps-confirm, keeps-leave}
 use Rattle.map_core.proofs.steps.StepLemmas.{keeps-load, keeps-order, keeps-write, keeps-scan}
@@ -31,19 +15,16 @@ use Rattle.map_core.proofs.steps.StepLemmas.{keeps-commit}
 -- what is done unless a test passes is done because the test fails
 pub unless_true : (test : Bool) (a o : Outcome) → (if test then None else Some a) ≡ Some o
     → (test ≡ false) × (a ≡ o)
-unless_true true a o is = absurd (cc)
-unless_true false a o is = (refl, cc)
+unless_true test a o is = search rules
 
 -- what is done where a test passes is done because it passes
 pub where_true : (test : Bool) (a o : Outcome) → (if test then Some a else None) ≡ Some o
     → (test ≡ true) × (a ≡ o)
-where_true true a o is = (refl, cc)
-where_true false a o is = absurd (cc)
+where_true test a o is = search rules
 
 -- nothing is there where there isn't something
 none_there : {A : Type 0} (o : Option A) → is_some o ≡ false → o ≡ None
-none_there None is = refl
-none_there (Some a) is = absurd (cc)
+none_there o is = search rules
 
 -- an announcement, where it is enabled, keeps what holds of a world
 does-announce : (w : State) (r : ℕ) (found : Option Reader) (o : Outcome) → IsWhole w
@@ -62,13 +43,7 @@ does-announce w r (Some x) o whole there is =
 does-load : (w : State) (r : ℕ) (found : Option Reader) (o : Outcome) → IsWhole w
     → slice_get w.readers r ≡ found → load w r found ≡ Some o → Keeps w o
 unfolding load
-does-load w r None o whole there is = absurd (cc)
-does-load w r (Some x) o whole there is =
-    subst (λ (a : Outcome). Keeps w a) (same_outcome _ o is)
-    record { whole = keeps-load w r x whole there; spares = nothing_stored w }
-  where
-    same_outcome : (a o : Outcome) → ◌≡◌ {A = Option Outcome} (Some a) (Some o) → a ≡ o
-    same_outcome a o is = cc
+does-load w r found o whole there is = search (rules, keeps-load, nothing_stored)
 
 -- a leave, where it is enabled, keeps what holds of a world
 does-leave : (w : State) (r : ℕ) (found : Option Reader) (o : Outcome) → IsWhole w
@@ -120,85 +95,38 @@ keeps-same w answer whole = record { whole = whole; spares = nothing_stored w }
 does-look_map : (w : State) (p : ℕ) (held : Option ℕ) (o : Outcome) → IsWhole w
     → look_map w p held ≡ Some o → Keeps w o
 unfolding look_map
-does-look_map w p None o whole is = absurd (cc)
-does-look_map w p (Some v) o whole is =
-    let parts = where_true (nat_lt p (tiles w.base)) _ o is in
-    subst (λ (a : Outcome). Keeps w a) parts.1 (keeps-same w _ whole)
+does-look_map w p held o whole is = search (rules, where_true, keeps-same)
 
 -- a look at a row of a block, where it is enabled, keeps what holds of a world
 does-look_tile : (w : State) (b i : ℕ) (held : Option ℕ) (o : Outcome) → IsWhole w
     → look_tile w b i held ≡ Some o → Keeps w o
 unfolding look_tile
-does-look_tile w b i None o whole is = absurd (cc)
-does-look_tile w b i (Some v) o whole is =
-    let parts = where_true (is_mapped (blocks_of_state w) v b && nat_lt i 64) _ o is in
-    subst (λ (a : Outcome). Keeps w a) parts.1 (keeps-same w _ whole)
+does-look_tile w b i held o whole is = search (rules, where_true, keeps-same)
 
 -- an order that is answered, refused or not, keeps what holds of a world
 keeps-ordered : (w : State) (c : Command) (refusal : Option Refusal) → IsWhole w
     → refused w.base.setting (story_of w) c ≡ refusal → Keeps w (ordered w c refusal)
-keeps-ordered w c None whole is =
-    record { whole = keeps-order w c whole is; spares = nothing_stored w }
-keeps-ordered w c (Some refusal) whole is = keeps-same w _ whole
+keeps-ordered w c refusal whole is = search (rules, keeps-order, nothing_stored, keeps-same)
 
 -- an order, where it is enabled, keeps what holds of a world
 does-order : (w : State) (c : Command) (hand : Option Hand) (o : Outcome) → IsWhole w
     → order w c hand ≡ Some o → Keeps w o
 unfolding order
-does-order w c (Some h) o whole is = absurd (cc)
-does-order w c None o whole is =
-    subst (λ (a : Outcome). Keeps w a) (same_outcome _ o is)
-    (keeps-ordered w c (refused w.base.setting (story_of w) c) whole refl)
-  where
-    same_outcome : (a o : Outcome) → ◌≡◌ {A = Option Outcome} (Some a) (Some o) → a ≡ o
-    same_outcome a o is = cc
+does-order w c hand o whole is = search (rules, keeps-ordered)
 
 -- a step of the current command that isn't its last keeps what holds of a world
 keeps-step : (w : State) (h : Hand) (c : Command) → IsWhole (in_hand w (Some h)) → h.command ≡ c
     → h.done < steps_before w.base (blocks_of_state w) c
     → Keeps (in_hand w (Some h)) (step_before w h c)
 unfolding steps_before
-keeps-step w h (Paint r black) whole is more = absurd (omega arith)
-keeps-step w h (Stamp x y b) whole is more = absurd (omega arith)
-keeps-step w h Publish whole is more = keeps-write w h whole is more
-keeps-step w h Revert whole is more = absurd (omega arith)
-keeps-step w h Collect whole is more = keeps-scan w h whole is more
-keeps-step w h Checkpoint whole is more = absurd (omega arith)
+keeps-step w h c whole is more = search (rules, keeps-write, keeps-scan)
 
 -- the next step of the current command keeps what holds of a world
 keeps-next : (w : State) (h : Hand) (o : Outcome) → IsWhole (in_hand w (Some h))
     → (if nat_lt h.done (steps_before w.base (blocks_of_state w) h.command)
     then Some (step_before w h h.command) else Some (commit w h)) ≡ Some o
     → Keeps (in_hand w (Some h)) o
-keeps-next w h o whole is =
-    elim (cases_lt h.done (steps_before w.base (blocks_of_state w) h.command)) [
-      | inl more ↦ subst (λ (a : Outcome). Keeps (in_hand w (Some h)) a)
-          (taken (nat_lt h.done (steps_before w.base (blocks_of_state w) h.command)) _ _ o
-          (below _ _ more) is) (keeps-step w h h.command whole refl more)
-      | inr last ↦
-          let inhand : InHand w.base (story_of w) (blocks_of_state w) w.words h =
-          whole.keeper.hand in
-          let within = inhand.within in
-          subst (λ (a : Outcome). Keeps (in_hand w (Some h)) a)
-          (left (nat_lt h.done (steps_before w.base (blocks_of_state w) h.command)) _ _ o
-          (not_below _ _ last) is) (keeps-commit w h whole (omega arith))
-    ]
-  where
-    below : (a b : ℕ) → a < b → nat_lt a b ≡ true
-    below a b h = grind (arith, nat_tests)
-
-    not_below : (a b : ℕ) → b ≤ a → nat_lt a b ≡ false
-    not_below a b h = grind (arith, nat_tests)
-
-    taken : (test : Bool) (a b o : Outcome) → test ≡ true
-        → (if test then Some a else Some b) ≡ Some o → a ≡ o
-    taken true a b o is h = cc
-    taken false a b o is h = absurd (cc)
-
-    left : (test : Bool) (a b o : Outcome) → test ≡ false
-        → (if test then Some a else Some b) ≡ Some o → b ≡ o
-    left true a b o is h = absurd (cc)
-    left false a b o is h = cc
+keeps-next w h o whole is = search (rules, cases_lt, in_hand, keeps-step, keeps-commit, nat_tests)
 
 -- a step of the keeper, where it is enabled, keeps what holds of a world
 does-keep : (w : State) (hand : Option Hand) (o : Outcome) → IsWhole (in_hand w hand)
@@ -212,10 +140,8 @@ pub does-keeps : (w : State) (e : Event) (o : Outcome) → IsWhole w → does w 
 unfolding does
 does-keeps w (Announce r) o whole is = does-announce w r (slice_get w.readers r) o whole refl is
 does-keeps w (Load r) o whole is = does-load w r (slice_get w.readers r) o whole refl is
-does-keeps w (LookMap r p) o whole is =
-    does-look_map w p (hold_of (slice_get w.readers r)) o whole is
-does-keeps w (LookTile r b i) o whole is =
-    does-look_tile w b i (hold_of (slice_get w.readers r)) o whole is
+does-keeps w (LookMap r p) o whole is = search (rules, does-look_map)
+does-keeps w (LookTile r b i) o whole is = search (rules, does-look_tile)
 does-keeps w (Leave r) o whole is = does-leave w r (slice_get w.readers r) o whole refl is
 does-keeps w (Confirm r) o whole is = does-confirm w r (slice_get w.readers r) o whole refl is
 does-keeps w (Order c) o whole is = does-order w c w.keeper.hand o whole is

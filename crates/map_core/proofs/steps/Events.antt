@@ -1,18 +1,13 @@
 -- What an event of the core does, where it is enabled: each by its equation.
-use Rattle.map_core.specs.Legal.{refused}
-use Rattle.map_core.specs.declared.command.Command.{Command}
-use Rattle.std.proofs.Common.{◌≡◌, ℕ, ◌<◌, true, false, refl, ap, ◌∙◌, arith, ◌+◌, []}
-use Rattle.std.specs.Prelude.{Some, None, slice_get, nat_lt, is_some, slice_index}
-use Rattle.std.proofs.lemmas.Bool.Decides.{nat_tests}
-use Rattle.map_core.specs.declared.event.Event.TheVariants.{Announce, Leave, Confirm, Keep, Load}
-use Rattle.map_core.specs.declared.event.Event.TheVariants.{Order}
+use Rattle.map_core.proofs.Names.{rules, refused, Command, ◌≡◌, ℕ, ◌<◌, true, refl, ap, ◌∙◌, ◌+◌}
+use Rattle.map_core.proofs.Names.{[], Some, None, slice_get, is_some, Announce, Leave, Confirm}
+use Rattle.map_core.proofs.Names.{Keep, Load, Order, From, Exact, pin_at, pin_word, now_at, Hand}
+use Rattle.map_core.proofs.Names.{place_told, version_told, Reader, State, blocks_of_state, confirm}
+use Rattle.map_core.proofs.Names.{newest_seen, story_of, with_word_stored, with_reader, announce}
+use Rattle.map_core.proofs.Names.{to_confirm, confirm_held, leave, keep, steps_before, step_before}
+use Rattle.map_core.proofs.Names.{commit, does, load, order, ordered, next_hold}
+use Rattle.std.specs.Prelude.{slice_index}
 use Rattle.map_core.specs.declared.event.StepReply.TheVariants as says
-use Rattle.map_core.specs.declared.kept.Seen.TheVariants.{From, Exact}
-use Rattle.map_core.specs.Words.{pin_at, pin_word, now_at, place_told, version_told}
-use Rattle.map_core.specs.Views.{Hand, Reader, State, blocks_of_state, newest_seen, story_of}
-use Rattle.map_core.specs.Steps.{with_word_stored, with_reader, announce, to_confirm, confirm_held}
-use Rattle.map_core.specs.Steps.{confirm, leave, keep, steps_before, step_before, commit, does}
-use Rattle.map_core.specs.Steps.{load, order, ordered, next_hold}
 
 -- an announcement stores the newest version that the reader has seen, with those after it
 pub does_announce : (w : State) (r : ℕ) (x : Reader) → slice_get w.readers r ≡ Some x
@@ -58,26 +53,13 @@ does_leave w r x there some = ap (leave w r) there ∙ rw some refl
 pub does_step : (w : State) (h : Hand) (c : Command) → w.keeper.hand ≡ Some h → h.command ≡ c
     → h.done < steps_before w.base (blocks_of_state w) c → does w Keep ≡ Some (step_before w h c)
 unfolding does keep
-does_step w h c is command more =
-    let test : nat_lt h.done (steps_before w.base (blocks_of_state w) h.command) ≡ true =
-    ap (λ d. nat_lt h.done (steps_before w.base (blocks_of_state w) d)) command
-    ∙ below _ _ more in
-    ap (keep w) is ∙ rw test (ap (λ d. Some (step_before w h d)) command)
-  where
-    below : (n m : ℕ) → n < m → nat_lt n m ≡ true
-    below n m h = grind (arith, nat_tests)
+does_step w h c is command more = search rules
 
 -- a step of a command that has done all others commits it
 pub does_commit : (w : State) (h : Hand) → w.keeper.hand ≡ Some h
     → h.done ≡ steps_before w.base (blocks_of_state w) h.command → does w Keep ≡ Some (commit w h)
 unfolding does keep
-does_commit w h is all =
-    let test : nat_lt h.done (steps_before w.base (blocks_of_state w) h.command) ≡ false =
-    not_below _ _ all in
-    ap (keep w) is ∙ rw test refl
-  where
-    not_below : (n m : ℕ) → n ≡ m → nat_lt n m ≡ false
-    not_below n m is = grind (arith, nat_tests)
+does_commit w h is all = search rules
 
 -- a load shows a reader the whole log, with the place and the version that NOW tells
 pub does_load : (w : State) (r : ℕ) (x : Reader) → slice_get w.readers r ≡ Some x

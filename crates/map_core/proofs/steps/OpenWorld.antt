@@ -1,30 +1,17 @@
 -- A world that is opened, by its parts.
-use Rattle.std.proofs.Common.{◌≡◌, ℕ, zero, suc, ◌+◌, ◌*◌, ◌-◌, ◌<◌, ◌≤◌, List, [], ◌∷◌, length}
-use Rattle.std.proofs.Common.{map, get_or, replicate, refl, ap, subst, sym, ◌∙◌, lit<, arith}
-use Rattle.std.specs.Prelude.{Option, Some, None, false, slice_get}
-use Rattle.std.specs.List.{range_with_len}
-use Rattle.std.proofs.lemmas.Bool.Decides.{nat_tests}
-use Rattle.std.proofs.lemmas.List.{length-replicate, get_or-replicate}
+use Rattle.map_core.proofs.Names.{rules, ◌≡◌, ℕ, zero, suc, ◌-◌, ◌<◌, ◌≤◌, List, [], ◌∷◌, length}
+use Rattle.map_core.proofs.Names.{map, replicate, refl, ap, subst, sym, ◌∙◌, arith, Some, None}
+use Rattle.map_core.proofs.Names.{false, slice_get, range_with_len, length-replicate, Cells, Entry}
+use Rattle.map_core.proofs.Names.{get_or-replicate, IsBitmap, cells_where, tile_count, Base, Ledger}
+use Rattle.map_core.proofs.Names.{IsBitmap-cells_where, Standing, Setting, bad_field, tiles, opened}
+use Rattle.map_core.proofs.Names.{newest, bitmap_of, IsKept, first_kept, IsLedger, now_of, pin_at}
+use Rattle.map_core.proofs.Names.{opened_blocks, directory_of, pin_word, slot_of, Reader, State}
+use Rattle.map_core.proofs.Names.{story, blocks, IsReady, IsOfMap, Shows, KeeperSound, Room}
+use Rattle.map_core.proofs.Names.{ReaderSound, IsWhole, AreOpeningWords, Summary, reader_of}
+use Rattle.map_core.proofs.Names.{state_of, IsStanding, IsConsistent}
+use Rattle.std.proofs.Common.{lit<}
 use Rattle.std.proofs.lemmas.List.FromFn.{get_or-range_with_len}
-use Rattle.bits.specs.Cells.{Cells, IsBitmap, cells_where}
-use Rattle.bits.specs.Tiles.{tile_count}
-use Rattle.bits.proofs.CellsLemmas.{IsBitmap-cells_where}
-use Rattle.map_core.specs.declared.command.Entry.{Entry}
-use Rattle.map_core.specs.declared.ledger.Ledger.{Ledger}
-use Rattle.map_core.specs.declared.reader.Standing.{Standing}
-use Rattle.map_core.specs.declared.setting.Setting.{Setting}
-use Rattle.map_core.specs.Setting.{bad_field}
-use Rattle.map_core.specs.Story.{opened, newest, bitmap_of, IsKept}
-use Rattle.map_core.specs.Kept.{first_kept}
-use Rattle.map_core.specs.Ledger.{IsLedger}
-use Rattle.map_core.specs.Blocks.{opened_blocks, directory_of}
-use Rattle.map_core.specs.Words.{Base, tiles, now_of, pin_at, pin_word, tile_at, slot_of}
-use Rattle.map_core.specs.Views.{Reader, State, story, blocks}
-use Rattle.map_core.specs.Tidy.{IsReady, IsOfMap}
-use Rattle.map_core.specs.Sound.{Shows, KeeperSound, ReaderSound, IsWhole}
-use Rattle.map_core.specs.Runs.{AreOpeningWords, IsOpened, fresh_reader}
-use Rattle.map_core.specs.Summary.{Summary}
-use Rattle.map_core.specs.Consistent.{reader_of, state_of, IsStanding, Room, IsConsistent}
+use Rattle.map_core.specs.Runs.{IsOpened, fresh_reader}
 use Rattle.map_core.proofs.invariants.SafeLemmas.{IsSafe-whole}
 use Rattle.map_core.proofs.invariants.TidyOpened.{opened_at}
 
@@ -40,43 +27,18 @@ pub record IsFitting (tiles : ℕ) (g : Setting) : Type 0 where
 -- a setting none of whose fields is bad is within its limits
 pub bad_field-none : (tiles : ℕ) (g : Setting) → bad_field tiles g ≡ None → IsFitting tiles g
 unfolding bad_field
-bad_field-none tiles g fits = record {
-  blocks = grind (arith, nat_tests);
-  few_blocks = grind (arith, nat_tests);
-  versions = grind (arith, nat_tests);
-  few_versions = grind (arith, nat_tests);
-  few_sessions = grind (arith, nat_tests);
-  log = grind (arith, nat_tests);
-}
+bad_field-none tiles g fits = search rules
 
 -- a world can be opened with a setting that fits the bitmap
 pub fits_ready : (g : Setting) (b : Cells) → IsBitmap b → bad_field (tile_count b) g ≡ None
     → IsReady record { setting = g; opening = b }
-fits_ready g b bitmap fits =
-    let within = bad_field-none (tile_count b) g fits in
-    record {
-      bitmap = bitmap;
-      blocks = within.blocks;
-      few_blocks = within.few_blocks;
-      versions = within.versions;
-      few_versions = within.few_versions;
-      few_sessions = within.few_sessions;
-      log = within.log;
-    }
+fits_ready g b bitmap fits = search (rules, bad_field-none)
 
 -- the words show version 0
 Shows-opening : (k : Base) (words : List ℕ) → AreOpeningWords k words
     → Shows k (story k []) (blocks k []) words 0
 unfolding story blocks opened opened_blocks bitmap_of directory_of slot_of
-Shows-opening k words opening = record {
-  mapped = λ p h.
-      opening.directory p h ∙ sym (block_at k p h);
-  rows = λ p i hp hi. ap (λ (b : ℕ). get_or words (tile_at k b i) 0) (block_at k p hp)
-      ∙ opening.rows p i hp hi;
-}
-  where
-    block_at : (k : Base) (p : ℕ) → p < tiles k → get_or (range_with_len 0 (tiles k)) p 0 ≡ p
-    block_at k p h = let at = get_or-range_with_len 0 (tiles k) p 0 h in omega arith
+Shows-opening k words opening = search (rules, get_or-range_with_len)
 
 -- before a world's first event its words and its keeper are sound together
 KeeperSound-opening : (k : Base) (words : List ℕ) → AreOpeningWords k words
@@ -97,25 +59,14 @@ ReaderSound-opening : (k : Base) (words : List ℕ) → AreOpeningWords k words 
     → r < k.setting.sessions
     → ReaderSound k (story k []) words record { log = []; hand = None } r fresh_reader
 unfolding pin_at pin_word
-ReaderSound-opening k words opening r h = record {
-  seen = record { rest = []; whole = refl };
-  word = opening.quiet (8 + 8 * r) (omega arith);
-  announced = λ a is. absurd (cc);
-  exact = λ v is. absurd (cc);
-  holds = λ v is. absurd (cc);
-  passed = tt;
-}
+ReaderSound-opening k words opening r h = search rules
 
 -- a list that has one value at all places has that value at each place, and no more places
 slice_get-replicate : {A : Type 0} (n i : ℕ) (x y : A) → slice_get (replicate n x) i ≡ Some y
     → (y ≡ x) × (i < n)
 slice_get-replicate zero i x y is = absurd (cc)
-slice_get-replicate (suc n) zero x y is = (same_value x y is, omega arith)
-  where
-    same_value : {A : Type 0} (x y : A) → ◌≡◌ {A = Option A} (Some x) (Some y) → y ≡ x
-    same_value x y is = cc
-slice_get-replicate (suc n) (suc i) x y is = let later = slice_get-replicate n i x y is in
-    (later.0, omega (arith, later.1))
+slice_get-replicate (suc n) zero x y is = search rules
+slice_get-replicate (suc n) (suc i) x y is = search (rules, slice_get-replicate n i x y is)
 
 -- a world that was opened has had no event
 abbrev pub opened_state : Base → List ℕ → State
@@ -130,26 +81,13 @@ opened_state k words =
 -- a world that is made of opening words is whole
 pub IsWhole-opening : (k : Base) (words : List ℕ) → IsReady k → AreOpeningWords k words
     → IsWhole (opened_state k words)
-IsWhole-opening k words ready opening = record {
-  ready = ready;
-  keeper = KeeperSound-opening k words opening;
-  readers = length-replicate k.setting.sessions fresh_reader;
-  reader = λ r x there.
-      let fresh = slice_get-replicate k.setting.sessions r fresh_reader x there in
-      subst (λ (y : Reader). ReaderSound k (story k []) words record { log = []; hand = None } r y)
-      (sym fresh.0) (ReaderSound-opening k words opening r fresh.1);
-}
+IsWhole-opening k words ready opening =
+    search (rules, KeeperSound-opening, length-replicate, slice_get-replicate, ReaderSound-opening)
 
 -- a world that is made of opening words is opened
 IsOpened-opening : (k : Base) (words : List ℕ) → IsReady k → AreOpeningWords k words
     → IsOpened k (opened_state k words)
-IsOpened-opening k words ready opening = record {
-  base_is = refl;
-  keeper_is = refl;
-  readers_are = refl;
-  words = opening;
-  safe = IsSafe-whole (opened_state k words) (IsWhole-opening k words ready opening);
-}
+IsOpened-opening k words ready opening = search (rules, IsSafe-whole, IsWhole-opening)
 
 -- a world keeps this of a reader before its first event
 abbrev pub fresh_standing : Standing
@@ -196,19 +134,7 @@ state-new : (g : Setting) (b opening : Cells) (words : List ℕ) (log : List Ent
     → IsNew g b opening words log standings u room
     → opened_state record { setting = g; opening = b } words
     ≡ state_of u.ledger.setting opening words log None 0 scanned standings
-state-new g b opening words log scanned standings u room new =
-    let readers : replicate g.sessions fresh_reader ≡ map (reader_of []) standings =
-    sym (ap (map (reader_of [])) new.standings_are ∙ map-fresh g.sessions) in
-    ap (λ (xs : List Reader). record {
-      base = record { setting = g; opening = b };
-      words = words;
-      keeper = record { log = []; hand = None };
-      readers = xs;
-    }) readers
-    ∙ (ap (λ (c : Cells). state_of g c words [] None 0 scanned standings) (sym new.opening_is)
-    ∙ (ap (λ (l : List Entry). state_of g opening words l None 0 scanned standings) (sym new.log_is)
-    ∙ ap (λ (l : Ledger). state_of l.setting opening words log None 0 scanned standings)
-    (sym new.ledger_is)))
+state-new g b opening words log scanned standings u room new = search (rules, map-fresh)
 
 -- what is kept besides the words of a world is what the empty log says
 consistent_opened : (g : Setting) (b opening : Cells) (words : List ℕ) (log : List Entry)
@@ -241,8 +167,7 @@ consistent_opened g b opening words log standings u room new =
         draft_is = new.draft_is;
         published_is = new.published_is;
         came_long = ap length new.came_is ∙ length-replicate (tile_count b) 0;
-        came_is = λ p h. ap (λ (ns : List ℕ). get_or ns p 0) new.came_is
-            ∙ get_or-replicate (tile_count b) p 0 0 h;
+        came_is = λ p h. search (rules, get_or-replicate);
         own_is = new.own_is;
         free_is = new.free_is;
         retired_is = new.retired_is;
@@ -256,8 +181,7 @@ consistent_opened g b opening words log standings u room new =
             (sym new.scratch_is) record {
               width_is = refl;
               height_is = refl;
-              bitmap = IsBitmap-cells_where b.width b.height
-                  (λ x y. false) new.bitmap.width_is new.bitmap.height_is;
+              bitmap = search (rules, IsBitmap-cells_where);
             };
       };
     }

@@ -1,29 +1,16 @@
 -- An order, on a world by its parts.
-use Rattle.std.proofs.Common.{◌≡◌, ℕ, ◌+◌, ◌-◌, ◌*◌, ◌<◌, ◌≤◌, true, false, List, [], length, refl}
-use Rattle.std.proofs.Common.{ap, subst, sym, ◌∙◌, arith}
-use Rattle.std.specs.Prelude.{Option, Some, None, Ok, is_some}
-use mathlib.Core.Logic.{inr}
-use Rattle.metric.specs.declared.refusal.Refusal.{Refusal}
-use Rattle.metric.specs.declared.refusal.Refusal.TheVariants.{Memory}
-use Rattle.map_core.specs.declared.command.Command.{Command}
-use Rattle.map_core.specs.declared.command.Command.TheVariants.{Paint, Stamp, Publish, Revert}
-use Rattle.map_core.specs.declared.command.Command.TheVariants.{Collect, Checkpoint}
-use Rattle.map_core.specs.declared.event.Event.TheVariants.{Order}
-use Rattle.map_core.specs.declared.event.StepReply.TheVariants as says
-use Rattle.map_core.specs.declared.reader.Standing.{Standing}
-use Rattle.map_core.specs.Legal.{refused}
-use Rattle.map_core.specs.Blocks.{own_list}
-use Rattle.map_core.specs.Words.{tiles}
-use Rattle.map_core.specs.Views.{Hand, State, story_of, blocks_of_state}
-use Rattle.map_core.specs.Steps.{does, order, ordered, steps_before}
-use Rattle.map_core.specs.Runs.{SafeStep}
-use Rattle.map_core.specs.Sound.{IsWhole}
-use Rattle.map_core.specs.Summary.{Summary}
-use Rattle.map_core.specs.Consistent.{hand_of, Room, IsConsistent}
+use Rattle.map_core.proofs.Names.{rules, ◌≡◌, ℕ, ◌+◌, ◌-◌, ◌*◌, ◌<◌, ◌≤◌, true, false, List, [], ap}
+use Rattle.map_core.proofs.Names.{length, subst, sym, arith, Option, Some, None, Ok, is_some, Paint}
+use Rattle.map_core.proofs.Names.{Refusal, Memory, Command, Stamp, Publish, Revert, Collect, Order}
+use Rattle.map_core.proofs.Names.{Checkpoint, Standing, refused, own_list, tiles, Hand, State, does}
+use Rattle.map_core.proofs.Names.{story_of, blocks_of_state, order, steps_before, SafeStep, IsWhole}
+use Rattle.map_core.proofs.Names.{Summary, hand_of, Room, IsConsistent, ◌^◌}
 use Rattle.map_core.proofs.steps.WorldLemmas.{safe_done}
 use Rattle.map_core.proofs.invariants.SafeLemmas.{IsSafe-whole}
 use Rattle.map_core.proofs.invariants.SeenLemmas.{seen_stays}
 use Rattle.map_core.proofs.steps.StepLemmas.{nothing_stored, keeps-order, in_hand, tidy_of}
+use Rattle.map_core.specs.Steps.{steps_left}
+use Rattle.map_core.specs.declared.event.StepReply.TheVariants as says
 
 -- an order isn't enabled while there is a current command
 order_again : (w : State) (c : Command) (h : Hand) → w.keeper.hand ≡ Some h
@@ -36,8 +23,7 @@ pub order_refused : (w : State) (c : Command) (refusal : Refusal) → w.keeper.h
     → Some refusal ≡ refused w.base.setting (story_of w) c
     → does w (Order c) ≡ Some record { state = w; answer = says.Refused refusal; stored = None }
 unfolding does order
-order_refused w c refusal free is =
-    ap (order w c) free ∙ ap (λ (o : Option Refusal). Some (ordered w c o)) (sym is)
+order_refused w c refusal free is = search rules
 
 -- an order that is accepted makes the command current, and answers how many steps it has
 order_accepted : (w : State) (c : Command) (steps : ℕ) → w.keeper.hand ≡ None
@@ -50,47 +36,13 @@ order_accepted : (w : State) (c : Command) (steps : ℕ) → w.keeper.hand ≡ N
       stored = None;
     }
 unfolding does order
-order_accepted w c steps free is count =
-    ap (order w c) free ∙ (ap (λ (o : Option Refusal). Some (ordered w c o)) (sym is)
-    ∙ ap (λ (n : ℕ). Some record {
-      state = in_hand w
-          (Some record { command = c; done = 0; scanned = [] });
-      answer = says.Ordered (n + 1);
-      stored = None;
-    }) (sym count))
+order_accepted w c steps free is count = search (rules, in_hand)
 
 -- an order that finds no memory is refused, and changes nothing
 pub order_starved : (w : State) (c : Command) → IsWhole w → w.keeper.hand ≡ None
     → None ≡ refused w.base.setting (story_of w) c
     → SafeStep w (Order c) (Ok (says.Refused Memory)) w
-order_starved w c whole free is = record {
-  stored = None;
-  step = inr record { order = (free, sym is); answer_is = refl; stored_is = refl; same = refl };
-  safe = IsSafe-whole w whole;
-  spares = nothing_stored w;
-  grows = seen_stays w w refl;
-  sees = tt;
-}
-
--- what is kept tells how many steps a publish has before its last
-pub publish_steps : (w : State) (hand : Option Command) (steps : ℕ) (standings : List Standing)
-    (u : Summary) (room : Room) → IsConsistent w hand steps standings u room → (n t : ℕ)
-    → n ≡ length (own_list u.own) → t ≡ tiles w.base
-    → 64 * n + t ≡ steps_before w.base (blocks_of_state w) Publish
-unfolding steps_before
-publish_steps w hand steps standings u room consistent n t n_is t_is =
-    ap (λ (m : ℕ). 64 * m + t) (n_is ∙ ap (λ own. length (own_list own)) consistent.summary.own_is)
-    ∙ ap (λ (m : ℕ). 64 * length (own_list (blocks_of_state w).own) + m) t_is
-
--- the draft has few blocks of its own
-pub own_few : (w : State) (hand : Option Command) (steps : ℕ) (standings : List Standing)
-    (u : Summary) (room : Room) → IsConsistent w hand steps standings u room
-    → length (own_list u.own) ≤ 16384
-own_few w hand steps standings u room consistent =
-    let sum = (tidy_of w consistent.whole).shape.blocks in
-    let few = consistent.whole.ready.few_blocks in
-    let same = ap (λ own. length (own_list own)) consistent.summary.own_is in
-    omega arith
+order_starved w c whole free is = search (rules, IsSafe-whole, nothing_stored, seen_stays)
 
 -- a command has few steps
 pub steps_few : (w : State) → IsWhole w → (c : Command)
@@ -111,50 +63,12 @@ steps_few w whole Checkpoint = omega arith
 pub order_busy : (w v : State) (c : Command) (hand : Option Command) (done : ℕ) (scanned : List ℕ)
     → v ≡ w → v.keeper.hand ≡ hand_of hand done scanned → is_some hand ≡ true
     → does w (Order c) ≡ None
-order_busy w v c None done scanned same is some = absurd (cc)
-order_busy w v c (Some t) done scanned same is some =
-    order_again w c _ (sym (ap (λ (x : State). x.keeper.hand) same) ∙ is)
+order_busy w v c hand done scanned same is some = search (rules, order_again)
 
 -- where what is kept has no current command, the world has none
 pub hand_free : (w v : State) (hand : Option Command) (done : ℕ) (scanned : List ℕ) → v ≡ w
     → v.keeper.hand ≡ hand_of hand done scanned → is_some hand ≡ false → w.keeper.hand ≡ None
-hand_free w v None done scanned same is none = sym (ap (λ (x : State). x.keeper.hand) same) ∙ is
-hand_free w v (Some t) done scanned same is none = absurd (cc)
-
--- what is kept is right after an order that is accepted
-pub consistent_order : (w : State) (hand : Option Command) (steps : ℕ) (standings : List Standing)
-    (u : Summary) (room : Room) → IsConsistent w hand steps standings u room
-    → (c copy : Command) (steps_now log_room scanned_room : ℕ)
-    → w.keeper.hand ≡ None → None ≡ refused w.base.setting (story_of w) c → copy ≡ c
-    → steps_now ≡ steps_before w.base (blocks_of_state w) c
-    → length w.keeper.log < log_room → room.scanned ≡ scanned_room
-    → IsConsistent (in_hand w (Some record { command = copy; done = 0; scanned = [] }))
-    (Some copy) steps_now standings u
-    record {
-      log = log_room;
-      scanned = scanned_room;
-      free = room.free;
-      retired = room.retired;
-      scratch = room.scratch;
-    }
-consistent_order w hand steps standings u room consistent c copy steps_now log_room scanned_room
-    free accepted same count room_is scanned_is =
-    let roomy = consistent.roomy in
-    let scanned_before = roomy.scanned in
-    record {
-      whole = keeps-order w copy consistent.whole
-          (ap (refused w.base.setting (story_of w)) same ∙ sym accepted);
-      steps = count ∙ sym (ap (steps_before w.base (blocks_of_state w)) same);
-      standing = consistent.standing;
-      summary = consistent.summary;
-      roomy = record {
-        log = room_is;
-        scanned = omega arith;
-        free = roomy.free;
-        retired = roomy.retired;
-        scratch = roomy.scratch;
-      };
-    }
+hand_free w v hand done scanned same is none = search rules
 
 -- an order that is accepted makes a copy of the command current, safely
 order_done : (w : State) (c copy : Command) (steps : ℕ) → IsWhole w → w.keeper.hand ≡ None
@@ -171,9 +85,7 @@ order_done w c copy steps whole free accepted same count =
 pub starved_still : (w v : State) (c : Command) → v ≡ w → IsWhole w → w.keeper.hand ≡ None
     → None ≡ refused w.base.setting (story_of w) c
     → SafeStep w (Order c) (Ok (says.Refused Memory)) v
-starved_still w v c same whole free is =
-    subst (λ (x : State). SafeStep w (Order c) (Ok (says.Refused Memory)) x) (sym same)
-    (order_starved w c whole free is)
+starved_still w v c same whole free is = search (rules, order_starved)
 
 -- what holds of a world holds of it under another name
 pub under_name : (P : State → Type 0) (w v : State) → v ≡ w → P w → P v
@@ -186,18 +98,65 @@ pub order_named : (w v : State) (c copy : Command) (steps : ℕ) → v ≡ w →
     → SafeStep w (Order c) (Ok (says.Ordered (steps + 1)))
     (in_hand v (Some record { command = copy; done = 0; scanned = [] }))
 order_named w v c copy steps same whole free accepted copied count =
-    subst (λ (x : State). SafeStep w (Order c) (Ok (says.Ordered (steps + 1)))
-    (in_hand x (Some record { command = copy; done = 0; scanned = [] }))) (sym same)
-    (order_done w c copy steps whole free accepted copied
-    (count ∙ ap (λ (x : State). steps_before x.base (blocks_of_state x) c) same))
+    search (rules, in_hand, order_done)
 
--- a number past the rows of a publish is one of its directory's
-pub publish_rest : (w : State) (hand : Option Command) (steps : ℕ) (standings : List Standing)
-    (u : Summary) (room : Room) → IsConsistent w hand steps standings u room → (n number : ℕ)
-    → n ≡ length (own_list u.own)
-    → number < steps_before w.base (blocks_of_state w) Publish → 64 * n ≤ number
-    → number - 64 * n < tiles w.base
-unfolding steps_before
-publish_rest w hand steps standings u room consistent n number n_is h past =
-    let same = ap (λ own. length (own_list own)) consistent.summary.own_is in
-    omega arith
+module _ {w : State} {hand : Option Command} {steps : ℕ} {standings : List Standing} {u : Summary}
+    {room : Room} (consistent : IsConsistent w hand steps standings u room) where
+  -- what is kept tells how many steps a publish has before its last
+  pub publish_steps : (n t : ℕ) → n ≡ length (own_list u.own) → t ≡ tiles w.base
+      → 64 * n + t ≡ steps_before w.base (blocks_of_state w) Publish
+  unfolding steps_before
+  publish_steps n t n_is t_is = search rules
+
+  -- the draft has few blocks of its own
+  pub own_few : length (own_list u.own) ≤ 16384
+  own_few =
+      let sum = (tidy_of w consistent.whole).shape.blocks in
+      let few = consistent.whole.ready.few_blocks in
+      let same = ap (λ own. length (own_list own)) consistent.summary.own_is in
+      omega arith
+
+  -- what is kept is right after an order that is accepted
+  pub consistent_order : (c copy : Command) (steps_now log_room scanned_room : ℕ) → w.keeper.hand
+      ≡ None → None ≡ refused w.base.setting (story_of w) c → copy ≡ c → steps_now ≡ steps_before
+      w.base (blocks_of_state w) c → length w.keeper.log < log_room → room.scanned ≡ scanned_room
+      → IsConsistent (in_hand w (Some record { command = copy; done = 0; scanned = [] }))
+      (Some copy) steps_now standings u record {
+        log = log_room;
+        scanned = scanned_room;
+        free =
+            room.free;
+        retired = room.retired;
+        scratch = room.scratch;
+      }
+  consistent_order c copy steps_now log_room scanned_room
+      free accepted same count room_is scanned_is =
+      search (rules, keeps-order)
+
+  -- a number past the rows of a publish is one of its directory's
+  pub publish_rest : (n number : ℕ) → n ≡ length (own_list u.own) → number < steps_before w.base
+      (blocks_of_state w) Publish → 64 * n ≤ number → number - 64 * n < tiles w.base
+  unfolding steps_before
+  publish_rest n number n_is h past = search rules
+
+-- a current command has this many steps left
+pub steps_left-some : (w : State) (hand : Option Command) (steps : ℕ) (standings : List Standing)
+    (u : Summary) (room : Room) (done : ℕ) (scanned : List ℕ)
+    → IsConsistent w hand steps standings u room
+    → w.keeper.hand ≡ hand_of hand done scanned → is_some hand ≡ true
+    → steps + 1 - done ≡ steps_left w w.keeper.hand
+unfolding steps_left
+steps_left-some w hand steps standings u room done scanned consistent is some = search rules
+
+-- where there is no current command none is left
+pub steps_left-none : (w : State) (hand : Option Command) (done : ℕ) (scanned : List ℕ)
+    → w.keeper.hand ≡ hand_of hand done scanned → is_some hand ≡ false
+    → 0 ≡ steps_left w w.keeper.hand
+unfolding steps_left
+steps_left-none w hand done scanned is none = search rules
+
+-- the steps of a current command are few
+pub hand_few : (w : State) (hand : Option Command) (steps : ℕ) (standings : List Standing)
+    (u : Summary) (room : Room) → IsConsistent w hand steps standings u room → is_some hand ≡ true
+    → steps + 1 < 2 ^ 32
+hand_few w hand steps standings u room consistent some = search (rules, steps_few)

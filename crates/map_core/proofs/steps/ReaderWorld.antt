@@ -1,236 +1,129 @@
 -- The steps of a reader, on a world by its parts.
-use Rattle.std.proofs.Common.{◌≡◌, ℕ, ◌+◌, ◌*◌, ◌<◌, ◌≤◌, ◌&&◌, ◌==◌, Bool, true, false}
-use Rattle.std.proofs.Common.{if◌then◌else◌, List, length, get_or, set, map, take, refl, ap, subst}
-use Rattle.std.proofs.Common.{sym, ◌∙◌, arith}
-use Rattle.std.specs.Prelude.{Option, Some, None, slice_get, is_some, is_none, nat_lt}
-use Rattle.std.proofs.lemmas.Bool.Decides.{nat_tests}
-use Rattle.std.proofs.lemmas.List.{map-set, take_all, get_or_read, get_or_default}
-use Rattle.std.proofs.lemmas.List.Folds.{list_any_at, list_any_none, Any-from_list_any}
-use Rattle.std.proofs.lemmas.Bool.{eq-eqb, ne_eqb}
-use Rattle.map_core.specs.Blocks.{directory_of, is_mapped}
+use Rattle.map_core.proofs.Names.{rules, ◌≡◌, ℕ, ◌+◌, ◌*◌, ◌<◌, ◌≤◌, ◌&&◌, ◌==◌, Bool, true, false}
+use Rattle.map_core.proofs.Names.{if◌then◌else◌, List, length, get_or, set, refl, ap, subst, sym}
+use Rattle.map_core.proofs.Names.{◌∙◌, arith, Option, Some, None, slice_get, is_some, is_none, Load}
+use Rattle.map_core.proofs.Names.{nat_lt, nat_tests, take_all, get_or_read, get_or_default, eq-eqb}
+use Rattle.map_core.proofs.Names.{list_any_at, ne_eqb, directory_of, is_mapped, Cells, Command}
+use Rattle.map_core.proofs.Names.{Entry, Announce, LookMap, LookTile, Leave, Confirm, Standing}
+use Rattle.map_core.proofs.Names.{Setting, From, Exact, IsKept, tiles, pin_at, map_at, tile_at}
+use Rattle.map_core.proofs.Names.{pin_word, version_told, place_told, slot_of, Reader, State, does}
+use Rattle.map_core.proofs.Names.{story_of, announce, load, leave, to_confirm, confirm, look_map}
+use Rattle.map_core.proofs.Names.{look_tile, hold_of, blocks_of_state, IsWhole, state_of}
+use Rattle.map_core.proofs.Names.{IsStanding}
+use Rattle.std.proofs.lemmas.List.{map-set}
+use Rattle.std.proofs.lemmas.List.Folds.{list_any_none, Any-from_list_any}
 use Rattle.map_core.proofs.shared_words.PlaceLemmas.{tile-within}
-use Rattle.bits.specs.Cells.{Cells}
-use Rattle.map_core.specs.declared.command.Command.{Command}
-use Rattle.map_core.specs.declared.command.Entry.{Entry}
-use Rattle.map_core.specs.declared.event.Event.TheVariants.{Announce, Load, LookMap, LookTile}
-use Rattle.map_core.specs.declared.event.Event.TheVariants.{Leave, Confirm}
-use Rattle.map_core.specs.declared.event.StepReply.TheVariants as says
-use Rattle.map_core.specs.declared.reader.Standing.{Standing}
-use Rattle.map_core.specs.declared.setting.Setting.{Setting}
-use Rattle.map_core.specs.declared.kept.Seen.TheVariants.{From, Exact}
-use Rattle.map_core.specs.Story.{IsKept}
-use Rattle.map_core.specs.Words.{tiles, pin_at, map_at, tile_at, pin_word, version_told, place_told}
-use Rattle.map_core.specs.Words.{slot_of}
-use Rattle.map_core.specs.Views.{Reader, State, story_of}
-use Rattle.map_core.specs.Steps.{does, announce, load, leave, to_confirm, confirm_held, confirm}
-use Rattle.map_core.specs.Steps.{look_map, look_tile, hold_of}
-use Rattle.map_core.specs.Views.{blocks_of_state}
-use Rattle.map_core.specs.Sound.{IsWhole}
 use Rattle.map_core.proofs.invariants.SoundBlocks.{block_within}
 use Rattle.map_core.proofs.invariants.TidyLog.{IsTidy-legal}
-use Rattle.map_core.specs.Consistent.{reader_of, state_of, IsStanding}
 use Rattle.map_core.proofs.steps.WorldLemmas.{reader_got}
+use Rattle.map_core.specs.declared.event.StepReply.TheVariants as says
 
--- a reader that isn't there can't announce
-pub announce_past : (g : Setting) (b : Cells) (words : List ℕ) (log : List Entry)
-    (hand : Option Command) (done : ℕ) (scanned : List ℕ) (standings : List Standing) (r : ℕ)
-    → slice_get standings r ≡ None
-    → does (state_of g b words log hand done scanned standings) (Announce r) ≡ None
-unfolding does announce
-announce_past g b words log hand done scanned standings r none =
-    ap (announce (state_of g b words log hand done scanned standings) r)
-    (reader_got log standings r None none)
+-- a reader's step, on a world with these parts
+module _ (g : Setting) (b : Cells) (words : List ℕ) (log : List Entry) (hand : Option Command)
+    (done : ℕ) (scanned : List ℕ) (standings : List Standing) (r : ℕ) where
+  -- a reader that isn't there can't announce
+  pub announce_past : slice_get standings r ≡ None
+      → does (state_of g b words log hand done scanned standings) (Announce r) ≡ None
+  unfolding does announce
+  announce_past none = search (rules, reader_got)
 
--- a reader that has announced can't announce again
-pub announce_again : (g : Setting) (b : Cells) (words : List ℕ) (log : List Entry)
-    (hand : Option Command) (done : ℕ) (scanned : List ℕ) (standings : List Standing) (r : ℕ)
-    (p : Standing)
-    → slice_get standings r ≡ Some p → is_some p.announced ≡ true
-    → does (state_of g b words log hand done scanned standings) (Announce r) ≡ None
-unfolding does announce
-announce_again g b words log hand done scanned standings r p there has =
-    ap (announce (state_of g b words log hand done scanned standings) r)
-    (reader_got log standings r (Some p) there) ∙ rw has
+  -- a reader that isn't there can't leave
+  pub leave_past : slice_get standings r ≡ None
+      → does (state_of g b words log hand done scanned standings) (Leave r) ≡ None
+  unfolding does leave
+  leave_past none = search (rules, reader_got)
 
--- a reader that announces stores the newest version that it has seen, with those after it
-pub announce_does : (g : Setting) (b : Cells) (words : List ℕ) (log : List Entry)
-    (hand : Option Command) (done : ℕ) (scanned : List ℕ) (standings : List Standing) (r : ℕ)
-    (p : Standing) (at word : ℕ)
-    → slice_get standings r ≡ Some p → is_some p.announced ≡ false
-    → IsStanding record { setting = g; opening = b } log p → at ≡ pin_at r
-    → word ≡ 2 * p.version + 1
-    → does (state_of g b words log hand done scanned standings) (Announce r)
-    ≡ Some record {
-      state = state_of g b (set words at word) log hand done scanned
-          (set standings r record p { announced = Some (From p.version) });
-      answer = says.Announced p.version;
-      stored = Some (pin_at r);
-    }
-unfolding does announce pin_at pin_word
-announce_does g b words log hand done scanned standings r p at word there none place at_is word_is =
-    let w = state_of g b words log hand done scanned standings in
-    ap (announce w r) (reader_got log standings r (Some p) there)
-    ∙ (rw none
-    (rw (← place.version_is, ← at_is, ← word_is)
-    (ap (λ (xs : List Reader). Some record {
-      state =
-          record w { words = set words at word; readers = xs };
-      answer = says.Announced p.version;
-      stored = Some at;
-    })
-    (sym (map-set (reader_of log) standings r record p { announced = Some (From p.version) })))))
+  -- a reader that isn't there can't announce exactly
+  pub confirm_past : slice_get standings r ≡ None
+      → does (state_of g b words log hand done scanned standings) (Confirm r) ≡ None
+  unfolding does confirm
+  confirm_past none = search (rules, reader_got)
 
--- a reader that isn't there can't leave
-pub leave_past : (g : Setting) (b : Cells) (words : List ℕ) (log : List Entry)
-    (hand : Option Command) (done : ℕ) (scanned : List ℕ) (standings : List Standing) (r : ℕ)
-    → slice_get standings r ≡ None
-    → does (state_of g b words log hand done scanned standings) (Leave r) ≡ None
-unfolding does leave
-leave_past g b words log hand done scanned standings r none =
-    ap (leave (state_of g b words log hand done scanned standings) r)
-    (reader_got log standings r None none)
+  -- a reader that isn't there can't load NOW
+  pub load_past : slice_get standings r ≡ None
+      → does (state_of g b words log hand done scanned standings) (Load r) ≡ None
+  unfolding does load
+  load_past none = search (rules, reader_got)
 
--- a reader that hasn't announced can't leave
-pub leave_again : (g : Setting) (b : Cells) (words : List ℕ) (log : List Entry)
-    (hand : Option Command) (done : ℕ) (scanned : List ℕ) (standings : List Standing) (r : ℕ)
-    (p : Standing)
-    → slice_get standings r ≡ Some p → is_none p.announced ≡ true
-    → does (state_of g b words log hand done scanned standings) (Leave r) ≡ None
-unfolding does leave
-leave_again g b words log hand done scanned standings r p there none =
-    ap (leave (state_of g b words log hand done scanned standings) r)
-    (reader_got log standings r (Some p) there) ∙ rw (not_some p.announced none)
-  where
-    not_some : {A : Type 0} (o : Option A) → is_none o ≡ true → is_some o ≡ false
-    not_some None is = refl
-    not_some (Some a) is = absurd (cc)
+  module _ (p : Standing) (there : slice_get standings r ≡ Some p) where
+    -- a reader that has announced can't announce again
+    pub announce_again : is_some p.announced ≡ true
+        → does (state_of g b words log hand done scanned standings) (Announce r) ≡ None
+    unfolding does announce
+    announce_again has = search (rules, reader_got)
 
--- a reader that leaves stores 0, and holds nothing
-pub leave_does : (g : Setting) (b : Cells) (words : List ℕ) (log : List Entry)
-    (hand : Option Command) (done : ℕ) (scanned : List ℕ) (standings : List Standing) (r : ℕ)
-    (p : Standing) (at : ℕ)
-    → slice_get standings r ≡ Some p → is_none p.announced ≡ false → at ≡ pin_at r
-    → does (state_of g b words log hand done scanned standings) (Leave r)
-    ≡ Some record {
-      state = state_of g b (set words at 0) log hand done scanned
-          (set standings r record p { announced = None; holds = None });
-      answer = says.Left;
-      stored = Some (pin_at r);
-    }
-unfolding does leave pin_at pin_word
-leave_does g b words log hand done scanned standings r p at there has at_is =
-    let w = state_of g b words log hand done scanned standings in
-    ap (leave w r) (reader_got log standings r (Some p) there)
-    ∙ (rw (some p.announced has)
-    (rw (← at_is)
-    (ap (λ (xs : List Reader). Some record {
-      state =
-          record w { words = set words at 0; readers = xs };
-      answer = says.Left;
-      stored = Some at;
-    })
-    (sym (map-set (reader_of log) standings r record p { announced = None; holds = None })))))
-  where
-    some : {A : Type 0} (o : Option A) → is_none o ≡ false → is_some o ≡ true
-    some None is = absurd (cc)
-    some (Some a) is = refl
+    -- a reader that announces stores the newest version that it has seen, with those after it
+    pub announce_does : (at word : ℕ) → is_some p.announced ≡ false
+        → IsStanding record { setting = g; opening = b } log p → at ≡ pin_at r
+        → word ≡ 2 * p.version + 1
+        → does (state_of g b words log hand done scanned standings) (Announce r)
+        ≡ Some record {
+          state = state_of g b (set words at word) log hand done scanned
+              (set standings r record p { announced = Some (From p.version) });
+          answer = says.Announced p.version;
+          stored = Some (pin_at r);
+        }
+    unfolding does announce pin_at pin_word
+    announce_does at word none place at_is word_is = search (rules, reader_got, map-set)
 
--- a reader that isn't there can't announce exactly
-pub confirm_past : (g : Setting) (b : Cells) (words : List ℕ) (log : List Entry)
-    (hand : Option Command) (done : ℕ) (scanned : List ℕ) (standings : List Standing) (r : ℕ)
-    → slice_get standings r ≡ None
-    → does (state_of g b words log hand done scanned standings) (Confirm r) ≡ None
-unfolding does confirm
-confirm_past g b words log hand done scanned standings r none =
-    ap (confirm (state_of g b words log hand done scanned standings) r)
-    (reader_got log standings r None none)
+    -- a reader that hasn't announced can't leave
+    pub leave_again : is_none p.announced ≡ true
+        → does (state_of g b words log hand done scanned standings) (Leave r) ≡ None
+    unfolding does leave
+    leave_again none = search (rules, reader_got)
 
--- a reader that has no exact announcement to make can't make one
-pub confirm_not : (g : Setting) (b : Cells) (words : List ℕ) (log : List Entry)
-    (hand : Option Command) (done : ℕ) (scanned : List ℕ) (standings : List Standing) (r : ℕ)
-    (p : Standing) (found : Option ℕ)
-    → slice_get standings r ≡ Some p → found ≡ to_confirm p.announced p.holds → found ≡ None
-    → does (state_of g b words log hand done scanned standings) (Confirm r) ≡ None
-unfolding does confirm
-confirm_not g b words log hand done scanned standings r p found there is none =
-    let w = state_of g b words log hand done scanned standings in
-    ap (confirm w r) (reader_got log standings r (Some p) there)
-    ∙ ap (confirm_held w r (reader_of log p)) (sym is ∙ none)
+    -- a reader that leaves stores 0, and holds nothing
+    pub leave_does : (at : ℕ) → is_none p.announced ≡ false → at ≡ pin_at r
+        → does (state_of g b words log hand done scanned standings) (Leave r)
+        ≡ Some record {
+          state = state_of g b (set words at 0) log hand done scanned
+              (set standings r record p { announced = None; holds = None });
+          answer = says.Left;
+          stored = Some (pin_at r);
+        }
+    unfolding does leave pin_at pin_word
+    leave_does at has at_is = search (rules, reader_got, map-set)
 
--- a reader that announces exactly stores the version that it holds, alone
-pub confirm_does : (g : Setting) (b : Cells) (words : List ℕ) (log : List Entry)
-    (hand : Option Command) (done : ℕ) (scanned : List ℕ) (standings : List Standing) (r : ℕ)
-    (p : Standing) (found : Option ℕ) (v at word : ℕ)
-    → slice_get standings r ≡ Some p → found ≡ to_confirm p.announced p.holds → found ≡ Some v
-    → at ≡ pin_at r → word ≡ 2 * v + 2
-    → does (state_of g b words log hand done scanned standings) (Confirm r)
-    ≡ Some record {
-      state = state_of g b (set words at word) log hand done scanned
-          (set standings r record p { announced = Some (Exact v) });
-      answer = says.Confirmed v;
-      stored = Some (pin_at r);
-    }
-unfolding does confirm pin_at pin_word
-confirm_does g b words log hand done scanned standings r p found v at word there is some at_is
-    word_is =
-    let w = state_of g b words log hand done scanned standings in
-    ap (confirm w r) (reader_got log standings r (Some p) there)
-    ∙ (ap (confirm_held w r (reader_of log p)) (sym is ∙ some)
-    ∙ (rw (← at_is, ← word_is)
-    (ap (λ (xs : List Reader). Some record {
-      state =
-          record w { words = set words at word; readers = xs };
-      answer = says.Confirmed v;
-      stored = Some at;
-    })
-    (sym (map-set (reader_of log) standings r record p { announced = Some (Exact v) })))))
+    -- a reader that has no exact announcement to make can't make one
+    pub confirm_not : (found : Option ℕ) → found ≡ to_confirm p.announced p.holds → found ≡ None
+        → does (state_of g b words log hand done scanned standings) (Confirm r) ≡ None
+    unfolding does confirm
+    confirm_not found is none = search (rules, reader_got)
 
--- a reader that isn't there can't load NOW
-pub load_past : (g : Setting) (b : Cells) (words : List ℕ) (log : List Entry)
-    (hand : Option Command) (done : ℕ) (scanned : List ℕ) (standings : List Standing) (r : ℕ)
-    → slice_get standings r ≡ None
-    → does (state_of g b words log hand done scanned standings) (Load r) ≡ None
-unfolding does load
-load_past g b words log hand done scanned standings r none =
-    ap (load (state_of g b words log hand done scanned standings) r)
-    (reader_got log standings r None none)
+    -- a reader that announces exactly stores the version that it holds, alone
+    pub confirm_does : (found : Option ℕ) (v at word : ℕ) → found ≡ to_confirm p.announced p.holds
+        → found ≡ Some v → at ≡ pin_at r → word ≡ 2 * v + 2
+        → does (state_of g b words log hand done scanned standings) (Confirm r)
+        ≡ Some record {
+          state = state_of g b (set words at word) log hand done scanned
+              (set standings r record p { announced = Some (Exact v) });
+          answer = says.Confirmed v;
+          stored = Some (pin_at r);
+        }
+    unfolding does confirm pin_at pin_word
+    confirm_does found v at word is some at_is word_is = search (rules, reader_got, map-set)
 
--- a reader that loads NOW has seen the whole log, and holds the version there if it has announced
--- and held none
-pub load_does : (g : Setting) (b : Cells) (words : List ℕ) (log : List Entry)
-    (hand : Option Command) (done : ℕ) (scanned : List ℕ) (standings : List Standing) (r : ℕ)
-    (p : Standing) (place version seen newest : ℕ) (holds : Option ℕ)
-    → slice_get standings r ≡ Some p → place ≡ place_told (get_or words 0 0)
-    → version ≡ version_told (get_or words 0 0) → seen ≡ length log
-    → holds ≡ (if is_some p.announced && is_none p.holds then Some version else p.holds)
-    → does (state_of g b words log hand done scanned standings) (Load r)
-    ≡ Some record {
-      state = state_of g b words log hand done scanned
-          (set standings r record {
-            seen = seen;
-            version = newest;
-            announced = p.announced;
-            holds = holds;
-          });
-      answer = says.Now place version;
-      stored = None;
-    }
-unfolding does load
-load_does g b words log hand done scanned standings r p place version seen newest holds there
-    place_is version_is seen_is holds_is =
-    let w = state_of g b words log hand done scanned standings in
-    let whole : take seen log ≡ log = take_all seen log (omega arith) in
-    ap (load w r) (reader_got log standings r (Some p) there)
-    ∙ rw (← place_is, ← version_is, ← holds_is)
-    (ap (λ (xs : List Reader). Some record {
-      state = record w { readers = xs };
-      answer = says.Now place version;
-      stored = None;
-    })
-    (sym (map-set (reader_of log) standings r
-    record { seen = seen; version = newest; announced = p.announced; holds = holds }
-    ∙ ap (λ (l : List Entry). set (map (reader_of log) standings) r
-    record { seen = l; announced = p.announced; holds = holds }) whole)))
+    -- a reader that loads NOW has seen the whole log, and holds the version there if it has
+    -- announced and held none
+    pub load_does : (place version seen newest : ℕ) (holds : Option ℕ)
+        → place ≡ place_told (get_or words 0 0) → version ≡ version_told (get_or words 0 0)
+        → seen ≡ length log
+        → holds ≡ (if is_some p.announced && is_none p.holds then Some version else p.holds)
+        → does (state_of g b words log hand done scanned standings) (Load r)
+        ≡ Some record {
+          state = state_of g b words log hand done scanned
+              (set standings r record {
+                seen = seen;
+                version = newest;
+                announced = p.announced;
+                holds = holds;
+              });
+          answer = says.Now place version;
+          stored = None;
+        }
+    unfolding does load
+    load_does place version seen newest holds place_is version_is seen_is holds_is =
+        search (rules, take_all, reader_got, map-set)
 
 -- a reader that holds nothing can't look at a position
 pub look_map_none : (w : State) (r p : ℕ) (held : Option ℕ) → held ≡ hold_of (slice_get w.readers r)
@@ -243,9 +136,7 @@ pub look_map_past : (w : State) (r p v : ℕ) (held : Option ℕ)
     → held ≡ hold_of (slice_get w.readers r) → held ≡ Some v → tiles w.base ≤ p
     → does w (LookMap r p) ≡ None
 unfolding does look_map
-look_map_past w r p v held is some past =
-    ap (look_map w p) (sym is ∙ some)
-    ∙ (let test : nat_lt p (tiles w.base) ≡ false = grind (arith, nat_tests) in rw test)
+look_map_past w r p v held is some past = search (rules, nat_tests)
 
 -- a reader that holds a version and looks at a position gets the block there
 pub look_map_does : (w : State) (r p v block : ℕ) (held : Option ℕ)
@@ -253,10 +144,7 @@ pub look_map_does : (w : State) (r p v block : ℕ) (held : Option ℕ)
     → block ≡ get_or w.words (map_at w.base (slot_of w.base (story_of w) v) p) 0
     → does w (LookMap r p) ≡ Some record { state = w; answer = says.Block block; stored = None }
 unfolding does look_map
-look_map_does w r p v block held is some inside block_is =
-    ap (look_map w p) (sym is ∙ some)
-    ∙ (let test : nat_lt p (tiles w.base) ≡ true = grind (arith, nat_tests) in
-    rw (test, ← block_is))
+look_map_does w r p v block held is some inside block_is = search (rules, nat_tests)
 
 -- a version that a reader of a whole world holds is kept
 pub held_kept : (w : State) → IsWhole w → (r v : ℕ) (held : Option ℕ)
@@ -272,13 +160,7 @@ held_kept w whole r v held is some =
 -- the word of a position in a kept version's slot is the number of a block
 pub block_small : (w : State) → IsWhole w → (v p : ℕ) → IsKept (story_of w) v → p < tiles w.base
     → get_or w.words (map_at w.base (slot_of w.base (story_of w) v) p) 0 < 16384
-block_small w whole v p is_kept inside =
-    let tidy = IsTidy-legal w.base w.keeper.log whole.ready whole.keeper.legal in
-    let shows = whole.keeper.shows v is_kept in
-    let within = block_within w.base (story_of w) (blocks_of_state w) tidy v p is_kept inside in
-    let at = shows.mapped p inside in
-    let few = whole.ready.few_blocks in
-    omega arith
+block_small w whole v p is_kept inside = grind (arith, IsTidy-legal, block_within)
 
 -- the number of tiles and a word are read of a world by its parts
 pub record IsRead (w v : State) (tiles_here place word : ℕ) (words : List ℕ) : Type 0 where
@@ -291,10 +173,7 @@ pub record IsRead (w v : State) (tiles_here place word : ℕ) (words : List ℕ)
 -- the word that is read is that of its place in the world
 pub word_read : (w v : State) (tiles_here place word : ℕ) (words : List ℕ)
     → IsRead w v tiles_here place word words → word ≡ get_or w.words place 0
-word_read w v tiles_here place word words h =
-    let words_same : w.words ≡ words = sym (ap (λ (x : State). x.words) h.same) ∙ h.words_are in
-    get_or_read w.words place word h.within
-    (h.read ∙ sym (ap (λ (xs : List ℕ). get_or xs place word) words_same)) 0
+word_read w v tiles_here place word words h = search (rules, get_or_read)
 
 -- the number of tiles that is read is that of the world
 pub tiles_read : (w v : State) (tiles_here : ℕ) → v ≡ w → tiles_here ≡ tiles v.base
@@ -308,13 +187,7 @@ pub is_mapped_found : (w : State) → IsWhole w → (v p block : ℕ) → IsKept
     → true ≡ is_mapped (blocks_of_state w) v block
 unfolding is_mapped
 is_mapped_found w whole v p block is_kept inside is =
-    let tidy = IsTidy-legal w.base w.keeper.log whole.ready whole.keeper.legal in
-    let shows = whole.keeper.shows v is_kept in
-    let long = tidy.shape.directory v (tidy.slots.published v is_kept) in
-    let at : get_or (directory_of (blocks_of_state w) v) p 0 ≡ block = sym (shows.mapped p inside)
-    ∙ is in
-    sym (list_any_at (λ b. b == block) (directory_of (blocks_of_state w) v) p 0 (omega arith)
-    (eq-eqb (get_or (directory_of (blocks_of_state w) v) p 0) block at))
+    grind (arith, IsTidy-legal, list_any_at, eq-eqb)
 
 -- a block that no word of a kept version's slot has is not mapped
 pub is_mapped_none : (w : State) → IsWhole w → (v block : ℕ) → IsKept (story_of w) v
@@ -336,19 +209,7 @@ pub mapped_small : (w : State) → IsWhole w → (v block : ℕ) → IsKept (sto
     → is_mapped (blocks_of_state w) v block ≡ true → block < w.base.setting.blocks
 unfolding is_mapped
 mapped_small w whole v block is_kept is =
-    let tidy = IsTidy-legal w.base w.keeper.log whole.ready whole.keeper.legal in
-    let found = Any-from_list_any (λ b. b == block) (directory_of (blocks_of_state w) v) is in
-    let long = tidy.shape.directory v (tidy.slots.published v is_kept) in
-    let place = found.0 in
-    let inside = found.2 in
-    let within = block_within w.base (story_of w) (blocks_of_state w) tidy v place is_kept
-    (omega arith) in
-    let same : found.1 ≡ block = that_number found.1 block found.4 in
-    let at = get_or_default (directory_of (blocks_of_state w) v) place 0 found.1 inside ∙ found.3 in
-    omega arith
-  where
-    that_number : (a b : ℕ) → (a == b) ≡ true → a ≡ b
-    that_number a b is = grind (arith, nat_tests)
+    grind (arith, IsTidy-legal, Any-from_list_any, block_within, get_or_default)
 
 -- a reader that holds nothing can't look at a row
 pub look_tile_none : (w : State) (r b i : ℕ) (held : Option ℕ)
@@ -370,16 +231,12 @@ pub look_tile_does : (w : State) (r b i v word : ℕ) (held : Option ℕ)
     → word ≡ get_or w.words (tile_at w.base b i) 0
     → does w (LookTile r b i) ≡ Some record { state = w; answer = says.Word word; stored = None }
 unfolding does look_tile
-look_tile_does w r b i v word held is some test word_is =
-    ap (look_tile w b i) (sym is ∙ some) ∙ rw (test, ← word_is)
+look_tile_does w r b i v word held is some test word_is = search (rules, nat_tests)
 
 -- a word of a block is one of the words
 pub tile_in_words : (w : State) → IsWhole w → (b i place : ℕ) → place ≡ tile_at w.base b i
     → b < w.base.setting.blocks → i < 64 → place < length w.words
-tile_in_words w whole b i place is hb hi =
-    let within = tile-within w.base b i hb hi in
-    let sized = whole.keeper.sized in
-    omega arith
+tile_in_words w whole b i place is hb hi = search (rules, tile-within)
 
 -- a world is whole under another name
 pub whole_of : (w v : State) → v ≡ w → IsWhole v → IsWhole w
@@ -387,8 +244,7 @@ whole_of w v same whole = subst IsWhole same whole
 
 -- a row that there isn't can't be looked at
 pub no_row : (mapped : Bool) (i : ℕ) → 64 ≤ i → (mapped && nat_lt i 64) ≡ false
-no_row true i h = grind (arith, nat_tests)
-no_row false i h = refl
+no_row mapped i h = search (rules, nat_tests)
 
 -- a row of a mapped block can be looked at
 pub row_there : (mapped : Bool) (i : ℕ) → mapped ≡ true → i < 64 → (mapped && nat_lt i 64) ≡ true

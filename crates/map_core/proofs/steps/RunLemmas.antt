@@ -1,25 +1,19 @@
 -- A list of events is done one event at a time.
-use Rattle.std.proofs.Common.{◌≡◌, ℕ, ◌+◌, ◌<◌, List, [], ◌∷◌, ◌++◌, length, take, get_or, refl, ap}
-use Rattle.std.proofs.Common.{subst, sym, ◌∙◌, arith}
-use Rattle.std.specs.Prelude.{Result}
-use Rattle.std.proofs.lemmas.List.{length-append, take_more}
-use Rattle.map_core.specs.declared.event.Event.{Event}
-use Rattle.map_core.specs.declared.event.NotEnabled.{NotEnabled}
-use Rattle.map_core.specs.declared.event.StepReply.{StepReply}
-use Rattle.map_core.specs.Views.{State}
-use Rattle.map_core.specs.Runs.{SafeStep, IsRun}
+use Rattle.map_core.proofs.Names.{rules, ◌≡◌, ℕ, ◌+◌, ◌<◌, List, [], ◌∷◌, ◌++◌, length, take, arith}
+use Rattle.map_core.proofs.Names.{get_or, Result, length-append, Event, NotEnabled, StepReply}
+use Rattle.map_core.proofs.Names.{State, SafeStep, IsRun}
+use Rattle.std.proofs.lemmas.Grind.{common_steps}
 
 -- one event after a run makes a run of all the events
 pub run-push : (old mid new : State) (events : List Event)
     (answers : List (Result StepReply NotEnabled)) (e : Event) (a : Result StepReply NotEnabled)
     → IsRun old events answers mid → SafeStep mid e a new
     → IsRun old (events ++ e ∷ []) (answers ++ a ∷ []) new
-run-push old mid new [] [] e a is step =
-    (new, subst (λ (w : State). SafeStep w e a new) is step, refl)
+run-push old mid new [] [] e a is step = search rules
 run-push old mid new [] (b ∷ answers) e a is step = absurd is
 run-push old mid new (f ∷ events) [] e a is step = absurd is
 run-push old mid new (f ∷ events) (b ∷ answers) e a is step =
-    (is.0, is.1, run-push is.0 mid new events answers e a is.2 step)
+    search (rules, run-push is.0 mid new events answers e a is.2 step)
 
 -- a run of the first events of a list and the next event are a run of one more event
 pub run_next : (old mid new : State) (events : List Event) (i : ℕ)
@@ -27,11 +21,7 @@ pub run_next : (old mid new : State) (events : List Event) (i : ℕ)
     → IsRun old (take i events) answers mid → i < length events → e ≡ get_or events i e
     → SafeStep mid e a new
     → IsRun old (take (i + 1) events) (answers ++ a ∷ []) new
-run_next old mid new events i answers e a is h read step =
-    let here : take (i + 1) events ≡ take i events ++ e ∷ [] = take_more events i e h
-    ∙ ap (λ (f : Event). take i events ++ f ∷ []) (sym read) in
-    subst (λ (es : List Event). IsRun old es (answers ++ a ∷ []) new) (sym here)
-    (run-push old mid new (take i events) answers e a is step)
+run_next old mid new events i answers e a is h read step = grind (arith, common_steps, run-push)
 
 -- a list of answers with another at its end is longer by one
 pub answers_more : (answers : List (Result StepReply NotEnabled)) (a : Result StepReply NotEnabled)

@@ -1,35 +1,26 @@
 -- Each event keeps what holds of a world, and stores in no live block.
-use Rattle.std.proofs.Common.{◌≡◌, ◌≢◌, ℕ, zero, suc, ◌<◌, ◌⊎◌, List, [], ◌∷◌, ◌++◌, length, get_or}
-use Rattle.std.proofs.Common.{set, refl, ap, subst, sym, ◌∙◌, arith}
-use Rattle.std.specs.Prelude.{Option, Some, None, slice_get}
-use Rattle.std.proofs.lemmas.List.{length-set}
-use mathlib.Core.Logic.{inl, inr}
-use Rattle.map_core.specs.declared.command.Entry.{Entry}
-use Rattle.map_core.specs.declared.command.Command.{Command}
-use Rattle.map_core.specs.declared.command.Command.TheVariants.{Publish, Collect}
-use Rattle.map_core.specs.declared.kept.Seen.TheVariants.{From, Exact}
-use Rattle.map_core.specs.Story.{Story, newest}
-use Rattle.map_core.specs.Legal.{refused, told}
-use Rattle.map_core.specs.Blocks.{Blocks, moved}
-use Rattle.map_core.specs.Words.{Base, now_at, pin_at, tile_at, version_told, now_of, pin_word}
-use Rattle.map_core.specs.Views.{Hand, Keeper, Reader, State, story, blocks, story_of}
-use Rattle.map_core.specs.Views.{blocks_of_state, newest_seen}
-use Rattle.map_core.specs.Steps.{Outcome, with_word_stored, with_reader, next_hold, steps_before}
-use Rattle.map_core.specs.Steps.{write, scan, commit, entry_of, write_of}
+use Rattle.map_core.proofs.Names.{rules, ◌≡◌, ◌≢◌, ℕ, zero, suc, ◌<◌, ◌⊎◌, List, [], ◌∷◌, ◌++◌, set}
+use Rattle.map_core.proofs.Names.{length, get_or, refl, subst, sym, ◌∙◌, arith, Option, Some, None}
+use Rattle.map_core.proofs.Names.{slice_get, length-set, inl, inr, Entry, Command, Publish, Collect}
+use Rattle.map_core.proofs.Names.{From, Exact, Story, newest, refused, told, Blocks, moved, Base}
+use Rattle.map_core.proofs.Names.{now_at, pin_at, version_told, now_of, pin_word, Hand, State}
+use Rattle.map_core.proofs.Names.{Keeper, Reader, story, blocks, story_of, blocks_of_state, Outcome}
+use Rattle.map_core.proofs.Names.{newest_seen, with_word_stored, with_reader, next_hold, commit}
+use Rattle.map_core.proofs.Names.{steps_before, entry_of, IsTidy, IsSeenKept, InHand, KeeperSound}
+use Rattle.map_core.proofs.Names.{ReaderSound, IsWhole}
+use Rattle.map_core.specs.Steps.{write, scan}
 use Rattle.map_core.specs.Safe.{SparesLive}
-use Rattle.map_core.specs.Tidy.{IsTidy}
-use Rattle.map_core.specs.Sound.{IsSeenKept, InHand, KeeperSound, ReaderSound, IsWhole}
 use Rattle.map_core.proofs.shared_words.PlaceLemmas.{tile-pin, tile-now}
 use Rattle.map_core.proofs.invariants.SafeLemmas.{live_kept}
 use Rattle.map_core.proofs.accounts.SpareLemmas.{IsSpare, spare_write}
 use Rattle.map_core.proofs.invariants.SoundCommit.{KeeperSound-commit, ReaderSound-commit}
-use Rattle.map_core.proofs.invariants.SoundKeeper.{KeeperSound-order, ReaderSound-order}
+use Rattle.map_core.proofs.invariants.SoundKeeper.{KeeperSound-order, ReaderSound-order, seen_kept}
 use Rattle.map_core.proofs.invariants.SoundKeeper.{KeeperSound-write, ReaderSound-write}
-use Rattle.map_core.proofs.invariants.SoundKeeper.{KeeperSound-scan, ReaderSound-scan, seen_kept}
+use Rattle.map_core.proofs.invariants.SoundKeeper.{KeeperSound-scan, ReaderSound-scan}
 use Rattle.map_core.proofs.invariants.SoundReader.{KeeperSound-frame, same_after_pin, other_reader}
-use Rattle.map_core.proofs.invariants.SoundReader.{other_pin, ReaderSound-announce}
+use Rattle.map_core.proofs.invariants.SoundReader.{other_pin, ReaderSound-announce, version_of_now}
 use Rattle.map_core.proofs.invariants.SoundReader.{ReaderSound-confirm, ReaderSound-leave}
-use Rattle.map_core.proofs.invariants.SoundReader.{ReaderSound-load, version_of_now}
+use Rattle.map_core.proofs.invariants.SoundReader.{ReaderSound-load}
 use Rattle.map_core.proofs.invariants.TidyLog.{IsTidy-legal, after-push, blocks_after-push}
 
 -- an event keeps what holds of a world, and stores in no live block
@@ -51,11 +42,7 @@ slice_get-set [] i x j y is = absurd (cc)
 slice_get-set (z ∷ zs) zero x zero y is = inl (refl, cc)
 slice_get-set (z ∷ zs) zero x (suc j) y is = inr (λ same. absurd (omega arith), is)
 slice_get-set (z ∷ zs) (suc i) x zero y is = inr (λ same. absurd (omega arith), is)
-slice_get-set (z ∷ zs) (suc i) x (suc j) y is =
-    elim (slice_get-set zs i x j y is) [
-      | inl here ↦ inl (ap suc here.0, here.1)
-      | inr there ↦ inr (λ same. there.0 (omega arith), there.1)
-    ]
+slice_get-set (z ∷ zs) (suc i) x (suc j) y is = search (rules, slice_get-set zs i x j y is)
 
 -- where nothing is stored, no live block is stored in
 pub nothing_stored : (w : State) → SparesLive w None
@@ -72,11 +59,7 @@ now_stored w b i row live same = tile-now w.base b i (cc)
 -- a place where no kept version is read is no live block's
 spare_stored : (w : State) (at : ℕ) → IsWhole w → IsSpare w.base (story_of w) (blocks_of_state w) at
     → SparesLive w (Some at)
-spare_stored w at whole spare b i row live same =
-    let place : at ≡ tile_at w.base b i = cc in
-    spare.tile live.version live.position i (live_kept w whole live.version live.live) live.inside
-    row
-    (place ∙ ap (λ (block : ℕ). tile_at w.base block i) (sym live.there))
+spare_stored w at whole spare b i row live same = search (rules, live_kept)
 
 -- a whole world's story and blocks are tidy
 pub tidy_of : (w : State) → IsWhole w → IsTidy w.base (story_of w) (blocks_of_state w)
@@ -92,16 +75,11 @@ whole_pin w r word x y whole there sound =
     let inside : r < w.base.setting.sessions = omega arith in
     record {
       ready = whole.ready;
-      keeper = KeeperSound-frame w.base (story_of w) (blocks_of_state w) w.words
-          (set w.words (pin_at r) word) w.keeper (same_after_pin w.base w.words r word inside)
-          whole.keeper;
+      keeper = search (rules, KeeperSound-frame, same_after_pin);
       readers = length-set w.readers r y ∙ whole.readers;
       reader = λ q z is.
           elim (slice_get-set w.readers r y q z is) [
-            | inl here ↦ subst (λ (n : ℕ). ReaderSound w.base (story_of w)
-                (set w.words (pin_at r) word) w.keeper n z) here.0
-                (subst (λ (v : Reader). ReaderSound w.base (story_of w)
-                (set w.words (pin_at r) word) w.keeper r v) here.1 sound)
+            | inl here ↦ search rules
             | inr other ↦ other_reader w.base (story_of w) w.words
                 (set w.words (pin_at r) word) w.keeper q z (other_pin w.words r q word other.0)
                 (whole.reader q z other.1)
@@ -111,8 +89,7 @@ whole_pin w r word x y whole there sound =
 -- a reader's number is one of the setting's
 pub number_inside : (w : State) (r : ℕ) (x : Reader) → IsWhole w → slice_get w.readers r ≡ Some x
     → r < w.base.setting.sessions
-number_inside w r x whole there = let within = slice_get-lt w.readers r x there in
-    let count = whole.readers in omega arith
+number_inside w r x whole there = search (rules, slice_get-lt)
 
 -- an announcement keeps what holds of a world
 pub keeps-announce : (w : State) (r : ℕ) (x : Reader) → IsWhole w → slice_get w.readers r ≡ Some x
@@ -154,8 +131,7 @@ pub keeps-load : (w : State) (r : ℕ) (x : Reader) → IsWhole w → slice_get 
     })
 keeps-load w r x whole there =
     let version : newest (story_of w) ≡ version_told (get_or w.words now_at 0) =
-    sym (ap version_told whole.keeper.now
-    ∙ version_of_now w.base w.keeper.log whole.ready whole.keeper.legal) in
+    search (rules, version_of_now) in
     let loaded = ReaderSound-load w.base w.keeper.log (blocks_of_state w) w.words w.keeper.hand r x
     (tidy_of w whole) (whole.reader r x there) in
     let sound = subst (λ (n : ℕ). ReaderSound w.base
@@ -167,10 +143,7 @@ keeps-load w r x whole there =
       readers = length-set w.readers r _ ∙ whole.readers;
       reader = λ q z is.
           elim (slice_get-set w.readers r _ q z is) [
-            | inl here ↦ subst (λ (n : ℕ). ReaderSound w.base (story_of w) w.words w.keeper n z)
-                here.0
-                (subst (λ (v : Reader). ReaderSound w.base (story_of w) w.words w.keeper r v) here.1
-                sound)
+            | inl here ↦ search rules
             | inr other ↦ whole.reader q z other.1
           ];
     }
@@ -185,8 +158,7 @@ pub keeps-order : (w : State) (c : Command) → IsWhole w
     → IsWhole (in_hand w (Some record { command = c; done = 0; scanned = [] }))
 keeps-order w c whole accepted = record {
   ready = whole.ready;
-  keeper = KeeperSound-order w.base (story_of w)
-      (blocks_of_state w) w.words w.keeper.log w.keeper.hand c accepted whole.keeper;
+  keeper = search (rules, KeeperSound-order);
   readers = whole.readers;
   reader = λ r x there. ReaderSound-order w.base
       (story_of w) w.words w.keeper.log w.keeper.hand c r x (whole.reader r x there);
@@ -202,20 +174,17 @@ keeps-write w h whole publish more =
     let m = blocks_of_state w in
     let tidy : IsTidy k s m = tidy_of (in_hand w (Some h)) whole in
     let inhand : InHand k s m w.words h = whole.keeper.hand in
-    let accepted : refused k.setting s Publish ≡ None =
-    subst (λ (c : Command). refused k.setting s c ≡ None) publish inhand.accepted in
+    let accepted : refused k.setting s Publish ≡ None = search rules in
     record {
       whole = record {
         ready = whole.ready;
-        keeper = KeeperSound-write k s m w.words w.keeper.log h whole.ready tidy publish more
-            whole.keeper;
+        keeper = search (rules, KeeperSound-write);
         readers = whole.readers;
         reader = λ r x there. ReaderSound-write k s m w.words w.keeper.log h r x whole.ready tidy
             accepted more (number_inside (in_hand w (Some h)) r x whole there)
             (whole.reader r x there);
       };
-      spares = spare_stored (in_hand w (Some h)) (write_of k s m h.done).at whole
-          (spare_write k s m whole.ready tidy accepted h.done more);
+      spares = search (rules, spare_stored, spare_write);
     }
 
 -- a list has something at each place within it
@@ -247,8 +216,7 @@ keeps-scan w h whole collect more =
     record {
       whole = record {
         ready = whole.ready;
-        keeper = KeeperSound-scan k s m w.words w.keeper.log h
-            (get_or w.words (pin_at h.done) 0) collect (word_kept w h whole more) more whole.keeper;
+        keeper = search (rules, KeeperSound-scan, word_kept);
         readers = whole.readers;
         reader = λ r x there. ReaderSound-scan k s w.words w.keeper.log h r x inhand.scans
             (whole.reader r x there);

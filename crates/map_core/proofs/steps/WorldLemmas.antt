@@ -1,31 +1,17 @@
 -- A world by its parts: what an event does to them, and that what is kept besides its words stays
 -- right.
-use Rattle.std.proofs.Common.{◌≡◌, ℕ, suc, ◌+◌, ◌^◌, ◌<◌, List, length, get_or, set, map, refl, ap}
-use Rattle.std.proofs.Common.{subst, sym, ◌∙◌, arith}
-use Rattle.std.specs.Prelude.{Option, Some, None, Ok, Err, slice_get, option_map, IfSome}
-use Rattle.std.proofs.lemmas.List.{take_all}
+use Rattle.map_core.proofs.Names.{slice_get_within, length-map, rules, ◌≡◌, ℕ, suc, ◌+◌, ◌^◌, ◌<◌}
+use Rattle.map_core.proofs.Names.{List, length, get_or, set, map, ap, subst, sym, ◌∙◌, arith, Some}
+use Rattle.map_core.proofs.Names.{Option, None, Ok, Err, slice_get, take_all, inl, inr, Command}
+use Rattle.map_core.proofs.Names.{Entry, Event, StepReply, NotEnabled, Publish, Kept, Ledger, IsIn}
+use Rattle.map_core.proofs.Names.{members, first_free, with_version, IsLedger, IsBalanced, HasPlace}
+use Rattle.map_core.proofs.Names.{refused, Standing, Story, newest, kept, IsKept, Base, tiles, Hand}
+use Rattle.map_core.proofs.Names.{word_count, pin_at, map_at, slot_of, next_slot, Reader, State}
+use Rattle.map_core.proofs.Names.{story_of, blocks_of_state, Outcome, does, SafeStep, IsWhole, Room}
+use Rattle.map_core.proofs.Names.{Summary, reader_of, IsStanding, IsConsistent}
+use Rattle.std.specs.Prelude.{option_map}
 use Rattle.std.proofs.lemmas.Option.{slice_get-map}
-use mathlib.Core.Logic.{inl, inr}
-use Rattle.map_core.specs.declared.command.Command.{Command}
-use Rattle.map_core.specs.declared.command.Entry.{Entry}
-use Rattle.map_core.specs.declared.event.Event.{Event}
-use Rattle.map_core.specs.declared.event.StepReply.{StepReply}
-use Rattle.map_core.specs.declared.event.NotEnabled.{NotEnabled}
-use Rattle.map_core.specs.declared.command.Command.TheVariants.{Publish}
-use Rattle.map_core.specs.declared.kept.Kept.{Kept}
-use Rattle.map_core.specs.declared.ledger.Ledger.{Ledger}
-use Rattle.map_core.specs.Kept.{members, first_free, IsIn, with_version}
-use Rattle.map_core.specs.Ledger.{IsLedger, IsBalanced, HasPlace, HasNowRoom}
-use Rattle.map_core.specs.Legal.{refused}
-use Rattle.map_core.specs.declared.reader.Standing.{Standing}
-use Rattle.map_core.specs.Story.{Story, newest, kept, IsKept}
-use Rattle.map_core.specs.Words.{Base, tiles, word_count, pin_at, map_at, slot_of, next_slot}
-use Rattle.map_core.specs.Views.{Hand, Reader, State, story, story_of, blocks_of_state}
-use Rattle.map_core.specs.Steps.{Outcome, does}
-use Rattle.map_core.specs.Runs.{SafeStep}
-use Rattle.map_core.specs.Sound.{InHand, IsWhole}
-use Rattle.map_core.specs.Summary.{Summary}
-use Rattle.map_core.specs.Consistent.{reader_of, IsStanding, Room, IsConsistent}
+use Rattle.map_core.specs.Ledger.{HasNowRoom}
 use Rattle.map_core.proofs.steps.DoesLemmas.{does-keeps}
 use Rattle.map_core.proofs.logs.KeptLemmas.{first_free-le}
 use Rattle.map_core.proofs.shared_words.PlaceLemmas.{map-within}
@@ -38,27 +24,18 @@ use Rattle.map_core.proofs.steps.StepLemmas.{nothing_stored, slice_get-set, tidy
 -- what is found among the standings is what is kept of the reader
 pub standing_found : {xs standings : List Standing} (r : ℕ) {found o : Option Standing}
     → found ≡ slice_get xs r → xs ≡ standings → found ≡ o → slice_get standings r ≡ o
-standing_found {xs} {standings} r {found} {o} found_is same is =
-    ap (λ (ys : List Standing). slice_get ys r) (sym same) ∙ (sym found_is ∙ is)
+standing_found {xs} {standings} r {found} {o} found_is same is = search rules
 
 -- a reader of a world is what is kept of it, if there is one
 pub reader_got : (log : List Entry) (standings : List Standing) (r : ℕ) (found : Option Standing)
     → slice_get standings r ≡ found
     → slice_get (map (reader_of log) standings) r ≡ option_map (reader_of log) found
-reader_got log standings r found is =
-    slice_get-map (reader_of log) standings r ∙ ap (option_map (reader_of log)) is
+reader_got log standings r found is = search (rules, slice_get-map)
 
 -- an event that isn't enabled changes nothing
 pub safe_refused : (w : State) (e : Event) (why : NotEnabled) → IsWhole w → does w e ≡ None
     → SafeStep w e (Err why) w
-safe_refused w e why whole none = record {
-  stored = None;
-  step = record { not_enabled = none; stored_is = refl; same = refl };
-  safe = IsSafe-whole w whole;
-  spares = nothing_stored w;
-  grows = seen_stays w w refl;
-  sees = sees_none w e none;
-}
+safe_refused w e why whole none = grind (arith, IsSafe-whole, nothing_stored, seen_stays, sees_none)
 
 -- an event that is enabled does what it does, safely
 pub safe_done : (w : State) (e : Event) (o : Outcome) → IsWhole w → does w e ≡ Some o
@@ -110,37 +87,6 @@ consistent_reader w hand steps standings u room e words readers answer stored r 
       };
     }
 
--- a reader's word is one of the words
-pub reader_word : (w : State) (hand : Option Command) (steps : ℕ) (standings : List Standing)
-    (u : Summary) (room : Room) → IsConsistent w hand steps standings u room → (r : ℕ)
-    → r < length w.readers → pin_at r < length w.words
-unfolding word_count pin_at
-reader_word w hand steps standings u room consistent r h =
-    let sized = consistent.whole.keeper.sized in
-    let count = consistent.whole.readers in
-    omega arith
-
--- what is kept of a reader is right after it has seen the whole log
-pub place_whole : (w : State) (hand : Option Command) (steps : ℕ) (standings : List Standing)
-    (u : Summary) (room : Room) → IsConsistent w hand steps standings u room → (p : Standing)
-    → p.seen ≡ length w.keeper.log → p.version ≡ u.ledger.newest
-    → u.ledger.newest < 2 ^ 32 → IsStanding w.base w.keeper.log p
-place_whole w hand steps standings u room consistent p seen version small = record {
-  within = omega arith;
-  version_is = version
-      ∙ (consistent.summary.ledger_is.newest_is
-      ∙ ap (λ (l : List Entry). newest (story w.base l))
-      (sym (take_all p.seen w.keeper.log (omega arith))));
-  small = omega arith;
-}
-
--- there is a word NOW
-pub now_word_there : (w : State) (hand : Option Command) (steps : ℕ) (standings : List Standing)
-    (u : Summary) (room : Room) → IsConsistent w hand steps standings u room → 0 < length w.words
-unfolding word_count
-now_word_there w hand steps standings u room consistent =
-    let sized = consistent.whole.keeper.sized in omega arith
-
 -- a word of a directory is one of the words
 pub map_in_words : (w : State) → IsWhole w → (v p place : ℕ) → IsKept (story_of w) v
     → place ≡ map_at w.base (slot_of w.base (story_of w) v) p → p < tiles w.base
@@ -176,21 +122,13 @@ slot_found_is w whole l is v slot there =
 pub kept_in_ledger : (k : Base) (s : Story) (l : Ledger) → IsLedger k s l → (v : ℕ) → IsKept s v
     → IsIn l.kept v
 unfolding IsKept
-kept_in_ledger k s l is v h =
-    record {
-      slot = h.slot;
-      there = ap (λ (q : Kept). get_or q.slots h.slot 0) is.kept_is ∙ h.there;
-    }
+kept_in_ledger k s l is v h = search rules
 
 -- a publish that is accepted finds a slot of 64
 pub next_room : (w : State) → IsWhole w → (l : Ledger) → IsLedger w.base (story_of w) l
     → refused w.base.setting (story_of w) Publish ≡ None → length (members l.kept.slots) < 64
 unfolding kept
-next_room w whole l is accepted =
-    let room = room_for w.base.setting (story_of w) accepted in
-    let few = whole.ready.few_versions in
-    let same = ap (λ (q : Kept). length (members q.slots)) is.kept_is in
-    omega arith
+next_room w whole l is accepted = search (rules, room_for)
 
 -- the slot that is found for the next version is the next slot
 pub next_found_is : (w : State) (l : Ledger) → IsLedger w.base (story_of w) l → (slot : ℕ)
@@ -201,18 +139,12 @@ next_found_is w l is slot found = found ∙ ap (λ (q : Kept). first_free q.slot
 -- what NOW says of a ledger with one more entry has room
 pub now_room : (l new : Ledger) → IsBalanced l → HasPlace l
     → new ≡ record l { places = l.places + 1 } → HasNowRoom new
-now_room l new balanced left is =
-    let fewer = balanced.newest_in in
-    subst (λ (q : Ledger). HasNowRoom q) (sym is)
-    record { place = omega arith; version = omega arith; slot = balanced.small }
+now_room l new balanced left is = search rules
 
 -- what NOW says of a ledger after an entry that leaves newest and its slot has room
 pub now_room_same : (l new : Ledger) → IsBalanced l → HasPlace l → new.places ≡ l.places + 1
     → new.newest ≡ l.newest → new.slot ≡ l.slot → HasNowRoom new
-now_room_same l new balanced left places newest slot =
-    let fewer = balanced.newest_in in
-    let small = balanced.small in
-    record { place = omega arith; version = omega arith; slot = omega arith }
+now_room_same l new balanced left places newest slot = search rules
 
 -- what NOW says of a ledger after a publish has room
 pub now_room_published : (l new : Ledger) → IsBalanced l → HasPlace l
@@ -223,36 +155,38 @@ pub now_room_published : (l new : Ledger) → IsBalanced l → HasPlace l
       slot = first_free l.kept.slots;
       kept = with_version l.kept (l.newest + 1);
     } → HasNowRoom new
-now_room_published l new balanced left room is =
-    let fewer = balanced.newest_in in
-    let low = first_free-le l.kept.slots in
-    subst (λ (q : Ledger). HasNowRoom q) (sym is)
-    record { place = omega arith; version = omega arith; slot = omega arith }
+now_room_published l new balanced left room is = search (rules, first_free-le)
 
 -- the current command was accepted
 pub accepted_in : (w : State) (h : Hand) (c : Command) → IsWhole w → w.keeper.hand ≡ Some h
     → h.command ≡ c → refused w.base.setting (story_of w) c ≡ None
-accepted_in w h c whole there is =
-    let inhand : InHand w.base (story_of w) (blocks_of_state w) w.words h =
-    subst (λ (o : Option Hand). IfSome o (InHand w.base (story_of w) (blocks_of_state w) w.words))
-    there whole.keeper.hand in
-    subst (λ (d : Command). refused w.base.setting (story_of w) d ≡ None) is inhand.accepted
+accepted_in w h c whole there is = search rules
 
--- the room of the log doesn't matter where there is no current command
-pub consistent_log_room : (w : State) (hand : Option Command) (steps : ℕ)
-    (standings : List Standing) (u : Summary) (room : Room)
-    → IsConsistent w hand steps standings u room → w.keeper.hand ≡ None → (log : ℕ)
-    → IsConsistent w hand steps standings u record room { log = log }
-consistent_log_room w hand steps standings u room consistent none log = record {
-  whole = consistent.whole;
-  steps = consistent.steps;
-  standing = consistent.standing;
-  summary = consistent.summary;
-  roomy = record {
-    log = subst (λ (o : Option Hand). IfSome o (λ h. length w.keeper.log < log)) (sym none) tt;
-    scanned = consistent.roomy.scanned;
-    free = consistent.roomy.free;
-    retired = consistent.roomy.retired;
-    scratch = consistent.roomy.scratch;
-  };
-}
+module _ {w : State} {hand : Option Command} {steps : ℕ} {standings : List Standing} {u : Summary}
+    {room : Room} (consistent : IsConsistent w hand steps standings u room) where
+  -- a reader's word is one of the words
+  pub reader_word : (log : List Entry) (r : ℕ) (p : Standing)
+      → w.readers ≡ map (reader_of log) standings → slice_get standings r ≡ Some p
+      → pin_at r < length w.words
+  unfolding word_count pin_at
+  reader_word log r p readers there =
+      let within = slice_get_within standings r p there in
+      let size = ap length readers ∙ length-map standings (reader_of log) in
+      let sized = consistent.whole.keeper.sized in
+      let count = consistent.whole.readers in
+      omega arith
+
+  -- what is kept of a reader is right after it has seen the whole log
+  pub place_whole : (p : Standing) → p.seen ≡ length w.keeper.log → p.version ≡ u.ledger.newest
+      → u.ledger.newest < 2 ^ 32 → IsStanding w.base w.keeper.log p
+  place_whole p seen version small = search (rules, take_all)
+
+  -- there is a word NOW
+  pub now_word_there : 0 < length w.words
+  unfolding word_count
+  now_word_there = search rules
+
+  -- the room of the log doesn't matter where there is no current command
+  pub consistent_log_room : w.keeper.hand ≡ None → (log : ℕ)
+      → IsConsistent w hand steps standings u record room { log = log }
+  consistent_log_room none log = search rules

@@ -1,11 +1,6 @@
 -- The cells of a row, of two words next to one another, or of none.
-use Rattle.std.proofs.Common.{arith}
-use Rattle.bits.proofs.LayLemmas.{row_from_bits, row_from_none}
+use Rattle.bits.proofs.LayLemmas.{row_from_bits}
 use Rattle.bits.proofs.lay.row_from.Goals as goal
-
-pub returns-then-height-y : goal.returns-then-height-y
-returns-then-height-y c j h =
-    row_from_none c.args.bitmap.now c.args.x c.args.y c.height.ensures.bitmap (omega arith) j
 
 pub returns : goal.returns
 returns c =

@@ -1,7 +1,7 @@
 -- The words before the next one are written.
 use Rattle.std.proofs.Common.{◌≡◌}
 use Rattle.bits.specs.Stored.{cells_stored, IsStored}
-use Rattle.bits.proofs.RowLemmas.{row_front}
+use Rattle.bits.proofs.PutLemmas.{row_front}
 use Rattle.bits.proofs.write.write_row.Given as goal
 
 abbrev pub invariant-words : goal.invariant-words

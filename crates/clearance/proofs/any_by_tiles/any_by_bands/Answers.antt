@@ -48,7 +48,8 @@ bands-preserved g c =
       rows = c.any_in_band.ensures.rows ∙ c.bands.invariant.rows;
       far = IsSpotBelow-band_more g.M.Metric.distance cells (IsObstacle cells) c.args.rect
           c.without_bit-bands.result c.bands.band c.next_tile-band-in-bands.result c.args.limit
-          None None None live (λ a b here. here) (omega arith) c.next_tile-band-in-bands.ensures.none
+          None None None live (λ a b here. here) (omega arith)
+          c.next_tile-band-in-bands.ensures.none
           c.bands.invariant.far next refl;
       few = c.next_tile-band-in-bands.ensures.few;
     }

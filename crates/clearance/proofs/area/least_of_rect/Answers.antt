@@ -1,16 +1,7 @@
 -- The least over the rectangle, and the first cell that reaches it.
 use Rattle.bits.specs.Edges.{IsBlocked}
-use Rattle.clearance.proofs.RectFirsts.{IsLeastBelow-none, IsLeastOf-rect, IsRectNear-least}
+use Rattle.clearance.proofs.RectFirsts.{IsLeastBelow-none, IsLeastOf-rect}
 use Rattle.clearance.proofs.area.least_of_rect.Goals as goal
-
-pub first_of_rect-requires : goal.first_of_rect-requires
-first_of_rect-requires g c =
-    rw (c.least_below-least.ensures.rows)
-    (record {
-      rect = c.requires;
-      some = IsRectNear-least _ _ c.args.rect 4294967296 c.least_below-least.result
-          c.least_below-least.ensures.least c.if-least-ge-NO_LIMIT.false;
-    })
 
 pub returns-then-least-ge-NO_LIMIT-clause-found : goal.returns-then-least-ge-NO_LIMIT-clause-found
 returns-then-least-ge-NO_LIMIT-clause-found g c =

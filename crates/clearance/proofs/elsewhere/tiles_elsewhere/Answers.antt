@@ -1,6 +1,5 @@
 -- The bit of the seed's tile is cleared, and no other.
-use Rattle.std.proofs.Common.{◌≡◌, ℕ, ◌/◌, ◌∙◌, subst, arith}
-use Rattle.std.specs.Int.{bit_at}
+use Rattle.std.proofs.Common.{◌/◌, ◌∙◌, arith}
 use Rattle.clearance.proofs.Searches.{obstacle_within}
 use Rattle.clearance.proofs.elsewhere.tiles_elsewhere.Goals as goal
 
@@ -11,13 +10,3 @@ returns-then-band-seed-clause-all g c = λ a b other here.
     let same = c.if-band-seed.true in
     c.without_bit.ensures.kept (a / 64) (omega arith)
     (λ is. other.1 (omega arith, is)) ∙ c.tiles-tiles.ensures a b other.0 here
-
-pub returns-then-band-seed-clause-only : goal.returns-then-band-seed-clause-only
-returns-then-band-seed-clause-only g c = λ a b here.
-    let gone = c.without_bit.ensures.gone in (
-      here.0.0,
-      λ both.
-          let bit : bit_at c.without_bit.result c.args.seed.tile ≡ 1 =
-          subst (λ (k : ℕ). bit_at c.without_bit.result k ≡ 1) both.1 here.1 in
-          absurd (omega arith),
-    )

@@ -3,12 +3,6 @@ use Rattle.std.proofs.Common.{Some, None, arith}
 use Rattle.clearance.proofs.FarSpots.{IsLeastInBits-none, IsLeastInBits-some, IsSpotBelow-elsewhere}
 use Rattle.clearance.proofs.far.least_elsewhere.Goals as goal
 
-pub returns-then-limit-eq0-clause-least : goal.returns-then-limit-eq0-clause-least
-returns-then-limit-eq0-clause-least g c =
-    IsLeastInBits-none g.M.Metric.distance g.met.M.Metric.grows g.met.M.Metric.stays_nearer
-    (g.R.Rows.cells c.args.rows.now) c.args.rect c.args.limit c.requires.rect.bitmap
-    (λ a b obstacle. record { not_below = omega arith; is_limit = omega arith })
-
 pub returns-in-Some-clause-least : goal.returns-in-Some-clause-least
 returns-in-Some-clause-least g c =
     let is = c.distance_of.ensures.is in

@@ -12,10 +12,3 @@ returns-then-are_tiles_far-clause-far g c = λ yes.
     (IsBandFar-tiles g.M.Metric.distance cells c.args.rect away c.args.least c.tiles-tiles.result
     c.args.band c.height-few.ensures.bitmap c.tiles-tiles.ensures
     (c.if-are_tiles_far.ensures refl))
-
-pub returns-clause-far : goal.returns-clause-far
-returns-clause-far g c = λ yes.
-    IsBandFar-away g.M.Metric.distance (g.R.Rows.cells c.args.rows.now) c.args.rect c.args.gap
-    c.max-away.result c.args.least c.args.band
-    (λ b here beyond. let apart = c.rows_apart-apart.ensures.apart b here in omega arith)
-    (c.are_columns_far.ensures.far yes)

@@ -1,15 +1,7 @@
 -- Band by band outwards, up to the first that stays.
-use Rattle.std.proofs.Common.{◌-◌, ◌∙◌, refl, arith}
-use Rattle.clearance.proofs.TileRows.{IsThinned-more, IsThinned-same, IsThinned-without}
+use Rattle.std.proofs.Common.{◌-◌, ◌∙◌, arith}
+use Rattle.clearance.proofs.TileRows.{IsThinned-more, IsThinned-without}
 use Rattle.clearance.proofs.far_bands.without_above.Goals as goal
-
-pub upwards-init : goal.upwards-init
-upwards-init g c = record {
-  rows = refl;
-  thinned = IsThinned-same g.M.Metric.distance
-      (g.R.Rows.cells c.args.rows.now) c.args.rect c.args.gap c.args.least c.args.bands;
-  few = omega arith;
-}
 
 pub upwards-preserved : goal.upwards-preserved
 upwards-preserved g c =

@@ -1,15 +1,7 @@
 -- Band by band outwards, up to the first that stays.
-use Rattle.std.proofs.Common.{◌∙◌, refl, arith}
-use Rattle.clearance.proofs.TileRows.{IsThinned-more, IsThinned-same, IsThinned-without}
+use Rattle.std.proofs.Common.{◌∙◌}
+use Rattle.clearance.proofs.TileRows.{IsThinned-more, IsThinned-without}
 use Rattle.clearance.proofs.far_bands.without_below.Goals as goal
-
-pub downwards-init : goal.downwards-init
-downwards-init g c = record {
-  rows = refl;
-  thinned = IsThinned-same g.M.Metric.distance
-      (g.R.Rows.cells c.args.rows.now) c.args.rect c.args.gap c.args.least c.args.bands;
-  few = omega arith;
-}
 
 pub downwards-preserved : goal.downwards-preserved
 downwards-preserved g c =
@@ -23,6 +15,7 @@ downwards-preserved g c =
           c.downwards.left c.without_bit-left.result c.downwards.invariant.thinned
           (IsThinned-without g.M.Metric.distance (g.R.Rows.cells c.args.rows.now) c.args.rect
           c.args.gap c.args.least c.downwards.left c.without_bit-left.result
-          (c.downwards.band) bitmap (far c.if-not-is_band_far.false) c.without_bit-left.ensures.kept);
+          (c.downwards.band) bitmap (far c.if-not-is_band_far.false)
+          c.without_bit-left.ensures.kept);
       few = c.next_tile-band-in-downwards.ensures.few;
     }

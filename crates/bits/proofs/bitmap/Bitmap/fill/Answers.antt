@@ -1,7 +1,7 @@
 -- Each step of the filling, by the lemma of that step.
-use Rattle.std.proofs.Common.{◌∙◌, sym, arith}
-use Rattle.bits.proofs.FillLemmas.{filling_none, filling_kept, filling_set, filling_row}
-use Rattle.bits.proofs.FillLemmas.{filling_all, filling_bitmap, filling_fits, other_value}
+use Rattle.std.proofs.Common.{◌∙◌, refl, sym, arith}
+use Rattle.bits.proofs.FillLemmas.{filling_none, filling_kept, filling_set}
+use Rattle.bits.proofs.FillLemmas.{filling_all, other_value}
 use Rattle.bits.proofs.FillLemmas.{same_value}
 use Rattle.bits.proofs.bitmap.Bitmap.fill.Goals as goal
 use Rattle.bits.proofs.bitmap.Bitmap.fill.Goals.{then-get-black, else-get-black}
@@ -9,15 +9,12 @@ use Rattle.bits.proofs.bitmap.Bitmap.fill.Goals.{then-get-black, else-get-black}
 pub rows-init : goal.rows-init
 rows-init c = filling_none _ c.holds_rect-holds.ensures.bitmap _ _ _ _
 
-pub overflow_add-changed : goal.overflow_add-changed
-overflow_add-changed c = omega (arith, filling_fits _ _ _ _ _ _ _ _ _ c.columns.invariant)
-
 pub columns-preserved : goal.columns-preserved
 columns-preserved c =
     elim c.if-get-black.branch [
       | then-get-black w ↦ rw (w.self-is, w.changed-is)
-          (filling_set _ _ _ _ _ _ _ _ _ _ c.columns.invariant (omega arith) (omega arith)
-          (omega arith)
+          (filling_set _ _ _ _ _ _ _ _ _ c.columns.invariant _ _ (omega arith) (omega arith)
+          (omega arith) refl
           (λ e. other_value _ _ w.if-get-black.true (c.get.ensures ∙ e))
           w.set.ensures.written)
       | else-get-black w ↦ rw (w.self-is, w.changed-is)
@@ -25,11 +22,5 @@ columns-preserved c =
           (sym c.get.ensures ∙ same_value _ _ w.if-get-black.false))
     ]
 
-pub rows-preserved : goal.rows-preserved
-rows-preserved c = filling_row _ _ _ _ _ _ _ _ _ c.columns.invariant (omega arith) (omega arith)
-
 pub returns-clause-filled : goal.returns-clause-filled
-returns-clause-filled c = filling_all _ _ _ _ _ _ _ _ _ c.rows.invariant (omega arith)
-
-pub returns-clause-bitmap : goal.returns-clause-bitmap
-returns-clause-bitmap c = filling_bitmap _ _ _ _ _ _ _ _ _ c.rows.invariant
+returns-clause-filled c = grind (arith, filling_all)

@@ -1,91 +1,39 @@
 -- The write changes the tile's cells, and no other; none past the edge. Its mark is that of its new
 -- cells. Where neither the new cells nor the old ones have an obstacle, nothing changes.
-use Rattle.std.proofs.Common.{◌≡◌, ◌/◌, ◌%◌, List, ℕ, vec_len, length, sym, subst, ap, ◌∙◌}
-use Rattle.std.proofs.Common.{refl, arith, rules, true, false}
+use Rattle.std.proofs.Common.{◌/◌, ◌%◌, inl, inr, arith, rules}
+use Rattle.std.proofs.lemmas.Bool.{cases_eq, eqb-true, eqb-false, both_ways}
 use Rattle.std.proofs.lemmas.List.{with_items_is}
-use Rattle.bits.specs.Bands.{IsBanded, AreBandsKept, AreTiled}
-use Rattle.bits.specs.Cells.{Cells}
-use Rattle.bits.specs.Words.{words_across}
-use Rattle.bits.specs.Stored.{cells_stored}
-use Rattle.bits.specs.Writes.{with_tile}
 use Rattle.bits.proofs.StoredLemmas.{IsBitmap-cells_stored}
-use Rattle.bits.proofs.RenewLemmas.{AreTiled-renewed, IsBanded-renewed, IsRenewal}
-use Rattle.bits.proofs.RenewLemmas.{with_tile-none}
+use Rattle.bits.proofs.BandLemmas.{kept_written}
+use Rattle.bits.proofs.PutLemmas.{tile_parts, tile_again, with_tile-none}
 use Rattle.bits.proofs.bitmap.Bitmap.renew_tile.Goals as goal
 
 pub returns-then-not-has_bit-clause-written : goal.returns-then-not-has_bit-clause-written
 returns-then-not-has_bit-clause-written c =
-    let none : c.all_bits-all.result ≡ 0 = omega (arith, c.if-all-eq0.true) in
-    rw (← c.self.view_is) (sym (with_tile-none
-    (cells_stored c.self.inside.width c.self.inside.height c.self.inside.words.items)
-    c.args.position c.tiles_across-across.result _ _ c.all_bits-all.result c.args.words.now
-    c.self.inside.marks
-    record {
-      bitmap = IsBitmap-cells_stored _ _ _ c.self.invariant.stored;
-      wide = c.tiles_across-across.ensures.across
-          ∙ ap (λ (cells : Cells). words_across cells.width) (sym c.self.view_is);
-      band_is = refl;
-      index_is = refl;
-      many = omega arith;
-      joined = c.all_bits-all.ensures;
-    } c.self.invariant.tiled none
-    (λ one. let has : c.has_bit.result ≡ true =
-    c.has_bit.ensures.1 (rw (c.of.ensures, c.from.ensures) one) in
-    let not : c.has_bit.result ≡ false = c.if-not-has_bit.true in
-    absurd (cc))))
-
-pub returns-then-not-has_bit-clause-bitmap : goal.returns-then-not-has_bit-clause-bitmap
-returns-then-not-has_bit-clause-bitmap c =
-    rw (← c.self.view_is) (IsBitmap-cells_stored _ _ _ c.self.invariant.stored)
-
-pub returns-clause-written : goal.returns-clause-written
-returns-clause-written c =
-    let lent : c.as_mut_slice-cells.result.now ≡ c.self.inside.words.items = search rules in
-    let written = rw lent at c.write_tile.ensures.written in
-    let len : vec_len c.self.inside.words ≡ length c.self.inside.words.items = search rules in
-    let same = with_items_is c.self.inside.words c.write_tile.new.words
-    (c.write_tile.ensures.stored.as_many ∙ sym (len ∙ c.self.invariant.stored.as_many)) in
-    rw (← c.self.view_is)
-    (subst (λ (words : List ℕ). cells_stored c.self.inside.width c.self.inside.height words
-    ≡ with_tile (cells_stored c.self.inside.width c.self.inside.height c.self.inside.words.items)
-    c.args.position c.args.words.now) (sym same) written)
+    grind (arith, with_tile-none, IsBitmap-cells_stored, both_ways)
 
 pub invariant_of-self : goal.invariant_of-self
 invariant_of-self c =
-    let lent : c.as_mut_slice-cells.result.now ≡ c.self.inside.words.items = search rules in
-    let written = rw lent at c.write_tile.ensures.written in
-    let len : vec_len c.self.inside.words ≡ length c.self.inside.words.items = search rules in
-    let same = with_items_is c.self.inside.words c.write_tile.new.words
-    (c.write_tile.ensures.stored.as_many ∙ sym (len ∙ c.self.invariant.stored.as_many)) in
-    let old : Cells =
-    cells_stored c.self.inside.width c.self.inside.height c.self.inside.words.items in
-    let renewal : IsRenewal old c.args.position c.tiles_across-across.result
-    (c.args.position / c.tiles_across-across.result)
-    (c.args.position % c.tiles_across-across.result) c.all_bits-all.result
-    c.args.words.now = record {
-      bitmap = IsBitmap-cells_stored _ _ _ c.self.invariant.stored;
-      wide = c.tiles_across-across.ensures.across
-          ∙ ap (λ (cells : Cells). words_across cells.width) (sym c.self.view_is);
-      band_is = refl;
-      index_is = refl;
-      many = omega arith;
-      joined = c.all_bits-all.ensures;
-    } in
-    let tiled : AreTiled (with_tile old c.args.position c.args.words.now) c.renew.new.self =
-    AreTiled-renewed old c.args.position c.tiles_across-across.result _ _ c.all_bits-all.result
-    c.args.words.now c.self.inside.marks c.renew.new.self renewal c.self.invariant.tiled
-    c.renew.ensures.here c.renew.ensures.kept in
-    subst (λ (words : List ℕ). AreBandsKept c.self.inside.width c.self.inside.height words
-    c.renewed-self-inside.result c.renew.new.self) (sym same) record {
-      stored = c.write_tile.ensures.stored;
-      banded = subst (λ (cells : Cells). IsBanded cells c.renewed-self-inside.result)
-          (sym written) (IsBanded-renewed old c.args.position c.tiles_across-across.result _ _
-          c.all_bits-all.result c.args.words.now c.renew.new.self c.self.inside.bands
-          c.renewed-self-inside.result renewal c.self.invariant.banded tiled
-          (rw (c.of-2.ensures) at c.renewed-self-inside.ensures.here)
-          c.renewed-self-inside.ensures.kept);
-      tiled = subst (λ (cells : Cells). AreTiled cells c.renew.new.self) (sym written) tiled;
-    }
-
-pub returns-clause-bitmap : goal.returns-clause-bitmap
-returns-clause-bitmap c = IsBitmap-cells_stored _ _ _ (invariant_of-self c).stored
+    let wide = rw (← c.self.view_is) at c.tiles_across-across.ensures.across in
+    rw (with_items_is c.self.inside.words c.write_tile.new.words (search rules))
+    (kept_written _ _ _ _ _ _ _ _ _ _ c.self.invariant c.write_tile.ensures.stored
+    (rw c.as_mut_slice-cells.ensures.value at c.write_tile.ensures.written)
+    (λ a b column row here one.
+    let at = tile_parts _ a b c.args.position _ column wide (eqb-true _ _ here) in
+    let marked = c.renew.ensures.here (a % 64)
+    (c.all_bits-all.ensures (b % 64) (a % 64) (omega arith) (eqb-true _ _ one)) in
+    rw (at.0, at.1) (
+      c.renewed-self-inside.ensures.here (c.args.position % c.tiles_across-across.result)
+          (rw (c.of-2.ensures) marked),
+      marked,
+    ))
+    (λ a b column row other seen.
+    let marked = c.renew.ensures.kept (b / 64) (a / 64) (omega arith) (λ down across.
+    eqb-false _ _ other (tile_again _ a b c.args.position _ wide down across)) seen.1 in (
+      elim (cases_eq (b / 64) (c.args.position / c.tiles_across-across.result)) [
+        | inl same ↦ rw same (c.renewed-self-inside.ensures.here (a / 64)
+            (rw (c.of-2.ensures) (rw same at marked)))
+        | inr apart ↦ c.renewed-self-inside.ensures.kept (b / 64) (omega arith) apart seen.0
+      ],
+      marked,
+    )))

@@ -4,5 +4,6 @@ use Rattle.bits.proofs.bitmap.Bitmap.row_words.Goals as goal
 
 pub returns : goal.returns
 returns c =
-    IsRowOf_read _ _ _ c.args.self.now c.self.invariant.stored c.self.view_is c.args.y _ _ _
-    c.requires c.from.ensures c.words_across-across.ensures.words c.deref.ensures.value
+    rw (← c.self.view_is, c.deref.ensures.value) (IsRowOf_read _ _ _ c.self.invariant.stored
+    c.args.y _ _ (rw (← c.self.view_is) at c.requires) c.from.ensures
+    (rw (← c.self.view_is) at c.words_across-across.ensures.words))

@@ -1,7 +1,7 @@
 -- A row that changes, or none.
 use Rattle.std.proofs.Common.{◌∙◌, rules, arith}
 use Rattle.bits.specs.TileWords.{every}
-use Rattle.bits.proofs.TileBitsLemmas.{row_would_change, nothing_would_change}
+use Rattle.bits.proofs.TileBitsLemmas.{row_would_change}
 use Rattle.bits.proofs.tile_bits.TileBits.would_change.Goals as goal
 
 pub returns-then-filled-old : goal.returns-then-filled-old
@@ -10,7 +10,3 @@ returns-then-filled-old c =
     (row_would_change _ _ _ _ _ c.rows.y (every c.args.black) _ (omega arith) (omega arith)
     (omega arith) (search rules)
     (λ e. c.if-filled-old.true (c.filled.ensures ∙ e)))
-
-pub returns : goal.returns
-returns c = rw (← c.from-from.ensures, ← c.from-to.ensures)
-    (nothing_would_change _ _ _ _ _ c.rows.y (every c.args.black) c.rows.invariant (omega arith))

@@ -2,7 +2,7 @@
 use Rattle.std.proofs.Common.{◌≡◌, ◌+◌, ◌-◌, inl, inr, arith}
 use Rattle.std.proofs.lemmas.Bool.{cases_lt}
 use Rattle.clearance.specs.Search.{row_gap}
-use Rattle.clearance.proofs.LineFirsts.{IsFirstAmong-left, IsFirstAmong-more, row_gap-fewer}
+use Rattle.clearance.proofs.LineFirsts.{IsFirstAmong-more, row_gap-fewer}
 use Rattle.clearance.proofs.lines.Lines.first_beside.Goals as goal
 
 pub first_below-requires-clause-below : goal.first_below-requires-clause-below
@@ -19,12 +19,6 @@ first_below-requires-clause-below g c =
     let inner = row_gap-fewer c.args.self c.args.end above.result rect less
     (less.y1 - 1) above.ensures.found.within c.requires.lines c.rect_left-left.ensures.lines in
     omega arith
-
-pub returns-then-above-self-clause-found : goal.returns-then-above-self-clause-found
-returns-then-above-self-clause-found g c =
-    IsFirstAmong-left g.M.Metric.distance (g.R.Rows.cells c.args.rows.now) c.args.self
-    (λ b. b + c.args.gap ≡ c.args.rect.y0) (λ b. row_gap c.args.rect b ≡ c.args.gap)
-    c.args.end c.first_above-above.result c.if-above-self.true c.first_above-above.ensures.found
 
 pub returns-clause-found : goal.returns-clause-found
 returns-clause-found g c =

@@ -1,14 +1,6 @@
 -- The frame first, and then the map's own obstacles.
-use Rattle.clearance.proofs.LineFirsts.{IsFirstBefore-none, IsFirstBefore-wall}
+use Rattle.clearance.proofs.LineFirsts.{IsFirstBefore-wall}
 use Rattle.clearance.proofs.lines.Lines.first_walled.Goals as goal
-
-pub returns-then-framed-self-clause-found : goal.returns-then-framed-self-clause-found
-returns-then-framed-self-clause-found g c =
-    let framed = c.first_framed-framed in
-    IsFirstBefore-wall g.M.Metric.distance (g.R.Rows.cells c.args.rows.now) c.args.self c.args.end
-    framed.result framed.result framed.ensures.found
-    (IsFirstBefore-none g.M.Metric.distance _ c.args.self framed.result framed.ensures.found.from
-    c.if-framed-self.true)
 
 pub returns-clause-found : goal.returns-clause-found
 returns-clause-found g c =

@@ -1,9 +1,8 @@
 -- The one step of a checkpoint is safe: NOW has room for it, and what is kept tells the log with
 -- its entry.
-use Rattle.std.proofs.Common.{ap, arith, refl}
-use Rattle.map_core.specs.declared.ledger.Ledger.{Ledger}
+use Rattle.map_core.proofs.Names.{ap, arith, refl, Ledger}
 use Rattle.map_core.proofs.steps.CommitWorld.{last_known, last_does, consistent_commit}
-use Rattle.map_core.proofs.steps.CommitWorld.{place_in_hand, reply_checkpoint}
+use Rattle.map_core.proofs.steps.CommitWorld.{place_of_last, reply_checkpoint}
 use Rattle.map_core.proofs.logs.JudgeLemmas.{balanced_ledger}
 use Rattle.map_core.proofs.logs.LedgerLemmas.{ledger_checkpoint, now_of_ledger}
 use Rattle.map_core.proofs.logs.SummaryDraw.{summary_checkpoint}
@@ -12,26 +11,22 @@ use Rattle.map_core.proofs.world.World.checkpoint.Goals as goal
 
 pub enter_checkpoint-reply-requires : goal.enter_checkpoint-reply-requires
 enter_checkpoint-reply-requires c =
-    place_in_hand _ _ _ _ _ _ c.self.invariant _ _ _ refl
-    (last_known c.args.self.now _ _ c.self.inside.hand _ _ c.self.view_is refl c.requires).0
+    place_of_last c.self.invariant _ _ c.self.view_is refl c.requires
 
 pub commit-requires-clause-now : goal.commit-requires-clause-now
 commit-requires-clause-now c =
     let entered = c.enter_checkpoint-reply.ensures.entered in
-    let place = place_in_hand _ _ _ _ _ _ c.self.invariant _ _ _ refl
-    (last_known c.args.self.now _ _ c.self.inside.hand _ _ c.self.view_is refl c.requires).0 in
-    now_room_same _ _ (balanced_ledger _ _ _ _ _ _ c.self.invariant) place
+    let place = place_of_last c.self.invariant _ _ c.self.view_is refl c.requires in
+    now_room_same _ _ (balanced_ledger c.self.invariant) place
     (ap (λ (l : Ledger). l.places) entered) (ap (λ (l : Ledger). l.newest) entered)
     (ap (λ (l : Ledger). l.slot) entered)
 
 pub index_mut-requires : goal.index_mut-requires
-index_mut-requires c =
-    omega (arith, now_word_there _ _ _ _ _ _ c.self.invariant, c.self.inside.words.ok)
+index_mut-requires c = omega (arith, now_word_there c.self.invariant, c.self.inside.words.ok)
 
 pub invariant_of-self : goal.invariant_of-self
 invariant_of-self c =
-    let known = last_known c.args.self.now _ _ c.self.inside.hand _ _ c.self.view_is refl c.requires
-    in
+    let known = last_known c.self.inside.hand _ _ c.self.view_is refl c.requires in
     let entered = ledger_checkpoint _ _ _ c.enter_checkpoint-reply.new.self
     c.enter_checkpoint-reply.result c.self.invariant.summary.ledger_is
     c.enter_checkpoint-reply.ensures.entered in
@@ -47,8 +42,7 @@ invariant_of-self c =
 
 pub returns : goal.returns
 returns c =
-    let known = last_known c.args.self.now _ _ c.self.inside.hand _ _ c.self.view_is refl c.requires
-    in
+    let known = last_known c.self.inside.hand _ _ c.self.view_is refl c.requires in
     let entered = ledger_checkpoint _ _ _ c.enter_checkpoint-reply.new.self
     c.enter_checkpoint-reply.result c.self.invariant.summary.ledger_is
     c.enter_checkpoint-reply.ensures.entered in

@@ -1,11 +1,9 @@
 -- The last step of a collect is safe: what is kept after the blocks went back tells the log with
 -- its entry.
-use Rattle.std.proofs.Common.{ap, ◌≡◌, ◌-◌, arith, refl, length}
-use Rattle.map_core.specs.declared.ledger.Ledger.{Ledger}
-use Rattle.map_core.proofs.steps.CollectWorld.{kept_collect, reply_collect, room_retired}
-use Rattle.map_core.proofs.steps.CollectWorld.{choice_collect, stay_few}
-use Rattle.map_core.proofs.steps.CommitWorld.{last_known, last_does, consistent_commit}
-use Rattle.map_core.proofs.steps.CommitWorld.{place_in_hand}
+use Rattle.map_core.proofs.Names.{ap, ◌≡◌, ◌-◌, arith, refl, length, Ledger}
+use Rattle.map_core.proofs.steps.CommitWorld.{kept_collect, reply_collect, room_retired, stay_few}
+use Rattle.map_core.proofs.steps.CommitWorld.{choice_collect, last_known, last_does, place_of_last}
+use Rattle.map_core.proofs.steps.CommitWorld.{consistent_commit}
 use Rattle.map_core.proofs.logs.JudgeLemmas.{balanced_ledger}
 use Rattle.map_core.proofs.logs.LedgerLemmas.{ledger_collect, now_of_ledger}
 use Rattle.map_core.proofs.steps.StepLemmas.{tidy_of}
@@ -14,7 +12,7 @@ use Rattle.map_core.proofs.steps.WorldLemmas.{safe_done, now_word_there, now_roo
 use Rattle.map_core.proofs.world.World.collect.Goals as goal
 
 pub give_back_retired-requires : goal.give_back_retired-requires
-give_back_retired-requires c = (room_retired _ _ _ _ _ _ c.self.invariant).0
+give_back_retired-requires c = (room_retired c.self.invariant).0
 
 pub overflow_sub-freed : goal.overflow_sub-freed
 overflow_sub-freed c =
@@ -34,38 +32,34 @@ overflow_cast-freed c =
       arith,
       c.len-before.ensures,
       c.self.inside.retired.ok,
-      (room_retired _ _ _ _ _ _ c.self.invariant).1,
+      (room_retired c.self.invariant).1,
     )
 
 pub enter_collect-reply-requires : goal.enter_collect-reply-requires
 enter_collect-reply-requires c =
-    place_in_hand _ _ _ _ _ _ c.self.invariant _ _ _ refl
-    (last_known c.args.self.now _ _ c.self.inside.hand _ _ c.self.view_is refl c.requires).0
+    place_of_last c.self.invariant _ _ c.self.view_is refl c.requires
 
 pub commit-requires-clause-now : goal.commit-requires-clause-now
 commit-requires-clause-now c =
     let entered = c.enter_collect-reply.ensures.entered in
-    let place = place_in_hand _ _ _ _ _ _ c.self.invariant _ _ _ refl
-    (last_known c.args.self.now _ _ c.self.inside.hand _ _ c.self.view_is refl c.requires).0 in
-    now_room_same _ _ (balanced_ledger _ _ _ _ _ _ c.self.invariant) place
+    let place = place_of_last c.self.invariant _ _ c.self.view_is refl c.requires in
+    now_room_same _ _ (balanced_ledger c.self.invariant) place
     (ap (λ (l : Ledger). l.places) entered) (ap (λ (l : Ledger). l.newest) entered)
     (ap (λ (l : Ledger). l.slot) entered)
 
 pub index_mut-requires : goal.index_mut-requires
-index_mut-requires c =
-    omega (arith, now_word_there _ _ _ _ _ _ c.self.invariant, c.self.inside.words.ok)
+index_mut-requires c = omega (arith, now_word_there c.self.invariant, c.self.inside.words.ok)
 
 pub invariant_of-self : goal.invariant_of-self
 invariant_of-self c =
-    let known = last_known c.args.self.now _ _ c.self.inside.hand _ _ c.self.view_is refl c.requires
-    in
+    let known = last_known c.self.inside.hand _ _ c.self.view_is refl c.requires in
     let ledger = c.self.invariant.summary.ledger_is in
     let entered = ledger_collect _ _ _ c.enter_collect-reply.new.self c.enter_collect-reply.result _
     _ _ c.after_scan-kept.result ledger c.enter_collect-reply.ensures.reply
     c.enter_collect-reply.ensures.entered in
     let kept_is = kept_collect _ _ _ c.self.inside.scanned.items c.after_scan-kept.result ledger
     (rw (← c.as_slice.ensures.value) c.after_scan-kept.ensures) in
-    let choice = choice_collect _ _ _ _ _ _ c.self.invariant c.self.inside.scanned.items
+    let choice = choice_collect c.self.invariant c.self.inside.scanned.items
     c.after_scan-kept.result kept_is in
     let tidy = tidy_of _ c.self.invariant.whole in
     let count : c.len-before.result - c.len.result
@@ -93,15 +87,14 @@ invariant_of-self c =
 
 pub returns : goal.returns
 returns c =
-    let known = last_known c.args.self.now _ _ c.self.inside.hand _ _ c.self.view_is refl c.requires
-    in
+    let known = last_known c.self.inside.hand _ _ c.self.view_is refl c.requires in
     let ledger = c.self.invariant.summary.ledger_is in
     let entered = ledger_collect _ _ _ c.enter_collect-reply.new.self c.enter_collect-reply.result _
     _ _ c.after_scan-kept.result ledger c.enter_collect-reply.ensures.reply
     c.enter_collect-reply.ensures.entered in
     let kept_is = kept_collect _ _ _ c.self.inside.scanned.items c.after_scan-kept.result ledger
     (rw (← c.as_slice.ensures.value) c.after_scan-kept.ensures) in
-    let choice = choice_collect _ _ _ _ _ _ c.self.invariant c.self.inside.scanned.items
+    let choice = choice_collect c.self.invariant c.self.inside.scanned.items
     c.after_scan-kept.result kept_is in
     let tidy = tidy_of _ c.self.invariant.whole in
     let count : c.len-before.result - c.len.result

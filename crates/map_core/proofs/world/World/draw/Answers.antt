@@ -1,9 +1,7 @@
 -- The step of a paint or a stamp is safe: the command finds its blocks, and what is kept tells the
 -- log with its entry.
-use Rattle.std.proofs.Common.{◌≡◌, arith, refl, ap, subst, sym, ◌∙◌, length}
-use Rattle.bits.specs.Cells.{Cells, IsBitmap}
-use Rattle.map_core.specs.declared.ledger.Ledger.{Ledger}
-use Rattle.map_core.specs.Drawing.{drawn}
+use Rattle.map_core.proofs.Names.{◌≡◌, arith, refl, ap, subst, sym, ◌∙◌, length, Cells, IsBitmap}
+use Rattle.map_core.proofs.Names.{Ledger, drawn}
 use Rattle.map_core.proofs.steps.CommitWorld.{last_does, consistent_commit, place_in_hand}
 use Rattle.map_core.proofs.steps.DrawWorld.{drawing_known, hand_inside, reply_draw, count_draw}
 use Rattle.map_core.proofs.steps.DrawWorld.{written_back}
@@ -17,51 +15,46 @@ use Rattle.map_core.proofs.steps.WorldLemmas.{safe_done, now_word_there, now_roo
 use Rattle.map_core.proofs.world.World.draw.Goals as goal
 
 pub copy_from-requires-clause-width : goal.copy_from-requires-clause-width
-copy_from-requires-clause-width c = same_width _ _ _ _ _ _ c.self.invariant
+copy_from-requires-clause-width c = same_width c.self.invariant
 
 pub copy_from-requires-clause-height : goal.copy_from-requires-clause-height
-copy_from-requires-clause-height c = same_height _ _ _ _ _ _ c.self.invariant
+copy_from-requires-clause-height c = same_height c.self.invariant
 
 pub draw-changed-requires-clause-inside : goal.draw-changed-requires-clause-inside
 draw-changed-requires-clause-inside c =
-    hand_inside _ _ _ _ _ _ c.self.invariant c.in-Some.command c.self.inside.done
-    c.self.inside.scanned.items _ refl (sym c.take.ensures.value ∙ c.in-Some.is)
-    c.copy_from.ensures
+    hand_inside c.self.invariant c.in-Some.command c.self.inside.done c.self.inside.scanned.items _
+    refl (sym c.take.ensures.value ∙ c.in-Some.is) c.copy_from.ensures
 
 pub draw-changed-requires-clause-bitmap : goal.draw-changed-requires-clause-bitmap
 draw-changed-requires-clause-bitmap c =
     subst (λ (b : Cells). IsBitmap b) (sym c.copy_from.ensures)
-    (draft_of_map _ _ _ _ _ _ c.self.invariant).bitmap
+    (draft_of_map c.self.invariant).bitmap
 
 pub take_blocks-requires-clause-new : goal.take_blocks-requires-clause-new
 take_blocks-requires-clause-new c =
-    tile_count-of_map _ _ (drawn_of_map _ _ _ _ _ _ c.self.invariant _ _ c.in-Some.command
-    c.copy_from.ensures c.draw-changed.ensures.drawn)
-    ∙ sym (tile_count-of_map _ _ (draft_of_map _ _ _ _ _ _ c.self.invariant))
+    tile_count-of_map _ _ (drawn_of_map c.self.invariant _ _ c.in-Some.command c.copy_from.ensures
+    c.draw-changed.ensures.drawn) ∙ sym (tile_count-of_map _ _ (draft_of_map c.self.invariant))
 
 pub take_blocks-requires-clause-own : goal.take_blocks-requires-clause-own
 take_blocks-requires-clause-own c =
-    ap length c.as_mut_slice.ensures.value ∙ own_long _ _ _ _ _ _ c.self.invariant
+    ap length c.as_mut_slice.ensures.value ∙ own_long c.self.invariant
 
 pub copy_from-requires-2-clause-width : goal.copy_from-requires-2-clause-width
 copy_from-requires-2-clause-width c =
-    (draft_of_map _ _ _ _ _ _ c.self.invariant).width_is
-    ∙ sym (drawn_of_map _ _ _ _ _ _ c.self.invariant _ _ c.in-Some.command c.copy_from.ensures
-    c.draw-changed.ensures.drawn).width_is
+    (draft_of_map c.self.invariant).width_is ∙ sym (drawn_of_map c.self.invariant _ _
+    c.in-Some.command c.copy_from.ensures c.draw-changed.ensures.drawn).width_is
 
 pub copy_from-requires-2-clause-height : goal.copy_from-requires-2-clause-height
 copy_from-requires-2-clause-height c =
-    (draft_of_map _ _ _ _ _ _ c.self.invariant).height_is
-    ∙ sym (drawn_of_map _ _ _ _ _ _ c.self.invariant _ _ c.in-Some.command c.copy_from.ensures
-    c.draw-changed.ensures.drawn).height_is
+    (draft_of_map c.self.invariant).height_is ∙ sym (drawn_of_map c.self.invariant _ _
+    c.in-Some.command c.copy_from.ensures c.draw-changed.ensures.drawn).height_is
 
 pub enter_draw-reply-requires : goal.enter_draw-reply-requires
 enter_draw-reply-requires c =
-    place_in_hand _ _ _ _ _ _ c.self.invariant _ _ _ refl (sym c.take.ensures.value ∙ c.in-Some.is)
+    place_in_hand c.self.invariant _ _ _ refl (sym c.take.ensures.value ∙ c.in-Some.is)
 
 pub index_mut-requires : goal.index_mut-requires
-index_mut-requires c =
-    omega (arith, now_word_there _ _ _ _ _ _ c.self.invariant, c.self.inside.words.ok)
+index_mut-requires c = omega (arith, now_word_there c.self.invariant, c.self.inside.words.ok)
 
 pub invariant_of-self : goal.invariant_of-self
 invariant_of-self c =
@@ -74,7 +67,7 @@ invariant_of-self c =
     let does = last_does _ _ _ _ _ _ _ _ _ _ _ _ _ c.commit.new.now c.self.invariant known.last
     (reply_draw _ _ _ _ _ _ _ c.self.invariant.summary.ledger_is known.draws
     c.enter_draw-reply.ensures.reply
-    (count_draw _ _ _ _ _ _ c.self.invariant _ _ _ c.copy_from.ensures
+    (count_draw c.self.invariant _ _ _ c.copy_from.ensures
     c.draw-changed.ensures.changed))
     (now_of_ledger _ _ _ _ entered c.commit.ensures.now) in
     rw (c.commit.ensures.log, c.take.ensures.after)
@@ -93,7 +86,7 @@ invariant_of-self c =
           c.take_blocks.ensures.free;
     })
     (omega arith) (omega (arith, c.take_blocks.ensures.capacity)) (omega arith)
-    (drawn_of_map _ _ _ _ _ _ c.self.invariant _ _ c.in-Some.command c.copy_from.ensures
+    (drawn_of_map c.self.invariant _ _ c.in-Some.command c.copy_from.ensures
     c.draw-changed.ensures.drawn))
 
 pub returns : goal.returns
@@ -113,12 +106,12 @@ returns c =
     (last_does _ _ _ _ _ _ _ _ _ _ _ _ _ c.commit.new.now c.self.invariant known.last
     (reply_draw _ _ _ _ _ _ _ c.self.invariant.summary.ledger_is known.draws
     c.enter_draw-reply.ensures.reply
-    (count_draw _ _ _ _ _ _ c.self.invariant _ _ _ c.copy_from.ensures
+    (count_draw c.self.invariant _ _ _ c.copy_from.ensures
     c.draw-changed.ensures.changed))
     (now_of_ledger _ _ _ _ entered c.commit.ensures.now)))
 
 pub commit-requires-clause-now : goal.commit-requires-clause-now
 commit-requires-clause-now c =
-    now_room _ _ (balanced_ledger _ _ _ _ _ _ c.self.invariant)
-    (place_in_hand _ _ _ _ _ _ c.self.invariant _ _ _ refl
+    now_room _ _ (balanced_ledger c.self.invariant)
+    (place_in_hand c.self.invariant _ _ _ refl
     (sym c.take.ensures.value ∙ c.in-Some.is)) c.enter_draw-reply.ensures.entered

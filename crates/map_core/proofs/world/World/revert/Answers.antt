@@ -1,9 +1,8 @@
 -- The last step of a revert is safe: its blocks go back, and what is kept tells the log with its
 -- entry.
-use Rattle.std.proofs.Common.{ap, arith, refl, sym, ◌∙◌}
-use Rattle.map_core.specs.declared.ledger.Ledger.{Ledger}
+use Rattle.map_core.proofs.Names.{ap, arith, refl, sym, ◌∙◌, Ledger}
 use Rattle.map_core.proofs.steps.CommitWorld.{last_known, last_does, consistent_commit, room_back}
-use Rattle.map_core.proofs.steps.CommitWorld.{published_of_map, place_in_hand, reply_revert}
+use Rattle.map_core.proofs.steps.CommitWorld.{published_of_map, place_of_last, reply_revert}
 use Rattle.map_core.proofs.accounts.GiveBack.{cleared_back}
 use Rattle.map_core.proofs.logs.JudgeLemmas.{draft_of_map, balanced_ledger}
 use Rattle.map_core.proofs.logs.LedgerLemmas.{ledger_revert, now_of_ledger}
@@ -13,30 +12,25 @@ use Rattle.map_core.proofs.world.World.revert.Goals as goal
 
 pub copy_from-requires-clause-width : goal.copy_from-requires-clause-width
 copy_from-requires-clause-width c =
-    (draft_of_map _ _ _ _ _ _ c.self.invariant).width_is
-    ∙ sym (published_of_map _ _ _ _ _ _ c.self.invariant).width_is
+    (draft_of_map c.self.invariant).width_is ∙ sym (published_of_map c.self.invariant).width_is
 
 pub copy_from-requires-clause-height : goal.copy_from-requires-clause-height
 copy_from-requires-clause-height c =
-    (draft_of_map _ _ _ _ _ _ c.self.invariant).height_is
-    ∙ sym (published_of_map _ _ _ _ _ _ c.self.invariant).height_is
+    (draft_of_map c.self.invariant).height_is ∙ sym (published_of_map c.self.invariant).height_is
 
 pub give_back_own-requires : goal.give_back_own-requires
-give_back_own-requires c = rw c.as_mut_slice.ensures.value (room_back _ _ _ _ _ _ c.self.invariant)
+give_back_own-requires c = rw c.as_mut_slice.ensures.value (room_back c.self.invariant)
 
 pub enter_revert-reply-requires : goal.enter_revert-reply-requires
 enter_revert-reply-requires c =
-    place_in_hand _ _ _ _ _ _ c.self.invariant _ _ _ refl
-    (last_known c.args.self.now _ _ c.self.inside.hand _ _ c.self.view_is refl c.requires).0
+    place_of_last c.self.invariant _ _ c.self.view_is refl c.requires
 
 pub index_mut-requires : goal.index_mut-requires
-index_mut-requires c =
-    omega (arith, now_word_there _ _ _ _ _ _ c.self.invariant, c.self.inside.words.ok)
+index_mut-requires c = omega (arith, now_word_there c.self.invariant, c.self.inside.words.ok)
 
 pub invariant_of-self : goal.invariant_of-self
 invariant_of-self c =
-    let known = last_known c.args.self.now _ _ c.self.inside.hand _ _ c.self.view_is refl c.requires
-    in
+    let known = last_known c.self.inside.hand _ _ c.self.view_is refl c.requires in
     let entered = ledger_revert _ _ _ c.enter_revert-reply.new.self c.enter_revert-reply.result
     c.self.invariant.summary.ledger_is c.enter_revert-reply.ensures.entered in
     let does = last_does _ _ _ _ _ _ _ _ _ _ _ _ _ c.commit.new.now c.self.invariant known
@@ -54,8 +48,7 @@ invariant_of-self c =
 
 pub returns : goal.returns
 returns c =
-    let known = last_known c.args.self.now _ _ c.self.inside.hand _ _ c.self.view_is refl c.requires
-    in
+    let known = last_known c.self.inside.hand _ _ c.self.view_is refl c.requires in
     let entered = ledger_revert _ _ _ c.enter_revert-reply.new.self c.enter_revert-reply.result
     c.self.invariant.summary.ledger_is c.enter_revert-reply.ensures.entered in
     rw (
@@ -71,7 +64,6 @@ returns c =
 
 pub commit-requires-clause-now : goal.commit-requires-clause-now
 commit-requires-clause-now c =
-    now_room _ _ (balanced_ledger _ _ _ _ _ _ c.self.invariant)
-    (place_in_hand _ _ _ _ _ _ c.self.invariant _ _ _ refl
-    (last_known c.args.self.now _ _ c.self.inside.hand _ _ c.self.view_is refl c.requires).0)
+    now_room _ _ (balanced_ledger c.self.invariant)
+    (place_of_last c.self.invariant _ _ c.self.view_is refl c.requires)
     c.enter_revert-reply.ensures.entered
