@@ -19,7 +19,7 @@ use Rattle.field.specs.Rows.{AreNears}
 use Rattle.metric.specs.Kind.{distance_of}
 use Rattle.pbm.specs.Faults.{◌>>=◌, header, image}
 use Rattle.pbm.specs.Image.{Reads}
-use Rattle.pbm.proofs.Following.{told, AreAll-told}
+use Rattle.engines.proofs.Sources.{told, AreAll-told}
 use Rattle.pbm.proofs.Images.{reads-image}
 use Rattle.pbm.specs.Windows.{HasFault, HasImage}
 use Rattle.engines.specs.declared.dist.reply.QueryReply.{QueryReply}

@@ -20,3 +20,4 @@ mod ServingLemmas
 mod Requests
 mod Talks
 mod KeptLemmas
+mod Sources

@@ -10,7 +10,7 @@ use Rattle.metric.specs.Stream.{Appends, AppendsFront, Counts}
 use Rattle.engines.specs.steps.Opening.{judged, later_lines, opened_by, opening_told}
 use Rattle.engines.specs.steps.Steps.{AnswersText, BeginsToAnswerText, IsBegun}
 use Rattle.engines.specs.streams.TextLines.{lines_of}
-use Rattle.pbm.proofs.Following.{told, AreAll-told}
+use Rattle.engines.proofs.Sources.{told, AreAll-told}
 
 -- a prefix of the line for out of memory begins an answer to bytes whose first line opens a world
 memory_begun : (bytes : List ℕ) (before after : Option (List ℕ)) → IsOk (opened_by (lines_of bytes))

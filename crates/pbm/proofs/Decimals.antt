@@ -1,14 +1,15 @@
 -- Decimal numbers, a digit at a time.
+use Rattle.metric.proofs.Decimals.{length-decimal_side}
 use Rattle.std.proofs.Common.{◌≡◌, ℕ, ◌+◌, ◌-◌, ◌*◌, ◌/◌, ◌%◌, ◌^◌, ◌<◌, ◌≤◌, true, List, [], ◌∷◌}
-use Rattle.std.proofs.Common.{◌++◌, refl, ap, ◌∙◌, arith}
+use Rattle.std.proofs.Common.{◌++◌, refl, arith}
 use Rattle.std.specs.Fmt.{decimal}
-use Rattle.std.specs.List.{list_all}
 use Rattle.std.proofs.lemmas.Bool.{and_from}
 use Rattle.std.proofs.lemmas.Bool.Decides.{nat_tests}
 use Rattle.std.proofs.lemmas.Fmt.{decimal_by_steps}
 use Rattle.std.proofs.lemmas.List.Folds.{list_all-append}
 use Rattle.metric.specs.Digits.{is_digit, value_from}
 use Rattle.pbm.specs.Image.{IsNumber}
+use Rattle.std.proofs.lemmas.Grind.{common_steps}
 
 -- a further digit makes the value ten times as large, and adds the digit
 value_from-push : (so_far : ℕ) (digits : List ℕ) (digit : ℕ)
@@ -25,34 +26,26 @@ is_digit-below_ten n few = grind (arith, nat_tests)
 -- one digit is a number
 IsNumber-one : (n : ℕ) → n < 10 → IsNumber ((48 + n) ∷ []) n
 unfolding value_from
-IsNumber-one n few =
-    record {
-      first = 48 + n;
-      others = [];
-      is_text = refl;
-      first_is = is_digit-below_ten n few;
-      others_are = refl;
-      value_is = omega arith;
-    }
+IsNumber-one n few = grind (arith, nat_tests, common_steps)
 
 -- a number and a digit are a number
 IsNumber-more : (n : ℕ) (text : List ℕ) → 10 ≤ n → IsNumber text (n / 10)
     → IsNumber (text ++ ((48 + n % 10) ∷ [])) n
 IsNumber-more n text large is =
-    let last : is_digit (48 + n % 10) ≡ true = is_digit-below_ten (n % 10) (omega arith) in
-    let front : value_from (is.first - 48) is.others ≡ n / 10 = is.value_is in
-    record {
-      first = is.first;
-      others = is.others ++ ((48 + n % 10) ∷ []);
-      is_text = ap (λ (t : List ℕ). t ++ ((48 + n % 10) ∷ [])) is.is_text;
-      first_is = is.first_is;
-      others_are = list_all-append is_digit is.others ((48 + n % 10) ∷ [])
-          ∙ and_from (list_all is_digit is.others) (list_all is_digit ((48 + n % 10) ∷ []))
-          is.others_are (and_from (is_digit (48 + n % 10)) true last refl);
-      value_is = value_from-push (is.first - 48) is.others (48 + n % 10) ∙ omega (arith, front);
-    }
+    grind (
+      arith,
+      nat_tests,
+      common_steps,
+      and_from,
+      is_digit-below_ten,
+      list_all-append,
+      value_from-push,
+    )
 
 -- the decimal text of a number is a number
 pub IsNumber-decimal : (n : ℕ) → n < 2 ^ 64 → IsNumber (decimal n) n
 IsNumber-decimal n fits =
     decimal_by_steps (λ m text. IsNumber text m) IsNumber-one IsNumber-more n fits
+
+-- the numbers of a front have four digits at most
+pub ruleset side_digits = (length-decimal_side)

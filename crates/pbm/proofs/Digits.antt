@@ -16,6 +16,7 @@ use Rattle.std.specs.Int.Bits.{mask_lt}
 use Rattle.bits.proofs.WriteLemmas.{bit_at-low}
 use Rattle.pbm.specs.Plain.{AreDigits, AreSomeRead, behind_space}
 use Rattle.pbm.proofs.PartReads.{AreBitsRead-digits, AreSomeRead-behind}
+use Rattle.std.proofs.lemmas.Grind.{common_steps}
 
 -- where one of two bits stands, which say whether a byte is the digit 1 or the digit 0, the byte is
 -- the digit of the first
@@ -62,10 +63,7 @@ AreDigits-block count bytes block ones zeros enough front is_one is_zero few som
 pub behind-fits : (word place bits count : ℕ) → word < 2 ^ place → bits < 2 ^ count
     → bits * 2 ^ place + word < 2 ^ (place + count)
 behind-fits word place bits count small few =
-    let up : (bits + 1) * 2 ^ place ≤ 2 ^ count * 2 ^ place =
-    mul-le-mul_right (2 ^ place) (omega arith) in
-    let all : 2 ^ (place + count) ≡ 2 ^ place * 2 ^ count = pow-add 2 place count in
-    omega (arith, up, all)
+    grind (arith, nat_tests, common_steps, mul-le-mul_right, pow-add)
 
 -- what fits into some places fits into a word of 64 places
 pub within-word : (place count : ℕ) → place + count ≤ 64 → 2 ^ (place + count) ≤ 2 ^ 64

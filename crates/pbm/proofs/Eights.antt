@@ -1,15 +1,14 @@
 -- Eight pixels of a word, as a byte and as digits.
-use Rattle.std.proofs.Common.{◌≡◌, ℕ, ◌+◌, ◌-◌, ◌*◌, ◌^◌, ◌<◌, ◌≤◌, ◌==◌, Bool, true, false, cond}
-use Rattle.std.proofs.Common.{eqb, bit_and, List, [], ◌∷◌, ◌++◌, length, take, get_or, refl, ap}
-use Rattle.std.proofs.Common.{◌∙◌, inl, inr, arith}
+use Rattle.std.proofs.Common.{◌≡◌, ℕ, ◌+◌, ◌*◌, ◌^◌, ◌<◌, ◌≤◌, ◌==◌, Bool, true, false, cond}
+use Rattle.std.proofs.Common.{eqb, bit_and, List, [], ◌∷◌, ◌++◌, length, take, get_or, refl}
+use Rattle.std.proofs.Common.{arith}
 use Rattle.std.specs.Int.{bit_at}
 use Rattle.std.specs.Simd.Lanes.{top}
-use Rattle.std.proofs.lemmas.Bool.{cases_lt}
 use Rattle.std.proofs.lemmas.Bool.Decides.{nat_tests}
-use Rattle.std.proofs.lemmas.List.{get_or-append_right, length-take-le, get_or_append_left}
 use Rattle.std.proofs.lemmas.Nat.{pow_pos}
 use Rattle.std.proofs.lemmas.Nat.Bits.{and_pow, bit_at-lt, bit_at_and, bit_at_ones}
 use Rattle.pbm.proofs.Words.{each_of_eight}
+use Rattle.std.proofs.lemmas.Grind.{common_steps}
 
 -- a bit of the lowest eight is a bit of the word
 pub bit_of_lowest : (word i : ℕ) → i < 8 → bit_at (bit_and word 255) i ≡ bit_at word i
@@ -30,16 +29,12 @@ lane_digit eight place =
 
 -- a bit times a power of two is that power where the bit is set
 digit_by_bit : (b n : ℕ) → b < 2 → 0 < n → cond {A = ℕ} (b * n == n) 49 48 ≡ 48 + b
-digit_by_bit b n few some = elim (cases_lt b 1) [
-  | inl less ↦ let none : b ≡ 0 = omega arith in rw none (grind (arith, nat_tests))
-  | inr set ↦ let one : b ≡ 1 = omega arith in rw one (grind (arith, nat_tests))
-]
+digit_by_bit b n few some = grind (arith, nat_tests, common_steps)
 
 -- the digit of a lane is that of its bit
 lane_digit-is : (eight i : ℕ) → lane_digit eight (2 ^ i) ≡ 48 + bit_at eight i
 lane_digit-is eight i =
-    ap (λ (t : Bool). cond {A = ℕ} t 49 48) (top_of_lane (eqb (bit_and eight (2 ^ i)) (2 ^ i)))
-    ∙ rw (and_pow eight i) (digit_by_bit (bit_at eight i) (2 ^ i) (bit_at-lt eight i) (pow_pos i))
+    grind (arith, nat_tests, common_steps, and_pow, bit_at-lt, digit_by_bit, pow_pos, top_of_lane)
 
 -- the digits of eight lanes
 abbrev pub lane_digits : ℕ → List ℕ
@@ -58,8 +53,4 @@ lane_digits-are eight i within =
 -- what was written from a place on stands there
 pub get_or-written : (first k : ℕ) (row bytes rest : List ℕ) → first ≤ length row → k < length bytes
     → get_or (take first row ++ (bytes ++ rest)) (first + k) 0 ≡ get_or bytes k 0
-get_or-written first k row bytes rest within inside =
-    let back : first + k - first ≡ k = omega arith in
-    get_or-append_right (take first row) (bytes ++ rest) first (first + k) 0
-    (length-take-le first row within) (omega arith)
-    ∙ (ap (λ (n : ℕ). get_or (bytes ++ rest) n 0) back ∙ get_or_append_left bytes rest 0 k inside)
+get_or-written first k row bytes rest within inside = grind (arith, nat_tests, common_steps)

@@ -1,12 +1,13 @@
 -- Gaps: what is read is a gap, and a gap is read.
-use Rattle.std.proofs.Common.{◌≡◌, ℕ, Bool, true, false, cond, eqb, ◌&&◌, List, [], ◌∷◌, ◌++◌, Ok}
-use Rattle.std.proofs.Common.{Err, refl, ap, ◌∙◌, inl, inr}
+use Rattle.std.proofs.Common.{◌≡◌, ℕ, Bool, true, false, eqb, List, [], ◌∷◌, ◌++◌, Ok}
+use Rattle.std.proofs.Common.{refl, ap}
 use Rattle.std.specs.Prelude.{not}
-use Rattle.std.proofs.lemmas.Bool.{and_parts}
-use Rattle.metric.specs.declared.fault.PbmFault.TheVariants.{MissingSpace, BadComment}
 use Rattle.pbm.specs.Faults.{space, filling, gap}
 use Rattle.pbm.specs.Image.{is_whitespace, is_line_end, fills, IsGap}
-use Rattle.pbm.proofs.Steps.{ok_is, bind_ok, chosen, IsOfBytes, bind-of_bytes, cond-of_bytes}
+use Rattle.pbm.proofs.Steps.{bind_ok, IsOfBytes, bind-of_bytes}
+use Rattle.std.proofs.Common.{arith}
+use Rattle.std.proofs.lemmas.Grind.{common_steps}
+use Rattle.std.proofs.lemmas.Bool.Decides.{nat_tests}
 
 -- one whitespace byte was read from the bytes
 pub record SpaceRead (bytes rest : List ℕ) : Type 0 where
@@ -17,19 +18,7 @@ pub record SpaceRead (bytes rest : List ℕ) : Type 0 where
 -- a byte that is read as whitespace is whitespace
 pub space-read : (bytes rest : List ℕ) → space bytes ≡ Ok rest → SpaceRead bytes rest
 space-read [] rest e = absurd cc
-space-read (byte ∷ others) rest e =
-    elim (chosen (is_whitespace byte) (Ok others)
-    (cond (eqb byte 35) (Err BadComment) (Err MissingSpace)) (Ok rest) e) [
-      | inl spaced ↦ record {
-        first = byte;
-        split = ap (λ (t : List ℕ). byte ∷ t) (ok_is others rest spaced.1);
-        first_is = spaced.0;
-      }
-      | inr end ↦ elim (chosen (eqb byte 35) (Err BadComment) (Err MissingSpace) (Ok rest) end.1) [
-        | inl comment ↦ absurd (let no = comment.1 in cc)
-        | inr other ↦ absurd (let no = other.1 in cc)
-      ]
-    ]
+space-read (byte ∷ others) rest e = grind (arith, nat_tests, common_steps)
 
 -- the rest of a gap, in a comment or not, was read from the bytes
 record FillingRead (in_comment : Bool) (bytes rest : List ℕ) : Type 0 where
@@ -41,12 +30,7 @@ record FillingRead (in_comment : Bool) (bytes rest : List ℕ) : Type 0 where
 FillingRead-cons : (byte : ℕ) (others rest : List ℕ) (in_comment after : Bool)
     → ((text : List ℕ) → fills after text ≡ true → fills in_comment (byte ∷ text) ≡ true)
     → FillingRead after others rest → FillingRead in_comment (byte ∷ others) rest
-FillingRead-cons byte others rest in_comment after more r =
-    record {
-      text = byte ∷ r.text;
-      split = ap (λ (t : List ℕ). byte ∷ t) r.split;
-      all_fills = more r.text r.all_fills;
-    }
+FillingRead-cons byte others rest in_comment after more r = grind (arith, nat_tests, common_steps)
 
 -- the rest of a gap that is read fills a gap
 filling-read : (in_comment : Bool) (bytes rest : List ℕ) → filling in_comment bytes ≡ Ok rest
@@ -55,26 +39,23 @@ unfolding filling fills
 filling-read true [] rest e = absurd cc
 filling-read false [] rest e = absurd cc
 filling-read true (byte ∷ others) rest e =
-    FillingRead-cons byte others rest true (not (is_line_end byte)) (λ text h. h)
-    (filling-read (not (is_line_end byte)) others rest e)
+    grind (
+      arith,
+      nat_tests,
+      common_steps,
+      FillingRead-cons,
+      filling-read (not (is_line_end byte))
+          others rest e,
+    )
 filling-read false (byte ∷ others) rest e =
-    elim (chosen (is_whitespace byte) (filling false others)
-    (cond (eqb byte 35) (filling true others) (Ok (byte ∷ others))) (Ok rest) e) [
-      | inl spaced ↦ let is = spaced.0 in
-          FillingRead-cons byte others rest false false (λ text h. rw is h)
-          (filling-read false others rest spaced.1)
-      | inr solid ↦ elim (chosen (eqb byte 35) (filling true others) (Ok (byte ∷ others))
-          (Ok rest) solid.1) [
-            | inl comment ↦ let is = comment.0 in let no = solid.0 in
-                FillingRead-cons byte others rest false true (λ text h. rw (no, is) h)
-                (filling-read true others rest comment.1)
-            | inr end ↦ record {
-              text = [];
-              split = ok_is (byte ∷ others) rest end.1;
-              all_fills = refl;
-            }
-          ]
-    ]
+    grind (
+      arith,
+      nat_tests,
+      common_steps,
+      FillingRead-cons,
+      filling-read false others rest,
+      filling-read true others rest,
+    )
 
 -- a gap was read from the bytes
 pub record GapRead (bytes rest : List ℕ) : Type 0 where
@@ -102,11 +83,7 @@ GapRead-from byte others rest is e =
 -- a gap that is read is a gap
 pub gap-read : (bytes rest : List ℕ) → gap bytes ≡ Ok rest → GapRead bytes rest
 unfolding gap
-gap-read bytes rest e =
-    let b = bind_ok (space bytes) (filling false) rest e in
-    let s = space-read bytes b.0 b.1 in
-    let g = GapRead-from s.first b.0 rest s.first_is b.2 in
-    record { text = g.text; split = s.split ∙ g.split; is_gap = g.is_gap }
+gap-read bytes rest e = grind (arith, nat_tests, common_steps, GapRead-from, bind_ok, space-read)
 
 -- a byte at which a gap ends
 pub record EndsGap (byte : ℕ) : Type 0 where
@@ -128,25 +105,20 @@ filling-again false [] byte rest is end = rw (end.no_whitespace, end.no_comment)
 filling-again true (first ∷ others) byte rest is end =
     filling-again (not (is_line_end first)) others byte rest is end
 filling-again false (first ∷ others) byte rest is end =
-    elim (chosen (is_whitespace first) (fills false others)
-    (eqb first 35 && fills true others) true is) [
-      | inl spaced ↦ let white = spaced.0 in
-          rw white (filling-again false others byte rest spaced.1 end)
-      | inr solid ↦
-          let parts = and_parts (eqb first 35) (fills true others) solid.1 in
-          let no = solid.0 in
-          let begins = parts.0 in
-          rw (no, begins) (filling-again true others byte rest parts.1 end)
-    ]
+    grind (
+      arith,
+      nat_tests,
+      common_steps,
+      filling-again false others byte rest,
+      filling-again true
+          others byte rest,
+    )
 
 -- a gap is read, up to a byte that ends it
 pub gap-again : (text : List ℕ) (byte : ℕ) (rest : List ℕ) → IsGap text → EndsGap byte
     → gap (text ++ byte ∷ rest) ≡ Ok (byte ∷ rest)
 unfolding gap
-gap-again text byte rest is end =
-    let one : gap ((is.first ∷ is.others) ++ byte ∷ rest) ≡ Ok (byte ∷ rest) =
-    rw is.first_is (filling-again false is.others byte rest is.others_are end) in
-    ap (λ (t : List ℕ). gap (t ++ byte ∷ rest)) is.is_text ∙ one
+gap-again text byte rest is end = grind (arith, nat_tests, common_steps, filling-again)
 
 -- after what fills a gap more may fill it
 pub fills-append : (in_comment : Bool) (text more : List ℕ) → fills in_comment text ≡ true
@@ -156,30 +128,24 @@ fills-append true [] more is = absurd cc
 fills-append false [] more is = refl
 fills-append true (first ∷ others) more is = fills-append (not (is_line_end first)) others more is
 fills-append false (first ∷ others) more is =
-    elim (chosen (is_whitespace first) (fills false others)
-    (eqb first 35 && fills true others) true is) [
-      | inl spaced ↦ let white = spaced.0 in rw white (fills-append false others more spaced.1)
-      | inr solid ↦
-          let parts = and_parts (eqb first 35) (fills true others) solid.1 in
-          let no = solid.0 in
-          let begins = parts.0 in
-          rw (no, begins) (fills-append true others more parts.1)
-    ]
+    grind (
+      arith,
+      nat_tests,
+      common_steps,
+      fills-append false others more,
+      fills-append true others
+          more,
+    )
 
 -- what is a gap fills a gap
 pub fills-gap : (text : List ℕ) → IsGap text → fills false text ≡ true
 unfolding fills
-fills-gap text is =
-    let one : fills false (is.first ∷ is.others) ≡ true = rw is.first_is is.others_are in
-    ap (fills false) is.is_text ∙ one
+fills-gap text is = grind (arith, nat_tests, common_steps)
 
 -- no missing whitespace reports out of memory
 pub space-of_bytes : (bytes : List ℕ) → IsOfBytes (space bytes)
 space-of_bytes [] = λ e. cc
-space-of_bytes (byte ∷ rest) =
-    cond-of_bytes (is_whitespace byte) (Ok rest)
-    (cond (eqb byte 35) (Err BadComment) (Err MissingSpace)) tt
-    (cond-of_bytes (eqb byte 35) (Err BadComment) (Err MissingSpace) (λ e. cc) (λ e. cc))
+space-of_bytes (byte ∷ rest) = grind (arith, nat_tests, common_steps)
 
 -- no rest of a gap reports out of memory
 filling-of_bytes : (in_comment : Bool) (bytes : List ℕ) → IsOfBytes (filling in_comment bytes)
@@ -188,10 +154,7 @@ filling-of_bytes true [] = λ e. cc
 filling-of_bytes false [] = λ e. cc
 filling-of_bytes true (byte ∷ rest) = filling-of_bytes (not (is_line_end byte)) rest
 filling-of_bytes false (byte ∷ rest) =
-    cond-of_bytes (is_whitespace byte) (filling false rest)
-    (cond (eqb byte 35) (filling true rest) (Ok (byte ∷ rest))) (filling-of_bytes false rest)
-    (cond-of_bytes (eqb byte 35) (filling true rest) (Ok (byte ∷ rest))
-    (filling-of_bytes true rest) tt)
+    grind (arith, nat_tests, common_steps, filling-of_bytes false rest, filling-of_bytes true rest)
 
 -- no gap reports out of memory
 pub gap-of_bytes : (bytes : List ℕ) → IsOfBytes (gap bytes)

@@ -1,7 +1,6 @@
 -- All before a raster: what is read is spelled so, and what is spelled so is read.
-use Rattle.std.proofs.Common.{◌≡◌, ℕ, true, false, cond, eqb, ◌&&◌, List, [], ◌∷◌, ◌++◌, Result, Ok}
-use Rattle.std.proofs.Common.{Err, refl, sym, ap, subst, ◌∙◌, inl, inr, arith}
-use Rattle.std.proofs.lemmas.Bool.{eqb-true, and_parts}
+use Rattle.std.proofs.Common.{◌≡◌, ℕ, true, false, eqb, List, [], ◌∷◌, ◌++◌, Result, Ok}
+use Rattle.std.proofs.Common.{Err, refl, sym, ap, subst, ◌∙◌, arith}
 use Rattle.std.proofs.lemmas.Bool.Decides.{nat_tests}
 use Rattle.metric.specs.declared.fault.PbmFault.{PbmFault}
 use Rattle.metric.specs.declared.fault.PbmFault.TheVariants.{BadMagic, Truncated, Memory}
@@ -12,41 +11,18 @@ use Rattle.pbm.specs.Faults.{◌>>=◌, magic, gap, number_and_rest, before_rast
 use Rattle.metric.specs.Digits.{is_digit}
 use Rattle.pbm.specs.Image.{is_whitespace, IsGap, IsNumber}
 use Rattle.pbm.specs.Writing.{form_digit}
-use Rattle.pbm.proofs.Steps.{ok_is, bind_ok, chosen, IsOfBytes, bind-of_bytes, cond-of_bytes}
+use Rattle.pbm.proofs.Steps.{ok_is, bind_ok, IsOfBytes, bind-of_bytes, cond-of_bytes}
 use Rattle.pbm.proofs.Gaps.{space-read, space-of_bytes, GapRead, gap-read, EndsGap, gap-again}
 use Rattle.pbm.proofs.Gaps.{gap-of_bytes}
 use Rattle.pbm.proofs.Numbers.{NumberRead, number-read, number-again, number-of_bytes}
-
--- two bytes that are as a magic number has them are that magic number
-magic-from : (p second : ℕ) (others : List ℕ) (form : Form) (found : Form × List ℕ)
-    → (eqb p 80 && eqb second (form_digit form)) ≡ true
-    → ◌≡◌ {A = Result (Form × List ℕ) PbmFault} (Ok (form, others)) (Ok found)
-    → p ∷ second ∷ others ≡ 80 ∷ form_digit found.0 ∷ found.1
-magic-from p second others form found equal e =
-    let parts = and_parts (eqb p 80) (eqb second (form_digit form)) equal in
-    let spelled : p ∷ second ∷ others ≡ 80 ∷ form_digit form ∷ others =
-    ap (λ (b : ℕ). b ∷ second ∷ others) (eqb-true p 80 parts.0)
-    ∙ ap (λ (b : ℕ). 80 ∷ b ∷ others) (eqb-true second (form_digit form) parts.1) in
-    subst (λ (f : Form × List ℕ). p ∷ second ∷ others ≡ 80 ∷ form_digit f.0 ∷ f.1)
-    (ok_is (form, others) found e) spelled
+use Rattle.std.proofs.lemmas.Grind.{common_steps}
 
 -- a magic number that is read is spelled so
 magic-read : (bytes : List ℕ) (found : Form × List ℕ) → magic bytes ≡ Ok found
     → bytes ≡ 80 ∷ form_digit found.0 ∷ found.1
 magic-read [] found e = absurd cc
-magic-read (p ∷ []) found e =
-    elim (chosen (eqb p 80) (Err Truncated) (Err BadMagic) (Ok found) e)
-    [ inl equal ↦ absurd (let no = equal.1 in cc) | inr other ↦ absurd (let no = other.1 in cc) ]
-magic-read (p ∷ second ∷ others) found e =
-    elim (chosen (eqb p 80 && eqb second 49) (Ok (Plain, others))
-    (cond (eqb p 80 && eqb second 52) (Ok (Raw, others)) (Err BadMagic)) (Ok found) e) [
-      | inl plain ↦ magic-from p second others Plain found plain.0 plain.1
-      | inr other ↦ elim (chosen (eqb p 80 && eqb second 52) (Ok (Raw, others)) (Err BadMagic)
-          (Ok found) other.1) [
-            | inl raw ↦ magic-from p second others Raw found raw.0 raw.1
-            | inr none ↦ absurd (let no = none.1 in cc)
-          ]
-    ]
+magic-read (p ∷ []) found e = grind (arith, nat_tests, common_steps)
+magic-read (p ∷ second ∷ others) found e = grind (arith, nat_tests, common_steps)
 
 -- one whitespace byte
 pub record IsSpace (text : List ℕ) : Type 0 where
@@ -211,11 +187,7 @@ BeginsSpaced-before_raster Raw text is =
 gap-before_number : (text digits : List ℕ) (value : ℕ) (rest : List ℕ) → IsGap text
     → IsNumber digits value → gap (text ++ (digits ++ rest)) ≡ Ok (digits ++ rest)
 gap-before_number text digits value rest is_gap is =
-    let begins : digits ++ rest ≡ is.first ∷ (is.others ++ rest) =
-    ap (λ (t : List ℕ). t ++ rest) is.is_text in
-    ap (λ (t : List ℕ). gap (text ++ t)) begins
-    ∙ gap-again text is.first (is.others ++ rest) is_gap (digit-ends is.first is.first_is)
-    ∙ ap (λ (t : List ℕ). Ok t) (sym begins)
+    grind (arith, nat_tests, common_steps, digit-ends, gap-again)
 
 -- a number before whitespace is read
 number-before_space : (digits text : List ℕ) (value : ℕ) (rest : List ℕ) → IsNumber digits value
@@ -261,10 +233,7 @@ magic-of_bytes : (bytes : List ℕ) → IsOfBytes (magic bytes)
 magic-of_bytes [] = λ e. cc
 magic-of_bytes (p ∷ []) =
     cond-of_bytes (eqb p 80) (Err Truncated) (Err BadMagic) (λ e. cc) (λ e. cc)
-magic-of_bytes (p ∷ second ∷ rest) =
-    cond-of_bytes (eqb p 80 && eqb second 49) (Ok (Plain, rest))
-    (cond (eqb p 80 && eqb second 52) (Ok (Raw, rest)) (Err BadMagic)) tt
-    (cond-of_bytes (eqb p 80 && eqb second 52) (Ok (Raw, rest)) (Err BadMagic) tt (λ e. cc))
+magic-of_bytes (p ∷ second ∷ rest) = grind (arith, nat_tests, common_steps)
 
 -- nothing between the height and the raster reports out of memory
 before_raster-of_bytes : (form : Form) (bytes : List ℕ) → IsOfBytes (before_raster form bytes)
@@ -275,23 +244,18 @@ before_raster-of_bytes Raw bytes = space-of_bytes bytes
 header-of_bytes : (bytes : List ℕ) → IsOfBytes (header bytes)
 unfolding header
 header-of_bytes bytes =
-    bind-of_bytes (magic bytes) behind_magic (magic-of_bytes bytes) (λ named.
-    bind-of_bytes (gap named.1) (λ before_width.
-    number_and_rest before_width >>= behind_width named.0) (gap-of_bytes named.1) (λ before_width.
-    bind-of_bytes (number_and_rest before_width) (behind_width named.0)
-    (number-of_bytes before_width) (λ width.
-    bind-of_bytes (gap width.1) (λ before_height.
-    number_and_rest before_height >>= behind_height named.0 width.0) (gap-of_bytes width.1)
-    (λ before_height.
-    bind-of_bytes (number_and_rest before_height) (behind_height named.0 width.0)
-    (number-of_bytes before_height) (λ height.
-    bind-of_bytes (before_raster named.0 height.1)
-    (λ raster_bytes. Ok (named.0, width.0, height.0, raster_bytes))
-    (before_raster-of_bytes named.0 height.1) (λ raster_bytes. tt))))))
+    grind (
+      arith,
+      nat_tests,
+      common_steps,
+      before_raster-of_bytes,
+      bind-of_bytes,
+      gap-of_bytes,
+      magic-of_bytes,
+      number-of_bytes,
+    )
 
 -- all before a raster doesn't ask for memory
 pub header-memory : (bytes : List ℕ) (fault : PbmFault) → header bytes ≡ Err fault → fault ≡ Memory
     → ⊥
-header-memory bytes fault e is =
-    subst (λ (read : Result (Form × ℕ × ℕ × List ℕ) PbmFault). IsOfBytes read) e
-    (header-of_bytes bytes) is
+header-memory bytes fault e is = grind (arith, nat_tests, common_steps, IsOfBytes, header-of_bytes)

@@ -4,47 +4,33 @@ use Rattle.std.proofs.Common.{length, get_or, Ok, Err, refl, sym, ap, subst, ◌
 use Rattle.std.proofs.Common.{inr, arith}
 use Rattle.std.proofs.lemmas.List.{append-nil, length-append}
 use Rattle.metric.specs.declared.fault.PbmFault.{PbmFault}
-use Rattle.metric.specs.declared.fault.PbmFault.TheVariants.{JunkNotSpaced}
 use Rattle.bits.specs.Cells.{Cells, IsSide, IsBitmap}
 use Rattle.bits.proofs.CellsLemmas.{IsBitmap-cells_where}
 use Rattle.pbm.specs.declared.header.Form.{Form}
 use Rattle.pbm.specs.declared.header.Form.TheVariants.{Plain, Raw}
 use Rattle.pbm.specs.Faults.{◌>>=◌, header, pixels, ended, cells_of_pixels, plain_raster}
 use Rattle.pbm.specs.Faults.{raw_raster, raster, image}
-use Rattle.pbm.specs.Image.{is_whitespace, IsGap, IsNumber, IsBetween, IsRaster, pixels_of, IsPlain}
+use Rattle.pbm.specs.Image.{IsGap, IsNumber, IsBetween, IsRaster, pixels_of, IsPlain}
 use Rattle.pbm.specs.Image.{IsRaw, IsImage, IsEnd, Reads}
-use Rattle.pbm.proofs.Steps.{ok_is, bind_ok, chosen}
+use Rattle.pbm.proofs.Steps.{ok_is, bind_ok}
 use Rattle.pbm.proofs.Gaps.{space-again, fills-append, fills-gap}
 use Rattle.pbm.proofs.Rasters.{RasterRead, pixels-read, pixels-again, gap-before_raster}
 use Rattle.pbm.proofs.RawRasters.{RawRead, raw_raster-read, raw_raster-again}
 use Rattle.pbm.proofs.Pixels.{place-below, length-pixels_of, cells_of-pixels_of, pixels_of-cells_of}
 use Rattle.pbm.proofs.Headers.{HeaderRead, header-read, header-again}
+use Rattle.std.proofs.Common.{rules}
+use Rattle.std.proofs.lemmas.Grind.{common_steps}
+use Rattle.std.proofs.lemmas.Bool.Decides.{nat_tests}
 
 -- a gap, and nothing or a gap after it, are a gap
 IsGap-append : (text between : List ℕ) → IsGap text → IsBetween between → IsGap (text ++ between)
 IsGap-append text between is is_between =
-    elim is_between [
-      | inl nothing ↦
-          let P : List ℕ → Type 0 = λ t. IsGap t in
-          subst P (sym (append-nil text) ∙ ap (λ (t : List ℕ). text ++ t) (sym nothing)) is
-      | inr more ↦ record {
-        first = is.first;
-        others = is.others ++ between;
-        is_text = ap (λ (t : List ℕ). t ++ between) is.is_text;
-        first_is = is.first_is;
-        others_are = fills-append _ is.others between is.others_are ∙ fills-gap between more;
-      }
-    ]
+    grind (arith, nat_tests, common_steps, append-nil, fills-append, fills-gap)
 
 -- what is accepted after an image ends it
 ended-read : (bytes rest : List ℕ) → ended bytes ≡ Ok rest → (bytes ≡ rest) × IsEnd rest
 ended-read [] rest e = let same = ok_is [] rest e in (same, subst (λ (t : List ℕ). IsEnd t) same tt)
-ended-read (byte ∷ others) rest e =
-    elim (chosen (is_whitespace byte) (Ok (byte ∷ others)) (Err JunkNotSpaced) (Ok rest) e) [
-      | inl spaced ↦ let same = ok_is (byte ∷ others) rest spaced.1 in
-          (same, subst (λ (t : List ℕ). IsEnd t) same spaced.0)
-      | inr junk ↦ absurd (let no = junk.1 in cc)
-    ]
+ended-read (byte ∷ others) rest e = grind (arith, nat_tests, common_steps)
 
 -- what ends an image is accepted after it
 ended-again : (rest : List ℕ) → IsEnd rest → ended rest ≡ Ok rest
@@ -201,8 +187,7 @@ behind_header bytes Plain width height raster_bytes found h e =
     (raster-read (width * height) raster_bytes p.0
     (some_pixels width height h.width_side h.height_side) p.1) p.2
 behind_header bytes Raw width height raster_bytes found h e =
-    ImageRead-raw bytes width height raster_bytes found h
-    (raw_raster-read width height raster_bytes found e)
+    search (rules, arith, ImageRead-raw, raw_raster-read)
 
 -- an image that is read is an image
 image-read : (bytes : List ℕ) (found : Cells × List ℕ) → image bytes ≡ Ok found

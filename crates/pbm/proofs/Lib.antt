@@ -23,4 +23,3 @@ mod PlainWords
 pub mod Following
 mod Prefixes
 mod Taken
-mod RowsTaken

@@ -8,13 +8,14 @@ use Rattle.std.specs.List.{range_with_len, flat_map}
 use Rattle.std.proofs.lemmas.Bool.{cases_lt}
 use Rattle.std.proofs.lemmas.Bool.Decides.{nat_tests}
 use Rattle.std.proofs.lemmas.Grind.{flat_map-append, same_number_lists}
-use Rattle.std.proofs.lemmas.List.{append-nil, get_or-take, get_or-drop, length-take-le}
+use Rattle.std.proofs.lemmas.List.{get_or-take, get_or-drop, length-take-le}
 use Rattle.std.proofs.lemmas.List.{length-drop}
 use Rattle.std.proofs.lemmas.List.FromFn.{get_or-map-range_with_len, length-map-range_with_len}
 use Rattle.bits.specs.Cells.{Cells, has}
 use Rattle.pbm.specs.Image.{pixel_byte}
 use Rattle.pbm.specs.Writing.{ends_line, digit_text, plain_digit}
 use Rattle.pbm.proofs.Ranges.{range-append}
+use Rattle.std.proofs.lemmas.Grind.{common_steps}
 
 -- a line has a digit at each place, and LF after the last one
 line_text : (f : ℕ → List ℕ) (digit : ℕ → ℕ) (start n : ℕ)
@@ -22,16 +23,9 @@ line_text : (f : ℕ → List ℕ) (digit : ℕ → ℕ) (start n : ℕ)
     → f (start + n) ≡ digit (start + n) ∷ 10 ∷ []
     → flat_map f (range_with_len start (suc n)) ≡ map digit (range_with_len start (suc n))
     ++ 10 ∷ []
-line_text f digit start zero inner last =
-    let here : start + zero ≡ start = omega arith in
-    append-nil (f start) ∙ rw here at last
+line_text f digit start zero inner last = grind (arith, nat_tests, common_steps)
 line_text f digit start (suc n) inner last =
-    let on : start + suc n ≡ (start + 1) + n = omega arith in
-    ap (λ (t : List ℕ). t ++ flat_map f (range_with_len (start + 1) (suc n)))
-    (inner start (omega arith) (omega arith))
-    ∙ ap (λ (t : List ℕ). digit start ∷ t)
-    (line_text f digit (start + 1) n (λ k above below. inner k (omega arith) (omega arith))
-    (rw on at last))
+    grind (arith, nat_tests, common_steps, line_text f digit (start + 1) n)
 
 -- a digit of a line that isn't its last ends none
 inner_column : (width start x : ℕ) → start % 70 ≡ 0 → start ≤ x → x + 1 < start + 70 → x + 1 < width
@@ -50,11 +44,7 @@ digit_at cells k = pixel_byte (has cells (k % cells.width) (k / cells.width))
 -- the digit of column x and row y is that of its cell
 digit_at-is : (cells : Cells) (y x : ℕ) → x < cells.width
     → digit_at cells (y * cells.width + x) ≡ pixel_byte (has cells x y)
-digit_at-is cells y x within =
-    let width : ℕ = cells.width in
-    ap (λ (a : ℕ). pixel_byte (has cells a ((y * width + x) / width)))
-    (mod-mul-add y width x within)
-    ∙ ap (λ (b : ℕ). pixel_byte (has cells x b)) (div-mul-add y width x within)
+digit_at-is cells y x within = grind (arith, nat_tests, common_steps, div-mul-add, mod-mul-add)
 
 -- a part of a row's digits is that of its places
 digits-part : (cells : Cells) (y start count : ℕ) (digits : List ℕ) → length digits ≡ cells.width

@@ -1,15 +1,17 @@
 -- Numbers: what is read is spelled so, and what is spelled so is read.
-use Rattle.std.proofs.Common.{◌≡◌, ℕ, ◌+◌, ◌-◌, ◌*◌, ◌<◌, true, false, cond, eqb, ltb, List, []}
+use Rattle.std.proofs.Common.{◌≡◌, ℕ, ◌+◌, ◌-◌, ◌*◌, ◌<◌, true, false, List, []}
 use Rattle.std.proofs.Common.{◌∷◌, ◌++◌, Ok, Err, refl, sym, ap, ◌∙◌, inl, inr, arith}
 use Rattle.std.specs.List.{list_all}
-use Rattle.std.proofs.lemmas.Bool.{eqb-false, ltb-false, lt-ltb, le-ltb, ne_eqb, and_parts}
+use Rattle.std.proofs.lemmas.Bool.{lt-ltb, le-ltb, ne_eqb}
 use Rattle.std.proofs.lemmas.Bool.{and_from}
-use Rattle.metric.specs.declared.fault.PbmFault.TheVariants.{BadNumber, ZeroSize, TooLarge}
+use Rattle.metric.specs.declared.fault.PbmFault.TheVariants.{BadNumber, TooLarge}
 use Rattle.bits.specs.Cells.{IsSide}
 use Rattle.pbm.specs.Faults.{side, digits, number_and_rest}
 use Rattle.metric.specs.Digits.{is_digit, value_from}
 use Rattle.pbm.specs.Image.{IsNumber}
-use Rattle.pbm.proofs.Steps.{ok_is, chosen, IsOfBytes, cond-of_bytes}
+use Rattle.pbm.proofs.Steps.{chosen, IsOfBytes, cond-of_bytes}
+use Rattle.std.proofs.lemmas.Grind.{common_steps}
+use Rattle.std.proofs.lemmas.Bool.Decides.{nat_tests}
 
 -- a value over the longest side is refused
 side-over : (value : ℕ) (rest : List ℕ) → 4096 < value → side value rest ≡ Err TooLarge
@@ -20,41 +22,20 @@ digits-over : (a b : ℕ) (bytes : List ℕ) → 4096 < a → 4096 < b → digit
 unfolding digits
 digits-over a b [] p q = side-over a [] p ∙ sym (side-over b [] q)
 digits-over a b (byte ∷ rest) p q =
-    elim (is_digit byte) as (λ t. cond t (digits (10 * a + (byte - 48)) rest) (side a (byte ∷ rest))
-    ≡ cond t (digits (10 * b + (byte - 48)) rest) (side b (byte ∷ rest))) [
-      | true ↦ digits-over (10 * a + (byte - 48)) (10 * b + (byte - 48)) rest (omega arith)
-          (omega arith)
-      | false ↦ side-over a (byte ∷ rest) p ∙ sym (side-over b (byte ∷ rest) q)
-    ]
+    grind (
+      arith,
+      nat_tests,
+      common_steps,
+      digits-over (10 * a + (byte - 48)) (10 * b + (byte -
+          48)) rest,
+    )
 
 -- a digit after a value over the longest side is skipped
 pub digits-pass : (value byte : ℕ) (bytes rest : List ℕ) → bytes ≡ byte ∷ rest
     → is_digit byte ≡ true → 4096 < value → digits value bytes ≡ digits value rest
 unfolding digits
 digits-pass value byte bytes rest split is over =
-    let one : digits value (byte ∷ rest) ≡ digits value rest =
-    rw is (digits-over (10 * value + (byte - 48)) value rest (omega arith) over) in
-    ap (digits value) split ∙ one
-
--- a side that is accepted is as long as a side may be
-side-accepted : (value : ℕ) (rest : List ℕ) (found : ℕ × List ℕ) → side value rest ≡ Ok found
-    → (found.0 ≡ value) × (found.1 ≡ rest) × IsSide value
-side-accepted value rest found e =
-    elim (chosen (eqb value 0) (Err ZeroSize)
-    (cond (ltb 4096 value) (Err TooLarge) (Ok (value, rest))) (Ok found) e) [
-      | inl zero ↦ absurd (let no = zero.1 in cc)
-      | inr some ↦ elim (chosen (ltb 4096 value) (Err TooLarge) (Ok (value, rest))
-          (Ok found) some.1) [
-            | inl over ↦ absurd (let no = over.1 in cc)
-            | inr few ↦
-                let same = ok_is (value, rest) found few.1 in
-                let nonzero = eqb-false value 0 some.0 in (
-                  sym (ap (λ (p : ℕ × List ℕ). p.0) same),
-                  sym (ap (λ (p : ℕ × List ℕ). p.1) same),
-                  record { some = omega arith; few = ltb-false 4096 value few.0 },
-                )
-          ]
-    ]
+    grind (arith, nat_tests, common_steps, digits-over)
 
 -- digits were read from the bytes
 record DigitsRead (so_far : ℕ) (bytes : List ℕ) (found : ℕ × List ℕ) : Type 0 where
@@ -68,15 +49,7 @@ record DigitsRead (so_far : ℕ) (bytes : List ℕ) (found : ℕ × List ℕ) : 
 digits-ended : (so_far : ℕ) (bytes : List ℕ) (found : ℕ × List ℕ) → side so_far bytes ≡ Ok found
     → DigitsRead so_far bytes found
 unfolding value_from
-digits-ended so_far bytes found e =
-    let is = side-accepted so_far bytes found e in
-    record {
-      text = [];
-      split = sym is.1;
-      all_are = refl;
-      value_is = sym is.0;
-      is_side = rw is.0 is.2;
-    }
+digits-ended so_far bytes found e = grind (arith, nat_tests, common_steps)
 
 -- digits that are read are spelled so
 digits-read : (so_far : ℕ) (bytes : List ℕ) (found : ℕ × List ℕ) → digits so_far bytes ≡ Ok found
@@ -142,8 +115,13 @@ digits-again : (so_far : ℕ) (text : List ℕ) (byte : ℕ) (rest : List ℕ)
 unfolding digits value_from
 digits-again so_far [] byte rest all end is = rw end (side-again so_far (byte ∷ rest) is)
 digits-again so_far (digit ∷ others) byte rest all end is =
-    let parts = and_parts (is_digit digit) (list_all is_digit others) all in
-    rw parts.0 (digits-again (10 * so_far + (digit - 48)) others byte rest parts.1 end is)
+    grind (
+      arith,
+      nat_tests,
+      common_steps,
+      digits-again (10 * so_far + (digit - 48)) others byte
+          rest,
+    )
 
 -- a number that is spelled so is read, up to a byte that is no digit
 pub number-again : (text : List ℕ) (value : ℕ) (byte : ℕ) (rest : List ℕ) → IsNumber text value
@@ -151,33 +129,22 @@ pub number-again : (text : List ℕ) (value : ℕ) (byte : ℕ) (rest : List ℕ
     → number_and_rest (text ++ byte ∷ rest) ≡ Ok (value, byte ∷ rest)
 unfolding number_and_rest
 number-again text value byte rest is end side_is =
-    let long : IsSide (value_from (is.first - 48) is.others) = rw is.value_is side_is in
-    let one : number_and_rest ((is.first ∷ is.others) ++ byte ∷ rest)
-    ≡ Ok (value_from (is.first - 48) is.others, byte ∷ rest) =
-    rw is.first_is (digits-again (is.first - 48) is.others byte rest is.others_are end long) in
-    ap (λ (t : List ℕ). number_and_rest (t ++ byte ∷ rest)) is.is_text ∙ one
-    ∙ ap (λ (v : ℕ). Ok (v, byte ∷ rest)) is.value_is
+    grind (arith, nat_tests, common_steps, digits-again)
 
 -- no side reports out of memory
 side-of_bytes : (value : ℕ) (rest : List ℕ) → IsOfBytes (side value rest)
-side-of_bytes value rest =
-    cond-of_bytes (eqb value 0) (Err ZeroSize)
-    (cond (ltb 4096 value) (Err TooLarge) (Ok (value, rest))) (λ e. cc)
-    (cond-of_bytes (ltb 4096 value) (Err TooLarge) (Ok (value, rest)) (λ e. cc) tt)
+side-of_bytes value rest = grind (arith, nat_tests, common_steps)
 
 -- no digits report out of memory
 digits-of_bytes : (so_far : ℕ) (bytes : List ℕ) → IsOfBytes (digits so_far bytes)
 unfolding digits
 digits-of_bytes so_far [] = side-of_bytes so_far []
 digits-of_bytes so_far (byte ∷ rest) =
-    cond-of_bytes (is_digit byte) (digits (10 * so_far + (byte - 48)) rest)
-    (side so_far (byte ∷ rest)) (digits-of_bytes (10 * so_far + (byte - 48)) rest)
-    (side-of_bytes so_far (byte ∷ rest))
+    grind (arith, nat_tests, common_steps, digits-of_bytes (10 * so_far + (byte - 48)) rest)
 
 -- no number reports out of memory
 pub number-of_bytes : (bytes : List ℕ) → IsOfBytes (number_and_rest bytes)
 unfolding number_and_rest
 number-of_bytes [] = λ e. cc
 number-of_bytes (byte ∷ rest) =
-    cond-of_bytes (is_digit byte) (digits (byte - 48) rest) (Err BadNumber)
-    (digits-of_bytes (byte - 48) rest) (λ e. cc)
+    grind (arith, nat_tests, common_steps, cond-of_bytes, digits-of_bytes)

@@ -13,6 +13,9 @@ use Rattle.pbm.specs.Image.{is_whitespace}
 use Rattle.pbm.specs.Plain.{AreBitsRead, AreDigits, AreSomeRead, behind_space}
 use Rattle.pbm.proofs.Rasters.{with_front, with_front-nil, pixels-more, pixels-fault, pixels-done}
 use Rattle.pbm.proofs.Steps.{ok_is, bind_ok}
+use Rattle.std.proofs.Common.{rules}
+use Rattle.std.proofs.lemmas.Grind.{common_steps}
+use Rattle.std.proofs.lemmas.Bool.Decides.{nat_tests}
 
 -- where two steps fail, the first one fails, or the second after the first one has not
 bind_err : {A B : Type 0} (r : Result A PbmFault) (f : A → Result B PbmFault) (fault : PbmFault)
@@ -36,11 +39,7 @@ front-append front more (Err fault) = refl
 pub pixels-add : (m n : ℕ) (bytes : List ℕ) (front : List Bool) (rest : List ℕ)
     → pixels m bytes ≡ Ok (front, rest) → pixels (m + n) bytes ≡ with_front front (pixels n rest)
 unfolding pixels
-pixels-add zero n bytes front rest read =
-    let same : 0 + n ≡ n = omega arith in
-    let is = ok_is ([], bytes) (front, rest) read in
-    rw same (sym (with_front-nil (pixels n bytes))
-    ∙ ap (λ (p : List Bool × List ℕ). with_front p.0 (pixels n p.1)) is)
+pixels-add zero n bytes front rest read = grind (arith, nat_tests, common_steps)
 pixels-add (suc m) n bytes front rest read =
     let next : suc m + n ≡ suc (m + n) = omega arith in
     let one = bind_ok (next_pixel bytes)
@@ -81,14 +80,7 @@ pub record IsPartRead (count : ℕ) (bytes : List ℕ) (k : ℕ) (bit : ℕ → 
 -- no pixel was read
 pub IsPartRead-none : (count : ℕ) (bytes : List ℕ) (bit : ℕ → ℕ)
     → IsPartRead count bytes 0 bit bytes
-IsPartRead-none count bytes bit =
-    let all : count - 0 ≡ count = omega arith in
-    record {
-      front = [];
-      size = refl;
-      others = sym (with_front-nil (pixels (count - 0) bytes) ∙ ap (λ (n : ℕ). pixels n bytes) all);
-      bits = λ i before. absurd (omega arith);
-    }
+IsPartRead-none count bytes bit = grind (arith, nat_tests, common_steps, with_front-nil)
 
 -- a further pixel was read
 IsPartRead-more : (count : ℕ) (bytes : List ℕ) (k : ℕ) (bit next : ℕ → ℕ) (rest : List ℕ)
@@ -162,13 +154,8 @@ IsPartRead-fault_one count bytes k bit rest fault few read so_far =
 pub IsPartRead-all : (count : ℕ) (bytes : List ℕ) (k : ℕ) (bit : ℕ → ℕ) (number : ℕ) (rest : List ℕ)
     → k ≡ count → ((i : ℕ) → i < count → bit_at number i ≡ bit i)
     → IsPartRead count bytes k bit rest → AreBitsRead count bytes number rest
-IsPartRead-all count bytes k bit number rest all same so_far = record {
-  all = so_far.front;
-  size = so_far.size ∙ all;
-  read = pixels-done so_far.front count rest (pixels count bytes)
-      (so_far.others ∙ ap (λ (n : ℕ). with_front so_far.front (pixels (count - n) rest)) all);
-  bits = λ i within. ap (λ (n : ℕ). n == 1) (same i within) ∙ so_far.bits i (omega arith);
-}
+IsPartRead-all count bytes k bit number rest all same so_far =
+    grind (arith, nat_tests, common_steps, pixels-done, with_front)
 
 -- a digit of a pixel is the next pixel
 digit-pixel : (bit : ℕ) (rest : List ℕ) → bit < 2
@@ -234,8 +221,7 @@ pub AreSomeRead-behind : (most run count number digits : ℕ) (bytes rest : List
     → AreSomeRead most bytes count number rest
 AreSomeRead-behind most run count number digits [] rest some are read = read
 AreSomeRead-behind most run count number digits (byte ∷ others) rest some are read =
-    some-behind (is_whitespace byte) most run count number digits byte others rest refl some are
-    read
+    search (rules, arith, some-behind)
 
 -- the bits of a first pixel and of others are those of all pixels
 first_and_others : (n : ℕ) (bit : ℕ → ℕ) (all : List Bool)

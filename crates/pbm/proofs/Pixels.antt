@@ -1,7 +1,7 @@
 -- A bitmap and its pixels, row by row.
-use Rattle.std.proofs.Common.{◌≡◌, ℕ, ◌+◌, ◌*◌, ◌/◌, ◌%◌, ◌<◌, ◌≤◌, Bool, false, List, length}
+use Rattle.std.proofs.Common.{◌≡◌, ℕ, ◌+◌, ◌*◌, ◌/◌, ◌%◌, ◌<◌, Bool, false, List, length}
 use Rattle.std.proofs.Common.{get_or, sym, ap, ◌∙◌, arith}
-use Rattle.std.proofs.Math.Nat.{mul-le-mul_left, div-lt_iff_lt-mul}
+use Rattle.std.proofs.Math.Nat.{div-lt_iff_lt-mul}
 use Rattle.std.proofs.lemmas.Nat.{div-mul-add, mod-mul-add, div-add-mod'}
 use Rattle.std.proofs.lemmas.List.FromFn.{get_or-map-range_with_len, length-map-range_with_len}
 use Rattle.std.proofs.lemmas.List.FromFn.{fill_by_all}
@@ -9,19 +9,16 @@ use Rattle.bits.specs.Cells.{Cells, has, IsSide, IsBitmap}
 use Rattle.bits.proofs.CellsLemmas.{has-cells_where, cells_where-same, cells_where-has}
 use Rattle.pbm.specs.Faults.{cells_of_pixels}
 use Rattle.pbm.specs.Image.{pixels_of}
+use Rattle.std.proofs.lemmas.Grind.{common_steps}
+use Rattle.std.proofs.lemmas.Bool.Decides.{nat_tests}
 
 -- a cell inside has a place in the raster
 pub place-below : (width height x y : ℕ) → x < width → y < height → y * width + x < width * height
-place-below width height x y hx hy =
-    let row : y + 1 ≤ height = omega arith in
-    let rows : width * (y + 1) ≤ width * height = mul-le-mul_left width row in
-    omega (arith, rows)
+place-below width height x y hx hy = grind (arith, nat_tests, common_steps)
 
 -- a bitmap has as many pixels as cells
 pub length-pixels_of : (cells : Cells) → length (pixels_of cells) ≡ cells.width * cells.height
-length-pixels_of cells =
-    length-map-range_with_len (λ k. has cells (k % cells.width) (k / cells.width)) 0
-    (cells.width * cells.height)
+length-pixels_of cells = grind (arith, nat_tests, common_steps, length-map-range_with_len)
 
 -- a bitmap is what its pixels make
 pub cells_of-pixels_of : (cells : Cells) → IsBitmap cells

@@ -1,14 +1,12 @@
 -- A bitmap that is written as a plain image.
 use Rattle.std.proofs.Common.{◌≡◌, ℕ, zero, suc, ◌+◌, ◌-◌, ◌*◌, ◌/◌, ◌%◌, ◌<◌, ◌≤◌, Bool, true}
-use Rattle.std.proofs.Common.{false, cond, eqb, List, [], ◌∷◌, ◌++◌, map, length, refl, sym, ap}
+use Rattle.std.proofs.Common.{false, cond, List, [], ◌∷◌, ◌++◌, map, length, refl, sym, ap}
 use Rattle.std.proofs.Common.{subst, ◌∙◌, append_assoc, inl, inr, arith}
-use Rattle.std.specs.Prelude.{◌||◌}
 use Rattle.std.specs.Fmt.{decimal}
 use Rattle.std.specs.List.{range_with_len, flat_map}
-use Rattle.std.proofs.lemmas.Bool.{eq-eqb}
 use Rattle.std.proofs.lemmas.Bool.Decides.{nat_tests}
 use Rattle.std.proofs.lemmas.Nat.{div-mul-add, mod-mul-add}
-use Rattle.std.proofs.lemmas.List.{append-nil, length-append}
+use Rattle.std.proofs.lemmas.List.{length-append}
 use Rattle.bits.specs.Cells.{Cells, has, IsBitmap}
 use Rattle.pbm.specs.declared.header.Form.TheVariants.{Plain}
 use Rattle.pbm.specs.Image.{pixel_byte, IsBetween, IsRaster, IsPlain}
@@ -18,6 +16,7 @@ use Rattle.pbm.proofs.Decimals.{IsNumber-decimal}
 use Rattle.pbm.proofs.Pixels.{place-below}
 use Rattle.pbm.proofs.Ranges.{flat_map-more, flat_map-row}
 use Rattle.pbm.proofs.RawTexts.{regroup-front, IsGap-line_feed, IsGap-blank}
+use Rattle.std.proofs.lemmas.Grind.{common_steps}
 
 -- what stands after a digit: LF, where its line ends
 abbrev line_end : Bool → List ℕ
@@ -39,53 +38,34 @@ digits_from-text : (black ends : ℕ → Bool) (start n : ℕ)
     → flat_map (λ k. digit_text (black k) (ends k)) (range_with_len start (suc n))
     ≡ digits_from black ends start n ++ line_end (ends (start + n))
 unfolding digits_from
-digits_from-text black ends start zero =
-    let here : start ≡ start + zero = omega arith in
-    append-nil (pixel_byte (black start) ∷ line_end (ends start))
-    ∙ ap (λ (k : ℕ). pixel_byte (black start) ∷ line_end (ends k)) here
+digits_from-text black ends start zero = grind (arith, nat_tests, common_steps)
 digits_from-text black ends start (suc n) =
-    let on : (start + 1) + n ≡ start + suc n = omega arith in
-    ap (λ (t : List ℕ). pixel_byte (black start) ∷ (line_end (ends start) ++ t))
-    (digits_from-text black ends (start + 1) n
-    ∙ ap (λ (k : ℕ). digits_from black ends (start + 1) n ++ line_end (ends k)) on)
-    ∙ ap (λ (t : List ℕ). pixel_byte (black start) ∷ t)
-    (sym (append_assoc (line_end (ends start)) (digits_from black ends (start + 1) n)
-    (line_end (ends (start + suc n)))))
+    grind (arith, nat_tests, common_steps, digits_from-text black ends (start + 1) n)
 
 -- such digits are a raster
 digits_from-raster : (black ends : ℕ → Bool) (start n : ℕ)
     → IsRaster (digits_from black ends start n) (map black (range_with_len start (suc n)))
 unfolding digits_from IsRaster
 digits_from-raster black ends start zero = refl
-digits_from-raster black ends start (suc n) = (
-  line_end (ends start),
-  digits_from black ends (start + 1) n,
-  IsBetween-line_end (ends start),
-  digits_from-raster black ends (start + 1) n,
-  refl,
-)
-
--- a test or a true one is true
-or_true : (test : Bool) → (test || true) ≡ true
-or_true true = refl
-or_true false = refl
+digits_from-raster black ends start (suc n) =
+    grind (
+      arith,
+      nat_tests,
+      common_steps,
+      IsBetween-line_end,
+      digits_from,
+      digits_from-raster
+          black ends (start + 1) n,
+    )
 
 -- the last column ends its line
 ends_line-last : (width x : ℕ) → x + 1 ≡ width → ends_line width x ≡ true
-ends_line-last width x last =
-    ap (λ (t : Bool). eqb ((x + 1) % 70) 0 || t) (eq-eqb (x + 1) width last)
-    ∙ or_true (eqb ((x + 1) % 70) 0)
+ends_line-last width x last = grind (arith, nat_tests, common_steps)
 
 -- the last pixel of a bitmap stands in the last column
 last_column : (width height n : ℕ) → 1 ≤ width → 1 ≤ height → height * width ≡ suc n
     → n % width + 1 ≡ width
-last_column width height n some_columns some_rows all =
-    let rows : ((height - 1) + 1) * width ≡ height * width = let up : (height - 1) + 1 ≡ height =
-    omega arith in ap (λ (h : ℕ). h * width) up in
-    let place : n ≡ (height - 1) * width + (width - 1) = omega (arith, rows, all) in
-    let column : n % width ≡ width - 1 = ap (λ (k : ℕ). k % width) place
-    ∙ mod-mul-add (height - 1) width (width - 1) (omega arith) in
-    omega (arith, column)
+last_column width height n some_columns some_rows all = grind (arith, nat_tests, common_steps)
 
 -- a bitmap has some cells
 some_cells : (width height : ℕ) → 1 ≤ width → 1 ≤ height → (n : ℕ) × (height * width ≡ suc n)
@@ -96,12 +76,7 @@ some_cells width height some_columns some_rows =
 -- the text of the digit of column x and row y is that of its cell
 plain_digit-at : (cells : Cells) (y x : ℕ) → x < cells.width
     → digit_text (has cells x y) (ends_line cells.width x) ≡ plain_digit cells (y * cells.width + x)
-plain_digit-at cells y x within =
-    let width : ℕ = cells.width in
-    sym (ap (λ (a : ℕ). digit_text (has cells a ((y * width + x) / width)) (ends_line width a))
-    (mod-mul-add y width x within)
-    ∙ ap (λ (b : ℕ). digit_text (has cells x b) (ends_line width x))
-    (div-mul-add y width x within))
+plain_digit-at cells y x within = grind (arith, nat_tests, common_steps, div-mul-add, mod-mul-add)
 
 -- how long the lines of a row are as far as column x
 record LinesLength (width x count : ℕ) : Type 0 where

@@ -3,7 +3,6 @@ use Rattle.std.proofs.Common.{◌≡◌, ℕ, ◌+◌, ◌-◌, ◌*◌, ◌/◌
 use Rattle.std.proofs.Common.{false, cond, eqb, List, ◌++◌, length, get_or, Result, Err, sym, ap}
 use Rattle.std.proofs.Common.{◌∙◌, inl, inr, arith, length-append}
 use Rattle.std.specs.Int.{bit_at}
-use Rattle.std.proofs.Math.Nat.{mul-le-mul_left}
 use Rattle.std.proofs.lemmas.Bool.{cases_lt, cases_eq, and_parts, eq-eqb, eqb-true}
 use Rattle.std.proofs.lemmas.Bool.{false_from_ne_true}
 use Rattle.std.proofs.lemmas.List.{get_or_append_left, get_or-append_right, get_or_past}
@@ -16,6 +15,8 @@ use Rattle.pbm.specs.Plain.{AreBitsRead}
 use Rattle.pbm.proofs.PartReads.{pixels-add, pixels-add_fault, front-append}
 use Rattle.pbm.proofs.Progress.{IsReadTo}
 use Rattle.pbm.proofs.Rasters.{with_front}
+use Rattle.std.proofs.lemmas.Grind.{common_steps}
+use Rattle.std.proofs.lemmas.Bool.Decides.{nat_tests}
 
 -- how many pixels stand before a word: those of the rows above, and of the words before it
 abbrev pub pixels_before : ℕ → ℕ → ℕ → ℕ
@@ -23,9 +24,7 @@ pixels_before width y index = y * width + min width (64 * index)
 
 -- a cell in an earlier row, or in that row and in an earlier column, comes before
 earlier_row : (width a b x y : ℕ) → a < width → b < y → b * width + a < y * width + x
-earlier_row width a b x y column above =
-    let rows : width * (b + 1) ≤ width * y = mul-le-mul_left width (omega arith) in
-    omega (arith, rows)
+earlier_row width a b x y column above = grind (arith, nat_tests, common_steps)
 
 -- a number that isn't below another, nor equal to it, is above it
 under : (m n : ℕ) → n ≤ m → (m ≡ n → ⊥) → n < m
@@ -35,9 +34,7 @@ under m n from apart =
 -- a word's pixels are among those of the bitmap
 word_within : (width height y index count : ℕ) → 64 * index < width → y < height
     → count ≡ min (width - 64 * index) 64 → y * width + 64 * index + count ≤ width * height
-word_within width height y index count column row count_is =
-    let rows : width * (y + 1) ≤ width * height = mul-le-mul_left width (omega arith) in
-    omega (arith, rows, count_is)
+word_within width height y index count column row count_is = grind (arith, nat_tests, common_steps)
 
 -- a further word is its cells more
 cells_of-word : (width height y index count word : ℕ) (front more : List Bool) → 64 * index < width

@@ -1,12 +1,8 @@
 -- What is read at the front of some bytes is read where more bytes follow them.
 use Rattle.std.proofs.Common.{◌≡◌, ◌≢◌, ℕ, zero, suc, ◌+◌, ◌-◌, ◌*◌, ◌≤◌, Bool, true, false, cond}
-use Rattle.std.proofs.Common.{eqb, ltb, ◌&&◌, List, [], ◌∷◌, ◌++◌, length, drop, Ok, Err, refl, sym}
-use Rattle.std.proofs.Common.{ap, ◌∙◌, append_assoc, inl, inr, arith, length-append}
-use Rattle.std.proofs.Math.Seq.{drop-append_seam}
-use Rattle.metric.specs.declared.fault.PbmFault.TheVariants.{BadMagic, MissingSpace, BadComment}
-use Rattle.metric.specs.declared.fault.PbmFault.TheVariants.{BadNumber, ZeroSize, TooLarge}
-use Rattle.metric.specs.declared.fault.PbmFault.TheVariants.{BadPixel, Truncated}
-use Rattle.metric.specs.Digits.{is_digit}
+use Rattle.std.proofs.Common.{eqb, List, [], ◌∷◌, ◌++◌, length, drop, Ok, Err, refl, sym}
+use Rattle.std.proofs.Common.{ap, ◌∙◌, append_assoc, inl, inr, arith}
+use Rattle.metric.specs.declared.fault.PbmFault.TheVariants.{BadComment}
 use Rattle.pbm.specs.declared.header.Form.{Form}
 use Rattle.pbm.specs.declared.header.Form.TheVariants.{Plain, Raw}
 use Rattle.pbm.specs.Faults.{◌>>=◌, magic, space, filling, gap, side, digits, number_and_rest}
@@ -19,21 +15,14 @@ use Rattle.pbm.proofs.Steps.{ok_is, bind_ok, chosen}
 use Rattle.pbm.proofs.Rasters.{pixels-read}
 use Rattle.pbm.proofs.Headers.{header-read, behind_height, behind_width, behind_magic}
 use Rattle.pbm.specs.Windows.{Stands}
+use Rattle.std.proofs.lemmas.Grind.{common_steps}
+use Rattle.std.proofs.lemmas.Bool.Decides.{nat_tests}
 
 -- one whitespace byte is read where more bytes follow
 space-with_more : (bytes rest more : List ℕ) → space bytes ≡ Ok rest
     → space (bytes ++ more) ≡ Ok (rest ++ more)
 space-with_more [] rest more e = absurd cc
-space-with_more (byte ∷ others) rest more e =
-    elim (chosen (is_whitespace byte) (Ok others)
-    (cond (eqb byte 35) (Err BadComment) (Err MissingSpace)) (Ok rest) e) [
-      | inl spaced ↦ let is = spaced.0 in
-          rw is (ap (λ (t : List ℕ). Ok (t ++ more)) (ok_is others rest spaced.1))
-      | inr end ↦ elim (chosen (eqb byte 35) (Err BadComment) (Err MissingSpace) (Ok rest) end.1) [
-        | inl comment ↦ absurd (let no = comment.1 in cc)
-        | inr other ↦ absurd (let no = other.1 in cc)
-      ]
-    ]
+space-with_more (byte ∷ others) rest more e = grind (arith, nat_tests, common_steps)
 
 -- the rest of a gap is read where more bytes follow
 filling-with_more : (in_comment : Bool) (bytes rest more : List ℕ)
@@ -44,47 +33,25 @@ filling-with_more false [] rest more e = absurd cc
 filling-with_more true (byte ∷ others) rest more e =
     filling-with_more (not (is_line_end byte)) others rest more e
 filling-with_more false (byte ∷ others) rest more e =
-    elim (chosen (is_whitespace byte) (filling false others)
-    (cond (eqb byte 35) (filling true others) (Ok (byte ∷ others))) (Ok rest) e) [
-      | inl spaced ↦ let is = spaced.0 in rw is (filling-with_more false others rest more spaced.1)
-      | inr solid ↦
-          let no = solid.0 in
-          elim (chosen (eqb byte 35) (filling true others) (Ok (byte ∷ others)) (Ok rest) solid.1) [
-            | inl comment ↦ let is = comment.0 in
-                rw (no, is) (filling-with_more true others rest more comment.1)
-            | inr end ↦ let none = end.0 in
-                rw (no, none) (ap (λ (t : List ℕ). Ok (t ++ more))
-                (ok_is (byte ∷ others) rest end.1))
-          ]
-    ]
+    grind (
+      arith,
+      nat_tests,
+      common_steps,
+      filling-with_more false others rest more,
+      filling-with_more true others rest more,
+    )
 
 -- a gap is read where more bytes follow
 gap-with_more : (bytes rest more : List ℕ) → gap bytes ≡ Ok rest
     → gap (bytes ++ more) ≡ Ok (rest ++ more)
 unfolding gap
 gap-with_more bytes rest more e =
-    let b = bind_ok (space bytes) (filling false) rest e in
-    rw (space-with_more bytes b.0 more b.1) (filling-with_more false b.0 rest more b.2)
+    grind (arith, nat_tests, common_steps, bind_ok, filling-with_more, space-with_more)
 
 -- a side is accepted in front of any bytes
 side-anywhere : (value : ℕ) (bytes others : List ℕ) (found : ℕ × List ℕ)
     → side value bytes ≡ Ok found → (found.1 ≡ bytes) × (side value others ≡ Ok (found.0, others))
-side-anywhere value bytes others found e =
-    elim (chosen (eqb value 0) (Err ZeroSize)
-    (cond (ltb 4096 value) (Err TooLarge) (Ok (value, bytes))) (Ok found) e) [
-      | inl nothing ↦ absurd (let no = nothing.1 in cc)
-      | inr some ↦
-          let other = some.0 in
-          elim (chosen (ltb 4096 value) (Err TooLarge) (Ok (value, bytes)) (Ok found) some.1) [
-            | inl over ↦ absurd (let no = over.1 in cc)
-            | inr few ↦
-                let short = few.0 in
-                let same = ok_is (value, bytes) found few.1 in (
-                  sym (ap (λ (p : ℕ × List ℕ). p.1) same),
-                  rw (other, short) (ap (λ (p : ℕ × List ℕ). Ok (p.0, others)) same),
-                )
-          ]
-    ]
+side-anywhere value bytes others found e = grind (arith, nat_tests, common_steps)
 
 -- digits are read where more bytes follow, if some follow already
 digits-with_more : (value : ℕ) (bytes : List ℕ) (found : ℕ × List ℕ) (more : List ℕ) → found.1 ≢ []
@@ -92,15 +59,13 @@ digits-with_more : (value : ℕ) (bytes : List ℕ) (found : ℕ × List ℕ) (m
 unfolding digits
 digits-with_more value [] found more some e = absurd (some ((side-anywhere value [] [] found e).0))
 digits-with_more value (byte ∷ others) found more some e =
-    elim (chosen (is_digit byte) (digits (10 * value + (byte - 48)) others)
-    (side value (byte ∷ others)) (Ok found) e) [
-      | inl next ↦ let is = next.0 in
-          rw is (digits-with_more (10 * value + (byte - 48)) others found more some next.1)
-      | inr end ↦
-          let no = end.0 in
-          let there = side-anywhere value (byte ∷ others) (byte ∷ (others ++ more)) found end.1 in
-          rw no (there.1 ∙ ap (λ (t : List ℕ). Ok (found.0, t ++ more)) (sym there.0))
-    ]
+    grind (
+      arith,
+      nat_tests,
+      common_steps,
+      digits-with_more (10 * value + (byte - 48)) others found
+          more some,
+    )
 
 -- a number is read where more bytes follow, if some follow already
 number-with_more : (bytes : List ℕ) (found : ℕ × List ℕ) (more : List ℕ) → found.1 ≢ []
@@ -109,35 +74,14 @@ number-with_more : (bytes : List ℕ) (found : ℕ × List ℕ) (more : List ℕ
 unfolding number_and_rest
 number-with_more [] found more some e = absurd cc
 number-with_more (byte ∷ others) found more some e =
-    elim (chosen (is_digit byte) (digits (byte - 48) others) (Err BadNumber) (Ok found) e) [
-      | inl next ↦ let is = next.0 in
-          rw is (digits-with_more (byte - 48) others found more some next.1)
-      | inr end ↦ absurd (let no = end.1 in cc)
-    ]
+    grind (arith, nat_tests, common_steps, digits-with_more)
 
 -- a magic number is read where more bytes follow
 magic-with_more : (bytes : List ℕ) (found : Form × List ℕ) (more : List ℕ) → magic bytes ≡ Ok found
     → magic (bytes ++ more) ≡ Ok (found.0, found.1 ++ more)
 magic-with_more [] found more e = absurd cc
-magic-with_more (p ∷ []) found more e =
-    elim (chosen (eqb p 80) (Err Truncated) (Err BadMagic) (Ok found) e)
-    [ inl equal ↦ absurd (let no = equal.1 in cc) | inr other ↦ absurd (let no = other.1 in cc) ]
-magic-with_more (p ∷ second ∷ others) found more e =
-    elim (chosen (eqb p 80 && eqb second 49) (Ok (Plain, others))
-    (cond (eqb p 80 && eqb second 52) (Ok (Raw, others)) (Err BadMagic)) (Ok found) e) [
-      | inl plain ↦ let is = plain.0 in
-          rw is (ap (λ (f : Form × List ℕ). Ok (f.0, f.1 ++ more))
-          (ok_is (Plain, others) found plain.1))
-      | inr other ↦
-          let no = other.0 in
-          elim (chosen (eqb p 80 && eqb second 52) (Ok (Raw, others)) (Err BadMagic)
-          (Ok found) other.1) [
-            | inl raw ↦ let is = raw.0 in
-                rw (no, is) (ap (λ (f : Form × List ℕ). Ok (f.0, f.1 ++ more))
-                (ok_is (Raw, others) found raw.1))
-            | inr none ↦ absurd (let nothing = none.1 in cc)
-          ]
-    ]
+magic-with_more (p ∷ []) found more e = grind (arith, nat_tests, common_steps)
+magic-with_more (p ∷ second ∷ others) found more e = grind (arith, nat_tests, common_steps)
 
 -- what stands between the height and the raster is read where more bytes follow
 before_raster-with_more : (form : Form) (bytes rest more : List ℕ)
@@ -187,21 +131,7 @@ header-with_more bytes found more e =
 pixel_at-with_more : (bytes : List ℕ) (found : Bool × List ℕ) (more : List ℕ)
     → pixel_at bytes ≡ Ok found → pixel_at (bytes ++ more) ≡ Ok (found.0, found.1 ++ more)
 pixel_at-with_more [] found more e = absurd cc
-pixel_at-with_more (byte ∷ rest) found more e =
-    elim (chosen (eqb byte 48) (Ok (false, rest))
-    (cond (eqb byte 49) (Ok (true, rest)) (Err BadPixel)) (Ok found) e) [
-      | inl white ↦ let is = white.0 in
-          rw is (ap (λ (f : Bool × List ℕ). Ok (f.0, f.1 ++ more))
-          (ok_is (false, rest) found white.1))
-      | inr other ↦
-          let no = other.0 in
-          elim (chosen (eqb byte 49) (Ok (true, rest)) (Err BadPixel) (Ok found) other.1) [
-            | inl black ↦ let is = black.0 in
-                rw (no, is) (ap (λ (f : Bool × List ℕ). Ok (f.0, f.1 ++ more))
-                (ok_is (true, rest) found black.1))
-            | inr none ↦ absurd (let nothing = none.1 in cc)
-          ]
-    ]
+pixel_at-with_more (byte ∷ rest) found more e = grind (arith, nat_tests, common_steps)
 
 -- the next pixel is read where more bytes follow
 next_pixel-with_more : (bytes : List ℕ) (found : Bool × List ℕ) (more : List ℕ)
@@ -241,14 +171,7 @@ pixels-with_more (suc n) bytes found more e =
 -- where some bytes are left, as many were taken as there are fewer of them
 taken-behind : (bytes text rest : List ℕ) → bytes ≡ text ++ rest → (length rest ≤ length bytes)
     × (drop (length bytes - length rest) bytes ≡ rest)
-taken-behind bytes text rest split =
-    let size : length bytes ≡ length text + length rest = ap length split
-    ∙ length-append text rest in
-    let count : length bytes - length rest ≡ length text = omega (arith, size) in (
-      omega (arith, size),
-      ap (λ n. drop n bytes) count
-          ∙ (ap (λ t. drop (length text) t) split ∙ drop-append_seam text rest),
-    )
+taken-behind bytes text rest split = grind (arith, nat_tests, common_steps)
 
 -- what stands before the rest, where pixels are read
 pixels-split : (n : ℕ) (bytes : List ℕ) (found : List Bool × List ℕ) → pixels n bytes ≡ Ok found

@@ -1,17 +1,16 @@
 -- Lists that go over a range.
-use Rattle.std.proofs.Common.{◌≡◌, ℕ, zero, suc, ◌+◌, ◌-◌, ◌*◌, ◌≤◌, List, [], ◌∷◌, ◌++◌, map, refl}
+use Rattle.std.proofs.Common.{◌≡◌, ℕ, zero, suc, ◌+◌, ◌-◌, ◌*◌, ◌≤◌, List, [], ◌∷◌, ◌++◌, map}
 use Rattle.std.proofs.Common.{sym, ap, ◌∙◌, append_assoc, arith}
 use Rattle.std.specs.List.{range_with_len, flat_map}
 use Rattle.std.proofs.lemmas.Grind.{flat_map-append}
 use Rattle.std.proofs.lemmas.List.{append-nil, map-append}
+use Rattle.std.proofs.lemmas.Grind.{common_steps}
+use Rattle.std.proofs.lemmas.Bool.Decides.{nat_tests}
 
 -- a range goes on where another ends
 pub range-append : (a m n : ℕ)
     → range_with_len a (m + n) ≡ range_with_len a m ++ range_with_len (a + m) n
-range-append a zero n =
-    let none : zero + n ≡ n = omega arith in
-    let here : a + zero ≡ a = omega arith in
-    rw (none, here) refl
+range-append a zero n = grind (arith, nat_tests, common_steps)
 range-append a (suc m) n =
     let more : suc m + n ≡ suc (m + n) = omega arith in
     let on : (a + 1) + m ≡ a + suc m = omega arith in
@@ -23,11 +22,7 @@ range-append a (suc m) n =
 range-row : (across y : ℕ)
     → range_with_len 0 ((y + 1) * across) ≡ range_with_len 0 (y * across)
     ++ range_with_len (y * across) across
-range-row across y =
-    let both : (y + 1) * across ≡ y * across + across = omega arith in
-    let start : 0 + y * across ≡ y * across = omega arith in
-    ap (range_with_len 0) both ∙ range-append 0 (y * across) across
-    ∙ ap (λ (k : ℕ). range_with_len 0 (y * across) ++ range_with_len k across) start
+range-row across y = grind (arith, nat_tests, common_steps, range-append)
 
 -- a list that has an item for each place has one more row after the next row's items
 pub map-row : (f : ℕ → ℕ) (before : List ℕ) (across y : ℕ)
@@ -35,11 +30,7 @@ pub map-row : (f : ℕ → ℕ) (before : List ℕ) (across y : ℕ)
     ++ map f (range_with_len (y * across) across)
     ≡ before ++ map f (range_with_len 0 ((y + 1) * across))
 map-row f before across y =
-    append_assoc before (map f (range_with_len 0 (y * across)))
-    (map f (range_with_len (y * across) across))
-    ∙ ap (λ (t : List ℕ). before ++ t)
-    (sym (ap (map f) (range-row across y)
-    ∙ map-append f (range_with_len 0 (y * across)) (range_with_len (y * across) across)))
+    grind (arith, nat_tests, common_steps, append_assoc, map-append, range-row)
 
 -- a list that has some items for each place has one more row after the next row's items
 pub flat_map-row : (f : ℕ → List ℕ) (before : List ℕ) (across y : ℕ)
@@ -47,11 +38,7 @@ pub flat_map-row : (f : ℕ → List ℕ) (before : List ℕ) (across y : ℕ)
     ++ flat_map f (range_with_len (y * across) across)
     ≡ before ++ flat_map f (range_with_len 0 ((y + 1) * across))
 flat_map-row f before across y =
-    append_assoc before (flat_map f (range_with_len 0 (y * across)))
-    (flat_map f (range_with_len (y * across) across))
-    ∙ ap (λ (t : List ℕ). before ++ t)
-    (sym (ap (flat_map f) (range-row across y)
-    ∙ flat_map-append f (range_with_len 0 (y * across)) (range_with_len (y * across) across)))
+    grind (arith, nat_tests, common_steps, append_assoc, flat_map-append, range-row)
 
 -- a range with one more place has its end as the last place
 range-more : (a n : ℕ) → range_with_len a (n + 1) ≡ range_with_len a n ++ (a + n) ∷ []
@@ -62,11 +49,7 @@ pub flat_map-more : (f : ℕ → List ℕ) (before : List ℕ) (a n : ℕ) (item
     → items ≡ f (a + n) → (before ++ flat_map f (range_with_len a n)) ++ items
     ≡ before ++ flat_map f (range_with_len a (n + 1))
 flat_map-more f before a n items is =
-    append_assoc before (flat_map f (range_with_len a n)) items
-    ∙ ap (λ (t : List ℕ). before ++ t)
-    (ap (λ (t : List ℕ). flat_map f (range_with_len a n) ++ t) (is ∙ sym (append-nil (f (a + n))))
-    ∙ sym (ap (flat_map f) (range-more a n)
-    ∙ flat_map-append f (range_with_len a n) ((a + n) ∷ [])))
+    grind (arith, nat_tests, common_steps, append-nil, append_assoc, flat_map-append, range-more)
 
 -- a list that has some items for each place from a row on has one more row after the next row's
 -- items
@@ -97,13 +80,4 @@ pub flat_map-rows : (f : ℕ → List ℕ) (across from to : ℕ) → from ≤ t
     ++ flat_map f (range_with_len (from * across) ((to - from) * across))
     ≡ flat_map f (range_with_len 0 (to * across))
 flat_map-rows f across from to order =
-    let up : from + (to - from) ≡ to = omega (arith, order) in
-    let both : from * across + (to - from) * across ≡ to * across = omega arith
-    ∙ ap (λ (k : ℕ). k * across) up in
-    let none : 0 + from * across ≡ from * across = omega arith in
-    sym (flat_map-append f (range_with_len 0 (from * across))
-    (range_with_len (from * across) ((to - from) * across)))
-    ∙ (ap (flat_map f)
-    (ap (λ (k : ℕ). range_with_len 0 (from * across) ++ range_with_len k ((to - from) * across))
-    (sym none) ∙ sym (range-append 0 (from * across) ((to - from) * across)))
-    ∙ ap (λ (m : ℕ). flat_map f (range_with_len 0 m)) both)
+    grind (arith, nat_tests, common_steps, flat_map-append, range-append)

@@ -1,31 +1,22 @@
 -- Rasters: what is read is spelled so, and what is spelled so is read.
 use Rattle.std.proofs.Common.{◌≡◌, ℕ, zero, suc, ◌-◌, ◌+◌, ◌<◌, Bool, true, false, cond, eqb, List}
-use Rattle.std.proofs.Common.{[], ◌∷◌, ◌++◌, length, Result, Ok, Err, refl, sym, ap, subst, ◌∙◌}
+use Rattle.std.proofs.Common.{[], ◌∷◌, ◌++◌, length, Result, Ok, Err, refl, sym, ap, ◌∙◌}
 use Rattle.std.proofs.Common.{append_assoc, inl, inr, arith}
-use Rattle.std.proofs.lemmas.Bool.{eqb-true}
-use Rattle.std.proofs.lemmas.List.{append-nil}
 use Rattle.metric.specs.declared.fault.PbmFault.{PbmFault}
-use Rattle.metric.specs.declared.fault.PbmFault.TheVariants.{BadComment, BadPixel}
+use Rattle.metric.specs.declared.fault.PbmFault.TheVariants.{BadComment}
 use Rattle.pbm.specs.Faults.{◌>>=◌, filling, gap, pixel_at, next_pixel, pixels}
 use Rattle.pbm.specs.Image.{is_whitespace, IsGap, pixel_byte, IsBetween, IsRaster}
-use Rattle.pbm.proofs.Steps.{ok_is, bind_ok, chosen}
+use Rattle.pbm.proofs.Steps.{bind_ok, chosen}
 use Rattle.pbm.proofs.Gaps.{GapRead-from, EndsGap, filling-again, gap-again}
+use Rattle.std.proofs.Common.{rules}
+use Rattle.std.proofs.lemmas.Grind.{common_steps}
+use Rattle.std.proofs.lemmas.Bool.Decides.{nat_tests}
 
 -- a pixel that is read is spelled so
 pixel_at-read : (bytes : List ℕ) (found : Bool × List ℕ) → pixel_at bytes ≡ Ok found
     → bytes ≡ pixel_byte found.0 ∷ found.1
 pixel_at-read [] found e = absurd cc
-pixel_at-read (byte ∷ rest) found e =
-    elim (chosen (eqb byte 48) (Ok (false, rest))
-    (cond (eqb byte 49) (Ok (true, rest)) (Err BadPixel)) (Ok found) e) [
-      | inl white ↦ subst (λ (p : Bool × List ℕ). byte ∷ rest ≡ pixel_byte p.0 ∷ p.1)
-          (ok_is (false, rest) found white.1) (ap (λ (b : ℕ). b ∷ rest) (eqb-true byte 48 white.0))
-      | inr other ↦ elim (chosen (eqb byte 49) (Ok (true, rest)) (Err BadPixel) (Ok found) other.1) [
-        | inl black ↦ subst (λ (p : Bool × List ℕ). byte ∷ rest ≡ pixel_byte p.0 ∷ p.1)
-            (ok_is (true, rest) found black.1) (ap (λ (b : ℕ). b ∷ rest) (eqb-true byte 49 black.0))
-        | inr none ↦ absurd (let no = none.1 in cc)
-      ]
-    ]
+pixel_at-read (byte ∷ rest) found e = grind (arith, nat_tests, common_steps)
 
 -- a pixel was read, after nothing or a gap
 record PixelRead (bytes : List ℕ) (found : Bool × List ℕ) : Type 0 where
@@ -82,15 +73,7 @@ IsRaster-cons pixel (next ∷ all) between rest some is_between is =
 RasterRead-one : (bytes : List ℕ) (first : Bool × List ℕ) → PixelRead bytes first
     → RasterRead 1 bytes (first.0 ∷ [], first.1)
 unfolding IsRaster
-RasterRead-one bytes first p =
-    record {
-      between = p.between;
-      text = pixel_byte first.0 ∷ [];
-      is_between = p.is_between;
-      is_raster = refl;
-      split = p.split;
-      count = refl;
-    }
+RasterRead-one bytes first p = grind (arith, nat_tests, common_steps)
 
 -- a pixel and a raster are a raster
 RasterRead-cons : (n : ℕ) (bytes : List ℕ) (first : Bool × List ℕ) (others : List Bool × List ℕ)
@@ -113,17 +96,18 @@ pub pixels-read : (n : ℕ) (bytes : List ℕ) (found : List Bool × List ℕ)
     → pixels (suc n) bytes ≡ Ok found → RasterRead (suc n) bytes found
 unfolding pixels
 pixels-read zero bytes found e =
-    let a = bind_ok (next_pixel bytes)
-    (λ first. pixels zero first.1 >>= λ others. Ok (first.0 ∷ others.0, others.1)) found e in
-    subst (λ (f : List Bool × List ℕ). RasterRead 1 bytes f) (ok_is (a.0.0 ∷ [], a.0.1) found a.2)
-    (RasterRead-one bytes a.0 (next_pixel-read bytes a.0 a.1))
+    grind (arith, nat_tests, common_steps, RasterRead-one, bind_ok, next_pixel-read)
 pixels-read (suc n) bytes found e =
-    let a = bind_ok (next_pixel bytes)
-    (λ first. pixels (suc n) first.1 >>= λ others. Ok (first.0 ∷ others.0, others.1)) found e in
-    let b = bind_ok (pixels (suc n) a.0.1) (λ others. Ok (a.0.0 ∷ others.0, others.1)) found a.2 in
-    subst (λ (f : List Bool × List ℕ). RasterRead (suc (suc n)) bytes f)
-    (ok_is (a.0.0 ∷ b.0.0, b.0.1) found b.2)
-    (RasterRead-cons n bytes a.0 b.0 (next_pixel-read bytes a.0 a.1) (pixels-read n a.0.1 b.0 b.1))
+    grind (
+      arith,
+      nat_tests,
+      common_steps,
+      RasterRead-cons,
+      bind_ok,
+      next_pixel-read,
+      pixels-read
+          n,
+    )
 
 -- a gap ends at a pixel
 pixel-ends : (pixel : Bool) → EndsGap (pixel_byte pixel)
@@ -155,15 +139,15 @@ next_pixel-spaced first others pixel rest is h = rw (is, h) (pixel_at-again pixe
 next_pixel-again : (between : List ℕ) (pixel : Bool) (rest : List ℕ) → IsBetween between
     → next_pixel (between ++ pixel_byte pixel ∷ rest) ≡ Ok (pixel, rest)
 next_pixel-again between pixel rest is =
-    elim is [
-      | inl nothing ↦ ap (λ (t : List ℕ). next_pixel (t ++ pixel_byte pixel ∷ rest)) nothing
-          ∙ next_pixel-here pixel rest
-      | inr spaced ↦
-          ap (λ (t : List ℕ). next_pixel (t ++ pixel_byte pixel ∷ rest)) spaced.is_text
-          ∙ next_pixel-spaced spaced.first spaced.others pixel rest spaced.first_is
-          (filling-again false spaced.others (pixel_byte pixel) rest spaced.others_are
-          (pixel-ends pixel))
-    ]
+    grind (
+      arith,
+      nat_tests,
+      common_steps,
+      filling-again,
+      next_pixel-here,
+      next_pixel-spaced,
+      pixel-ends,
+    )
 
 -- a raster is read after nothing or a gap
 raster-again : (all : List Bool) (pixel : Bool) (between text rest : List ℕ) → IsBetween between
@@ -171,19 +155,9 @@ raster-again : (all : List Bool) (pixel : Bool) (between text rest : List ℕ) �
     → pixels (suc (length all)) (between ++ (text ++ rest)) ≡ Ok (pixel ∷ all, rest)
 unfolding pixels IsRaster
 raster-again [] pixel between text rest is_between is =
-    let regrouped : between ++ (text ++ rest) ≡ between ++ (pixel_byte pixel ∷ rest) =
-    ap (λ (t : List ℕ). between ++ (t ++ rest)) is in
-    ap (pixels (suc zero)) regrouped ∙ rw (next_pixel-again between pixel rest is_between) refl
+    grind (arith, nat_tests, common_steps, next_pixel-again)
 raster-again (next ∷ all) pixel between text rest is_between is =
-    let after : List ℕ = is.0 ++ (is.1 ++ rest) in
-    let regrouped : between ++ (text ++ rest) ≡ between ++ (pixel_byte pixel ∷ after) =
-    ap (λ (t : List ℕ). between ++ (t ++ rest)) is.4
-    ∙ ap (λ (t : List ℕ). between ++ (pixel_byte pixel ∷ t)) (append_assoc is.0 is.1 rest) in
-    ap (pixels (suc (suc (length all)))) regrouped
-    ∙ rw (
-      next_pixel-again between pixel after is_between,
-      raster-again all next is.0 is.1 rest is.2 is.3,
-    ) refl
+    search (rules, arith, append_assoc, next_pixel-again, raster-again all next)
 
 -- a raster that is spelled so is read
 pub pixels-again : (all : List Bool) (n : ℕ) (text rest : List ℕ) → length all ≡ n → 0 < n
@@ -205,12 +179,7 @@ pub gap-before_raster : (all : List Bool) (text gap_text rest : List ℕ) → 0 
     → IsRaster text all → IsGap gap_text → gap (gap_text ++ (text ++ rest)) ≡ Ok (text ++ rest)
 gap-before_raster [] text gap_text rest some is is_gap = absurd (omega arith)
 gap-before_raster (pixel ∷ all) text gap_text rest some is is_gap =
-    let front = raster-front all pixel text is in
-    let begins : text ++ rest ≡ pixel_byte pixel ∷ (front.0 ++ rest) =
-    ap (λ (t : List ℕ). t ++ rest) front.1 in
-    ap (λ (t : List ℕ). gap (gap_text ++ t)) begins
-    ∙ gap-again gap_text (pixel_byte pixel) (front.0 ++ rest) is_gap (pixel-ends pixel)
-    ∙ ap (λ (t : List ℕ). Ok t) (sym begins)
+    grind (arith, nat_tests, common_steps, gap-again, pixel-ends, raster-front)
 
 -- what was read before, and what is still read
 abbrev pub with_front : List Bool → Result (List Bool × List ℕ) PbmFault
@@ -246,18 +215,11 @@ pub pixels-fault : (front : List Bool) (count k : ℕ) (bytes : List ℕ) (fault
     (whole : Result (List Bool × List ℕ) PbmFault) → k < count → next_pixel bytes ≡ Err fault
     → whole ≡ with_front front (pixels (count - k) bytes) → whole ≡ Err fault
 unfolding pixels
-pixels-fault front count k bytes fault whole few h so_far =
-    let more : count - k ≡ suc (count - (k + 1)) = omega arith in
-    let one : with_front front (pixels (count - k) bytes) ≡ Err fault = rw (more, h) refl in
-    so_far ∙ one
+pixels-fault front count k bytes fault whole few h so_far = grind (arith, nat_tests, common_steps)
 
 -- where no pixel is left to read, all pixels are those of the front
 pub pixels-done : (front : List Bool) (count : ℕ) (bytes : List ℕ)
     (whole : Result (List Bool × List ℕ) PbmFault)
     → whole ≡ with_front front (pixels (count - count) bytes) → whole ≡ Ok (front, bytes)
 unfolding pixels
-pixels-done front count bytes whole so_far =
-    let none : count - count ≡ 0 = omega arith in
-    let one : with_front front (pixels (count - count) bytes) ≡ Ok (front, bytes) =
-    rw none (ap (λ (all : List Bool). Ok (all, bytes)) (append-nil front)) in
-    so_far ∙ one
+pixels-done front count bytes whole so_far = grind (arith, nat_tests, common_steps)

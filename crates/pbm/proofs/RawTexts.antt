@@ -6,31 +6,25 @@ use Rattle.std.specs.Fmt.{decimal}
 use Rattle.std.specs.Int.{bit_at}
 use Rattle.std.specs.List.{range_with_len}
 use Rattle.std.proofs.lemmas.Nat.{div-mul-add, mod-mul-add}
-use Rattle.std.proofs.lemmas.Nat.Bits.{bit_at_lowest, bit_at-suc}
+use Rattle.std.proofs.lemmas.Nat.Bits.{bit_at-suc}
 use Rattle.std.proofs.lemmas.List.FromFn.{get_or-map-range_with_len, length-map-range_with_len}
 use Rattle.bits.specs.Cells.{Cells, has, IsBitmap}
 use Rattle.pbm.specs.Image.{bytes_across, raw_pixel, fills, IsGap, IsRaw}
 use Rattle.pbm.specs.Writing.{packed, raw_byte, raw_text}
 use Rattle.pbm.proofs.Decimals.{IsNumber-decimal}
 use Rattle.pbm.proofs.Pixels.{place-below}
+use Rattle.std.proofs.lemmas.Grind.{common_steps}
+use Rattle.std.proofs.lemmas.Bool.Decides.{nat_tests}
 
 -- the number of a pixel: 1 is black
 abbrev pub one : Bool → ℕ
 one black = cond black 1 0
 
--- the number of one pixel is small
-one-small : (black : Bool) → one black ≤ 1
-one-small true = omega arith
-one-small false = omega arith
-
 -- as many pixels are no more than as many binary digits
 pub packed-below : (cells : Cells) (x y n : ℕ) → packed cells x y n + 1 ≤ 2 ^ n
 unfolding packed
 packed-below cells x y zero = omega arith
-packed-below cells x y (suc n) =
-    let small = one-small (has cells (x + n) y) in
-    let before = packed-below cells x y n in
-    omega (arith, small, before)
+packed-below cells x y (suc n) = grind (arith, nat_tests, common_steps, packed-below cells x y n)
 
 -- a number of a lowest digit and those above it has that digit as its rest, and those as its half
 lowest : (high : ℕ) (black : Bool) → ((2 * high + one black) % 2 ≡ one black)
@@ -43,17 +37,9 @@ pub packed-bit : (cells : Cells) (x y n j : ℕ) → j < n
     → bit_at (packed cells x y n) j ≡ one (has cells (x + (n - 1 - j)) y)
 unfolding packed
 packed-bit cells x y zero j below = absurd (omega arith)
-packed-bit cells x y (suc n) zero below =
-    let last : n ≡ suc n - 1 - 0 = omega arith in
-    bit_at_lowest (2 * packed cells x y n + one (has cells (x + n) y))
-    ∙ (lowest (packed cells x y n) (has cells (x + n) y)).0
-    ∙ ap (λ (k : ℕ). one (has cells (x + k) y)) last
+packed-bit cells x y (suc n) zero below = grind (arith, nat_tests, common_steps)
 packed-bit cells x y (suc n) (suc j) below =
-    let before : n - 1 - j ≡ suc n - 1 - suc j = omega arith in
-    bit_at-suc (2 * packed cells x y n + one (has cells (x + n) y)) j
-    ∙ ap (λ (k : ℕ). bit_at k j) (lowest (packed cells x y n) (has cells (x + n) y)).1
-    ∙ packed-bit cells x y n j (omega arith)
-    ∙ ap (λ (k : ℕ). one (has cells (x + k) y)) before
+    grind (arith, nat_tests, common_steps, bit_at-suc, lowest, packed-bit cells x y n j)
 
 -- a pixel is black where its number is 1
 one-is : (black : Bool) → eqb (one black) 1 ≡ black
@@ -63,11 +49,7 @@ one-is false = refl
 -- the byte k of row y has the pixels from column 8 k on
 pub raw_byte-at : (cells : Cells) (y k : ℕ) → k < bytes_across cells.width
     → packed cells (8 * k) y 8 ≡ raw_byte cells (y * bytes_across cells.width + k)
-raw_byte-at cells y k within =
-    let across : ℕ = bytes_across cells.width in
-    sym (ap (λ (a : ℕ). packed cells (8 * a) ((y * across + k) / across) 8)
-    (mod-mul-add y across k within)
-    ∙ ap (λ (b : ℕ). packed cells (8 * k) b 8) (div-mul-add y across k within))
+raw_byte-at cells y k within = grind (arith, nat_tests, common_steps, div-mul-add, mod-mul-add)
 
 -- the bytes of a raw raster
 abbrev raw_bytes : Cells → List ℕ

@@ -1,12 +1,13 @@
 -- How far a raw raster was read into its bitmap, row by row.
-use Rattle.std.proofs.Common.{◌≡◌, ℕ, ◌+◌, ◌-◌, ◌*◌, ◌/◌, ◌%◌, ◌<◌, ◌≤◌, ◌==◌, ◌&&◌, false, ltb}
+use Rattle.std.proofs.Common.{◌≡◌, ℕ, ◌+◌, ◌-◌, ◌*◌, ◌/◌, ◌%◌, ◌<◌, ◌≤◌, ◌==◌, Bool}
+use Rattle.std.proofs.Common.{true, false, [], Option}
 use Rattle.std.proofs.Common.{List, length, take, drop, get_or, Ok, Err, refl, sym, ap, ◌∙◌, arith}
-use Rattle.std.proofs.Common.{length-drop, length-append}
+use Rattle.std.proofs.Common.{length-drop}
 use Rattle.std.specs.Int.{bit_at}
-use Rattle.std.proofs.Math.Nat.{mul-le-mul_left}
-use Rattle.std.proofs.lemmas.Bool.{le-ltb, lt-ltb}
-use Rattle.std.proofs.lemmas.List.{get_or-take, get_or-drop, get_or_append_left, drop-drop}
-use Rattle.std.proofs.lemmas.List.{drop-append-le}
+use Rattle.std.proofs.lemmas.Bool.{le-ltb}
+use Rattle.std.proofs.lemmas.List.{get_or-take, get_or-drop, drop-drop}
+use Rattle.metric.specs.Stream.{AreAll}
+use Rattle.metric.specs.declared.fault.PbmFault.{PbmFault}
 use Rattle.metric.specs.declared.fault.PbmFault.TheVariants.{Truncated}
 use Rattle.bits.specs.Cells.{Cells, cells_where}
 use Rattle.bits.specs.Words.{words_across}
@@ -15,28 +16,12 @@ use Rattle.bits.proofs.CellsLemmas.{cells_where-same}
 use Rattle.pbm.specs.Faults.{raw_cells, raw_raster}
 use Rattle.pbm.specs.Image.{bytes_across, raw_pixel}
 use Rattle.pbm.specs.Raw.{IsRowRead}
-use Rattle.pbm.specs.Windows.{Stands}
+use Rattle.pbm.specs.Windows.{Meets}
+use Rattle.pbm.proofs.Following.{Meets-end}
 use Rattle.pbm.proofs.RasterRows.{drawn_row-more}
 use Rattle.pbm.proofs.Words.{drawn_words, drawn_words-all, place-below_row, raw_word-pixel}
-
--- a row, read of a window, stands with any bytes after it
-pub Stands-row : (across : ℕ) (bytes words : List ℕ) → across ≤ length bytes
-    → ((k : ℕ) → k < 64 → (i : ℕ) → i < 64 → 8 * k + i / 8 < across
-    → bit_at (get_or words k 0) i ≡ bit_at (get_or bytes (0 + 8 * k + i / 8) 0) (7 - i % 8))
-    → Stands across bytes (λ all left. IsRowRead across all words left)
-Stands-row across bytes words within bits = record {
-  inside = within;
-  holds = λ more. record {
-    enough = omega (arith, length-append bytes more);
-    left = sym (drop-append-le across bytes more within);
-    bits = λ k few i fits inside.
-        let place : 0 + 8 * k + i / 8 ≡ 8 * k + i / 8 = omega arith in
-        bits k few i fits inside
-        ∙ ap (λ (n : ℕ). bit_at (get_or bytes n 0) (7 - i % 8)) place
-        ∙ ap (λ (byte : ℕ). bit_at byte (7 - i % 8))
-        (sym (get_or_append_left bytes more 0 (8 * k + i / 8) (omega arith)));
-  };
-}
+use Rattle.std.proofs.lemmas.Grind.{common_steps}
+use Rattle.std.proofs.lemmas.Bool.Decides.{nat_tests}
 
 -- the rows above row y were read into the bitmap, and the others stand in what is left
 pub record IsRawTo (width height y : ℕ) (all left : List ℕ) (cells : Cells) : Type 0 where
@@ -48,17 +33,7 @@ pub record IsRawTo (width height y : ℕ) (all left : List ℕ) (cells : Cells) 
 -- no row was read into a blank bitmap
 pub IsRawTo-none : (width height : ℕ) (bytes : List ℕ) (cells : Cells)
     → cells ≡ cells_where width height (λ x y. false) → IsRawTo width height 0 bytes bytes cells
-IsRawTo-none width height bytes cells blank =
-    let across : ℕ = words_across width in
-    let none : 0 * bytes_across width ≡ 0 = omega arith in
-    record {
-      enough = omega arith;
-      behind = ap (λ (n : ℕ). drop n bytes) (sym none);
-      drawn = blank ∙ cells_where-same width height (λ x y. false)
-          (λ a b. ltb (b * across + a / 64) (0 * across)
-          && raw_pixel (bytes_across width) bytes a b)
-          (λ a b ha hb. rw (le-ltb (b * across + a / 64) (0 * across) (omega arith)) refl);
-    }
+IsRawTo-none width height bytes cells blank = grind (arith, nat_tests, common_steps)
 
 -- one more row was read
 pub IsRawTo-row : (width height y : ℕ) (all here left words : List ℕ) (cells : Cells)
@@ -108,14 +83,19 @@ IsRawTo-all width height all left cells whole =
     rw (le-ltb (length all) needed whole.enough, same, sym whole.behind) refl
 
 -- where the bytes left are fewer than a row, the raster is cut
-pub IsRawTo-cut : (width height y : ℕ) (all here : List ℕ) (cells : Cells) → y < height
-    → length here < bytes_across width → IsRawTo width height y all here cells
-    → raw_raster width height all ≡ Err Truncated
+pub IsRawTo-cut : (width height y : ℕ) (cells : Cells) (fault : PbmFault) (all here : List ℕ)
+    → y < height → IsRawTo width height y all here cells
+    → (fault ≡ Truncated) × (length here < bytes_across width)
+    → raw_raster width height all ≡ Err fault
 unfolding raw_raster
-IsRawTo-cut width height y all here cells row few so_far =
-    let across : ℕ = bytes_across width in
-    let start : ℕ = y * across in
-    let size : length here ≡ length all - start =
-    ap (λ (l : List ℕ). length l) so_far.behind ∙ length-drop start all in
-    let rows : across * (y + 1) ≤ across * height = mul-le-mul_left across (omega arith) in
-    rw (lt-ltb (length all) (height * across) (omega (arith, size, rows, few))) refl
+IsRawTo-cut width height y cells fault all here row so_far cut =
+    grind (arith, nat_tests, common_steps)
+
+-- where a source has ended with fewer bytes than a row takes, there are no more of them
+pub row-cut : (rest : Option (List ℕ)) (bytes : List ℕ) (across : ℕ) (none : Bool)
+    → (none ≡ true → AreAll rest []) → (none ≡ false → across ≤ length bytes)
+    → length bytes < across
+    → Meets rest bytes (λ all. (Truncated ≡ Truncated) × (length all < across))
+row-cut rest bytes across true all some few = Meets-end (all refl) (refl, few)
+row-cut rest bytes across false all some few =
+    absurd (let enough = some refl in omega (arith, enough, few))

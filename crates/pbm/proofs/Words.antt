@@ -4,14 +4,14 @@ use Rattle.std.proofs.Common.{Bool, true, ltb, List, [], ◌∷◌, get_or, refl
 use Rattle.std.proofs.Common.{◌∙◌, inl, inr, arith}
 use Rattle.std.specs.Int.{bit_at, reverse_bits_onto}
 use Rattle.std.proofs.lemmas.Bool.{cases_lt, lt-ltb}
-use Rattle.std.proofs.Math.Nat.{mul-le-mul_left}
-use Rattle.std.proofs.lemmas.List.{get_or_past}
 use Rattle.std.proofs.lemmas.Nat.Bits.{bit_at-suc, bit_at-zero, bit_at_lowest, bit_at_cat_low}
 use Rattle.std.proofs.lemmas.Nat.Bits.{bit_at_cat_high}
 use Rattle.bits.specs.Cells.{Cells, cells_where}
 use Rattle.bits.specs.Words.{words_across}
 use Rattle.pbm.specs.Image.{raw_pixel}
 use Rattle.bits.proofs.CellsLemmas.{cells_where-same}
+use Rattle.std.proofs.lemmas.Grind.{common_steps}
+use Rattle.std.proofs.lemmas.Bool.Decides.{nat_tests}
 
 -- where another number's bits are turned onto a number, its own stand above those
 bit_at-reverse_high : (k n front i : ℕ) → k ≤ i
@@ -85,19 +85,11 @@ each_of_eight P a b c d e f g h (suc (suc (suc (suc (suc (suc (suc zero))))))) w
 each_of_eight P a b c d e f g h (suc (suc (suc (suc (suc (suc (suc (suc k)))))))) within =
     absurd (omega arith)
 
--- past eight bytes there is none
-past_eight : (a b c d e f g h k : ℕ) → 8 ≤ k → get_or (a ∷ b ∷ c ∷ d ∷ e ∷ f ∷ g ∷ h ∷ []) k 0 ≡ 0
-past_eight a b c d e f g h k past = get_or_past (a ∷ b ∷ c ∷ d ∷ e ∷ f ∷ g ∷ h ∷ []) k 0 past
-
 -- eight bytes are small
 small_of_eight : (a b c d e f g h : ℕ) → a < 256 → b < 256 → c < 256 → d < 256 → e < 256
     → f < 256 → g < 256 → h < 256 → (k : ℕ)
     → get_or (a ∷ b ∷ c ∷ d ∷ e ∷ f ∷ g ∷ h ∷ []) k 0 < 2 ^ 8
-small_of_eight a b c d e f g h sa sb sc sd se sf sg sh k = elim (cases_lt k 8) [
-  | inl within ↦ each_of_eight (λ n. get_or (a ∷ b ∷ c ∷ d ∷ e ∷ f ∷ g ∷ h ∷ []) n 0 < 256) sa sb sc
-      sd se sf sg sh k within
-  | inr past ↦ rw (past_eight a b c d e f g h k past) (omega arith)
-]
+small_of_eight a b c d e f g h sa sb sc sd se sf sg sh k = grind (arith, nat_tests, common_steps)
 
 -- eight bytes from a place of a list on
 abbrev eight_of : List ℕ → ℕ → List ℕ
@@ -133,9 +125,7 @@ drawn_words width height test n =
 -- a place of a row is one of all rows' places
 pub place-below_row : (across height k b : ℕ) → k < across → b < height
     → b * across + k < height * across
-place-below_row across height k b column row =
-    let most : across * (b + 1) ≤ across * height = mul-le-mul_left across (omega arith) in
-    omega (arith, most)
+place-below_row across height k b column row = grind (arith, nat_tests, common_steps)
 
 -- a word of a cell is one of the bitmap's
 place-below_words : (width height a b : ℕ) → a < width → b < height
@@ -161,8 +151,4 @@ pub raw_word-pixel : (across : ℕ) (raster : List ℕ) (y index start i word : 
     → bit_at word i ≡ bit_at (get_or raster (start + i / 8) 0) (7 - i % 8)
     → (bit_at word i == 1) ≡ raw_pixel across raster (64 * index + i) y
 raw_word-pixel across raster y index start i word start_is bit =
-    let byte : start + i / 8 ≡ y * across + (64 * index + i) / 8 = omega arith in
-    let place : 7 - i % 8 ≡ 7 - (64 * index + i) % 8 = omega arith in
-    ap (λ (n : ℕ). n == 1) (bit
-    ∙ (ap (λ (n : ℕ). bit_at (get_or raster n 0) (7 - i % 8)) byte
-    ∙ ap (bit_at (get_or raster (y * across + (64 * index + i) / 8) 0)) place))
+    grind (arith, nat_tests, common_steps)

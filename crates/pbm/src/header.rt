@@ -1,12 +1,16 @@
 //! The header of an image: everything before its raster.
 
-ghost use Rattle.std.specs.Prelude.{◌≡◌, Ok, Err, MatchResult};
+ghost use Rattle.std.specs.Prelude.{◌≡◌, false, Ok, Err, IfOk, IfErr, MatchResult};
+ghost use Rattle.metric.specs.declared.fault.PbmFault.TheVariants.{Memory};
+ghost use Rattle.bits.specs.Cells.{IsSide, cells_where};
 ghost use Rattle.pbm.specs.Faults.{before_raster, header, magic};
 ghost use Rattle.pbm.specs.Writing.{form_digit};
 
 use crate::gap::{after_gap, after_space};
 use crate::number::read_number;
+use bits::Bitmap;
 use metric::PbmFault;
+use std::alloc::Global;
 
 /// The form of an image.
 #[derive(Clone, Copy, Debug, PartialEq, Eq)]
@@ -25,6 +29,30 @@ impl Form {
         match self {
             Form::Plain => b'1',
             Form::Raw => b'4',
+        }
+    }
+}
+
+/// What stands before a raster: the form of the image, and the sides of its bitmap.
+#[derive(Clone, Copy, Debug, PartialEq, Eq)]
+pub struct Header {
+    pub form: Form,
+    pub width: u16,
+    pub height: u16,
+}
+
+impl Header {
+    /// A blank bitmap of these sides. Fails only when out of memory.
+    pub fn blank(self, alloc: Global) -> Result<Bitmap, PbmFault>
+        requires width { IsSide self.width }
+        requires height { IsSide self.height }
+        ensures blank { IfOk result
+            (λ bitmap. bitmap ≡ cells_where self.width self.height (λ x y. false)) }
+        ensures memory { IfErr result (λ fault. fault ≡ Memory) }
+    {
+        match Bitmap::blank(alloc, self.width, self.height) {
+            Ok(bitmap) => Ok(bitmap),
+            Err(refusal) => Err(PbmFault::no_bitmap(refusal)),
         }
     }
 }
@@ -53,11 +81,12 @@ fn at_raster(form: Form, bytes: &[u8]) -> Result<&[u8], PbmFault>
     }
 }
 
-/// The form, the width, the height and the bytes from the raster on.
+/// The header, and the bytes from the raster on.
 #[tactic(auto, unfolding(crate::specs::Faults::header))]
-pub fn read_header(bytes: &[u8]) -> Result<(Form, u16, u16, &[u8]), PbmFault>
+pub fn read_header(bytes: &[u8]) -> Result<(Header, &[u8]), PbmFault>
     ensures { MatchResult result (λ found. header bytes.now
-        ≡ Ok (found.0, found.1, found.2, found.3.now)) (λ fault. header bytes.now ≡ Err fault) }
+        ≡ Ok (found.0.form, found.0.width, found.0.height, found.1.now))
+        (λ fault. header bytes.now ≡ Err fault) }
 {
     let (form, rest) = after_magic(bytes)?;
     let rest = after_gap(rest)?;
@@ -65,5 +94,10 @@ pub fn read_header(bytes: &[u8]) -> Result<(Form, u16, u16, &[u8]), PbmFault>
     let rest = after_gap(rest)?;
     let (height, rest) = read_number(rest)?;
     let rest = at_raster(form, rest)?;
-    Ok((form, width, height, rest))
+    let header = Header {
+        form,
+        width,
+        height,
+    };
+    Ok((header, rest))
 }

@@ -34,12 +34,9 @@ fn read_front(alloc: Global, bytes: &[u8]) -> Result<(Bitmap, &[u8]), PbmFault>
         (λ fault. fault ≢ PbmFault.Memory → image bytes.now ≡ Err fault) }
     ensures memory { result ≡ Err PbmFault.Memory → IsOk (header bytes.now) }
 {
-    let (form, width, height, rest) = read_header(bytes)?;
-    let mut bitmap = match Bitmap::blank(alloc, width, height) {
-        Ok(bitmap) => bitmap,
-        Err(refusal) => return Err(PbmFault::no_bitmap(refusal)),
-    };
-    let rest = read_raster(form, &mut bitmap, rest)?;
+    let (header, rest) = read_header(bytes)?;
+    let mut bitmap = header.blank(alloc)?;
+    let rest = read_raster(header.form, &mut bitmap, rest)?;
     Ok((bitmap, rest))
 }
 

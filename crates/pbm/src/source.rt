@@ -14,7 +14,7 @@ use crate::raw_raster::{WORD_PIXELS, bytes_across};
 use crate::raw_row::MOST_ACROSS;
 use crate::window::{ImageStop, Window};
 use bits::Bitmap;
-use metric::{PbmFault, Source};
+use metric::Source;
 use std::alloc::Global;
 
 /// Takes the pixels into a blank bitmap, a word at a time.
@@ -42,10 +42,8 @@ fn take_pixels<R: Source>(
     'rows: for y in 0..height {
         'words: for index in 0..width.div_ceil(WORD_PIXELS) {
             let count = (width - WORD_PIXELS * index).min(WORD_PIXELS);
-            match window.next_word(reader, count) {
-                Ok(word) => bitmap.set_word(y, index, word),
-                Err(stop) => return Err(stop),
-            }
+            let word = window.next_word(reader, count)?;
+            bitmap.set_word(y, index, word);
         }
     }
     Ok(())
@@ -63,13 +61,9 @@ fn see_end<R: Source>(window: &mut Window, reader: &mut R) -> Result<(), ImageSt
         (λ all. ended all ≡ Err fault))) }
     ensures counts { CountsReads (R.failed_reads reader.old) result (R.failed_reads reader.new) }
 {
-    if let Err(stop) = window.fill(reader, 0) {
-        return Err(stop);
-    }
-    match after_image(window.unread()) {
-        Ok(_) => Ok(()),
-        Err(fault) => Err(ImageStop::Fault(fault)),
-    }
+    window.fill(reader, 0)?;
+    after_image(window.unread())?;
+    Ok(())
 }
 
 /// Takes a plain raster into a blank bitmap.
@@ -91,13 +85,8 @@ fn take_plain<R: Source>(
         (λ all. plain_raster bitmap.old.width bitmap.old.height all ≡ Err fault))) }
     ensures counts { CountsReads (R.failed_reads reader.old) result (R.failed_reads reader.new) }
 {
-    if let Err(stop) = take_pixels(window, reader, bitmap) {
-        return Err(stop);
-    }
-    match see_end(window, reader) {
-        Ok(()) => Ok(()),
-        Err(stop) => Err(stop),
-    }
+    take_pixels(window, reader, bitmap)?;
+    see_end(window, reader)
 }
 
 /// Takes a raw raster into a blank bitmap, row by row, and keeps what the source has after it.
@@ -124,15 +113,10 @@ fn take_raw<R: Source>(
     let mut reversed = [0; MOST_ACROSS];
     let mut words = [0; 64];
     'rows: for y in 0..height {
-        match window.next_row(reader, across, &mut reversed, &mut words) {
-            Ok(()) => bitmap.set_row(y, &words),
-            Err(stop) => return Err(stop),
-        }
+        window.next_row(reader, across, &mut reversed, &mut words)?;
+        bitmap.set_row(y, &words);
     }
-    match window.fill_whole(reader) {
-        Ok(()) => Ok(()),
-        Err(stop) => Err(stop),
-    }
+    window.fill_whole(reader)
 }
 
 /// Takes the raster of an image of this form into a blank bitmap.
@@ -178,18 +162,10 @@ fn take_image<R: Source>(
         (λ all. IsStopped all fault))) }
     ensures counts { CountsReads (R.failed_reads reader.old) result (R.failed_reads reader.new) }
 {
-    let (form, width, height) = match window.next_header(reader) {
-        Ok(found) => found,
-        Err(stop) => return Err(stop),
-    };
-    let mut bitmap = match Bitmap::blank(alloc, width, height) {
-        Ok(bitmap) => bitmap,
-        Err(refusal) => return Err(ImageStop::Fault(PbmFault::no_bitmap(refusal))),
-    };
-    match take_raster(window, reader, form, &mut bitmap) {
-        Ok(()) => Ok(bitmap),
-        Err(stop) => Err(stop),
-    }
+    let header = window.next_header(reader)?;
+    let mut bitmap = header.blank(alloc)?;
+    take_raster(window, reader, header.form, &mut bitmap)?;
+    Ok(bitmap)
 }
 
 /// Reads and drops what a source has left, unless the window has met its end. A count of blocks
@@ -205,10 +181,8 @@ fn pass_rest<R: Source>(window: &mut Window, reader: &mut R) -> Result<(), Image
         return Ok(());
     }
     'turns: for _ in 0..u64::MAX {
-        match reader.next_block(window.block.as_mut_slice()) {
-            Ok(0) => return Ok(()),
-            Ok(_) => {}
-            Err(_) => return Err(ImageStop::Failed),
+        if reader.next_block(window.block.as_mut_slice())? == 0 {
+            return Ok(());
         }
     }
     Err(ImageStop::Memory)
@@ -235,15 +209,9 @@ pub fn read_source<R: Source>(alloc: Global, reader: &mut R) -> Result<Bitmap, I
     ensures counts { CountsReads (R.failed_reads reader.old) result (R.failed_reads reader.new) }
 {
     let mut window = Window::new(alloc);
-    match take_image(alloc, &mut window, reader) {
-        Ok(bitmap) => match pass_rest(&mut window, reader) {
-            Ok(()) => Ok(bitmap),
-            Err(stop) => Err(stop),
-        },
-        Err(ImageStop::Fault(fault)) => match pass_rest(&mut window, reader) {
-            Ok(()) => Err(ImageStop::Fault(fault)),
-            Err(stop) => Err(stop),
-        },
-        Err(stop) => Err(stop),
+    let found = take_image(alloc, &mut window, reader);
+    if let Ok(_) | Err(ImageStop::Fault(_)) = &found {
+        pass_rest(&mut window, reader)?;
     }
+    found
 }

@@ -8,24 +8,22 @@ ghost use Rattle.pbm.specs.Plain.{AreBitsRead};
 ghost use Rattle.pbm.specs.Raw.{IsRowRead};
 ghost use Rattle.pbm.specs.Windows.{CountsReads, Follows, IsFaultOf, IsOpen, Meets, Stands, unread};
 
-use crate::header::{Form, read_header};
+use crate::header::{Header, read_header};
 use crate::plain_word::read_word;
 use crate::raw_raster::read_row;
 use crate::raw_row::MOST_ACROSS;
 use crate::window::{ImageStop, Window};
 use metric::{PbmFault, Source};
 
-/// The form and the sides at the front of the bytes, and the number of bytes before the raster.
-fn header_in(bytes: &[u8]) -> Result<(Form, u16, u16, usize), PbmFault>
+/// The header at the front of the bytes, and the number of bytes it takes.
+fn header_in(bytes: &[u8]) -> Result<(Header, usize), PbmFault>
     ensures found { IfOk result
-        (λ found. Stands found.3 bytes.now
-        (λ all left. header all ≡ Ok (found.0, found.1, found.2, left))) }
+        (λ found. Stands found.1 bytes.now
+        (λ all left. header all ≡ Ok (found.0.form, found.0.width, found.0.height, left))) }
     ensures fault { IfErr result (λ fault. header bytes.now ≡ Err fault) }
 {
-    match read_header(bytes) {
-        Ok((form, width, height, rest)) => Ok((form, width, height, bytes.len() - rest.len())),
-        Err(fault) => Err(fault),
-    }
+    let (header, rest) = read_header(bytes)?;
+    Ok((header, bytes.len() - rest.len()))
 }
 
 /// The next pixels, up to 64, as a word, and the number of bytes they take.
@@ -35,10 +33,8 @@ fn word_in(bytes: &[u8], count: u16) -> Result<(u64, usize), PbmFault>
         (λ found. Stands found.1 bytes.now (λ all left. AreBitsRead count all found.0 left)) }
     ensures fault { IfErr result (λ fault. pixels count bytes.now ≡ Err fault) }
 {
-    match read_word(bytes, count) {
-        Ok((word, rest)) => Ok((word, bytes.len() - rest.len())),
-        Err(fault) => Err(fault),
-    }
+    let (word, rest) = read_word(bytes, count)?;
+    Ok((word, bytes.len() - rest.len()))
 }
 
 /// The row of a raw raster that the first `across` bytes are, as words. Uses `reversed` as a
@@ -52,14 +48,15 @@ fn row_in(bytes: &[u8], across: usize, reversed: &mut [u8; MOST_ACROSS], words: 
 }
 
 impl Window {
-    /// Takes the header, and returns the form and the sides.
-    pub fn next_header<R: Source>(&mut self, reader: &mut R) -> Result<(Form, u16, u16), ImageStop>
+    /// Takes the header.
+    pub fn next_header<R: Source>(&mut self, reader: &mut R) -> Result<Header, ImageStop>
         requires can_fail { CanFail (R.failed_reads reader.old) }
         requires open { IsOpen self.old (R.rest reader.old) }
         ensures open { IsOpen self.new (R.rest reader.new) }
         ensures header { IfOk result
             (λ found. Follows (R.rest reader.old) (unread self.old) (R.rest reader.new)
-            (unread self.new) (λ all left. header all ≡ Ok (found.0, found.1, found.2, left))) }
+            (unread self.new)
+            (λ all left. header all ≡ Ok (found.form, found.width, found.height, left))) }
         ensures fault { IfErr result
             (λ stop. IsFaultOf stop (λ fault. Meets (R.rest reader.old) (unread self.old)
             (λ all. header all ≡ Err fault))) }
@@ -68,15 +65,11 @@ impl Window {
     {
         'turns: loop {
             match header_in(self.unread()) {
-                Ok((form, width, height, taken)) => {
+                Ok((header, taken)) => {
                     self.take(taken);
-                    return Ok((form, width, height));
+                    return Ok(header);
                 }
-                Err(fault) => {
-                    if let Err(stop) = self.read_after(reader, fault) {
-                        return Err(stop);
-                    }
-                }
+                Err(fault) => self.read_after(reader, fault)?,
             }
         }
     }
@@ -103,11 +96,7 @@ impl Window {
                     self.take(taken);
                     return Ok(word);
                 }
-                Err(fault) => {
-                    if let Err(stop) = self.read_after(reader, fault) {
-                        return Err(stop);
-                    }
-                }
+                Err(fault) => self.read_after(reader, fault)?,
             }
         }
     }
@@ -134,9 +123,7 @@ impl Window {
         ensures counts { CountsReads (R.failed_reads reader.old) result
             (R.failed_reads reader.new) }
     {
-        if let Err(stop) = self.hold(reader, across) {
-            return Err(stop);
-        }
+        self.hold(reader, across)?;
         if self.unread().len() < across {
             return Err(ImageStop::Fault(PbmFault::Truncated));
         }

@@ -4,7 +4,7 @@ ghost use Rattle.std.specs.Prelude.{◌≡◌, ℕ, ◌+◌, ◌*◌, ◌<◌, �
 ghost use Rattle.std.specs.Prelude.{drop, length, vec_len, IfErr, OnOk};
 ghost use Rattle.metric.specs.Stream.{CanFail};
 
-use metric::{PbmFault, Source};
+use metric::{PbmFault, ReadFault, Source};
 use std::alloc::{AllocError, Global};
 
 /// The most bytes of one read.
@@ -29,6 +29,28 @@ impl From<AllocError> for ImageStop {
 
     fn from(_refused: AllocError) -> ImageStop {
         ImageStop::Memory
+    }
+}
+
+/// A read that failed.
+impl From<ReadFault> for ImageStop {
+    ghost use Rattle.pbm.specs.declared.window.ImageStop.TheVariants.{Failed};
+
+    ghost from_gives = { λ _ stop. stop ≡ Failed };
+
+    fn from(_failed: ReadFault) -> ImageStop {
+        ImageStop::Failed
+    }
+}
+
+/// A fault of the image.
+impl From<PbmFault> for ImageStop {
+    ghost use Rattle.pbm.specs.declared.window.ImageStop.TheVariants.{Fault};
+
+    ghost from_gives = { λ fault stop. stop ≡ Fault fault };
+
+    fn from(fault: PbmFault) -> ImageStop {
+        ImageStop::Fault(fault)
     }
 }
 
@@ -102,14 +124,10 @@ impl Window {
         ensures counts { CountsReads (R.failed_reads reader.old) result
             (R.failed_reads reader.new) }
     {
-        match reader.next_block(self.block.as_mut_slice()) {
-            Ok(count) => {
-                self.bytes.extend_from_slice(&self.block[..count])?;
-                self.ended = count == 0;
-                Ok(())
-            }
-            Err(_) => Err(ImageStop::Failed),
-        }
+        let count = reader.next_block(self.block.as_mut_slice())?;
+        self.bytes.extend_from_slice(&self.block[..count])?;
+        self.ended = count == 0;
+        Ok(())
     }
 
     /// Reads on until more than `wanted` bytes are unread, or the source has ended.
@@ -126,10 +144,7 @@ impl Window {
             (R.failed_reads reader.new) }
     {
         'turns: while !self.ended && self.bytes.len() - self.start <= wanted {
-            match self.read_block(reader) {
-                Ok(()) => {}
-                Err(stop) => return Err(stop),
-            }
+            self.read_block(reader)?;
         }
         Ok(())
     }

@@ -1,12 +1,12 @@
 -- What the fault table finds is what the grammar has.
-use Rattle.std.proofs.lemmas.Result.{err_from_is_err_and}
+use Rattle.pbm.proofs.Following.{failed-so}
 use Rattle.pbm.proofs.Images.{image-shorter, image-reads, fault-none}
 use Rattle.pbm.proofs.image.read_image.Goals as goal
 
 pub returns-in_err-bitmap-clause-none : goal.returns-in_err-bitmap-clause-none
 returns-in_err-bitmap-clause-none c =
-    let p = err_from_is_err_and c.from_residual.result c.from_residual.ensures.1 in
-    rw (p.1, p.2) (λ told. fault-none c.args.bytes.now c.in_err-bitmap.field-0.0
+    failed-so _ _ _ c.from_residual.ensures.1
+    (λ told. fault-none c.args.bytes.now c.in_err-bitmap.field-0.0
     (c.in_err-bitmap.ensures.found told))
 
 pub overflow_sub-result : goal.overflow_sub-result

@@ -1,7 +1,7 @@
 -- Digits read are bits after those before.
 use Rattle.std.proofs.Common.{◌≡◌, ℕ, ◌+◌, ◌≤◌, ◌-◌, refl, ap, ◌∙◌, arith}
 use Rattle.std.specs.Int.{bit_at}
-use Rattle.std.proofs.lemmas.Result.{err_from_is_err_and}
+use Rattle.pbm.proofs.Following.{failed-so}
 use Rattle.std.proofs.lemmas.Nat.Bits.{bit_at_cat_low, bit_at_cat_high}
 use Rattle.pbm.proofs.PartReads.{IsPartRead-none, IsPartRead-add, IsPartRead-fault_one}
 use Rattle.pbm.proofs.PartReads.{IsPartRead-all}
@@ -17,8 +17,8 @@ turns-init c =
 
 pub returns-in_err-more : goal.returns-in_err-more
 returns-in_err-more c =
-    let p = err_from_is_err_and c.from_residual.result c.from_residual.ensures.1 in
-    rw (p.1, p.2) (IsPartRead-fault_one c.args.count c.args.bytes.now c.turns.place
+    failed-so _ _ _ c.from_residual.ensures.1
+    (IsPartRead-fault_one c.args.count c.args.bytes.now c.turns.place
     (bit_at c.turns.word) c.turns.rest.now c.in_err-more.field-0.0 c.turns-test.true
     c.in_err-more.ensures c.turns.invariant.read)
 

@@ -1,25 +1,10 @@
 -- One more word is there, of the bytes of the row, each of them reversed.
-use Rattle.std.proofs.Common.{◌≡◌, ℕ, ◌+◌, ◌-◌, ◌*◌, ◌/◌, ◌%◌, ◌∙◌, inl, inr, ap, get_or}
+use Rattle.std.proofs.Common.{◌≡◌, ℕ, ◌+◌, ◌-◌, ◌*◌, ◌/◌, ◌%◌, ◌∙◌, ap, get_or}
 use Rattle.std.proofs.Common.{◌<◌, arith, drop, length, take}
 use Rattle.std.specs.Int.{bit_at, reverse_bits_onto}
-use Rattle.std.proofs.lemmas.Bool.{cases_lt}
-use Rattle.std.proofs.lemmas.List.{get_or-drop, get_or-set_other, get_or-set_same, get_or-take}
+use Rattle.std.proofs.lemmas.List.{get_or-drop, get_or-take}
 use Rattle.pbm.proofs.Words.{bit_at-reverse_low}
 use Rattle.pbm.proofs.raw_raster.read_row.Goals as goal
-
-pub words-preserved : goal.words-preserved
-words-preserved c = λ k before i within.
-    elim (cases_lt k c.words.index) [
-      | inl earlier ↦
-          ap (λ (word : ℕ). bit_at word i)
-          (get_or-set_other c.words.words c.words.index k c.word_at.result 0 (omega arith))
-          ∙ c.words.invariant k earlier i within
-      | inr later ↦
-          let same : k ≡ c.words.index = omega arith in
-          rw same (ap (λ (word : ℕ). bit_at word i)
-          (get_or-set_same c.words.words c.words.index c.word_at.result 0 (omega arith))
-          ∙ c.word_at.ensures i within)
-    ]
 
 pub returns : goal.returns
 returns c k few i within inside =

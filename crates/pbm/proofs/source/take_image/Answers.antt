@@ -1,35 +1,40 @@
 -- All before the raster and the raster are the image.
 use Rattle.std.proofs.Common.{[]}
-use Rattle.pbm.proofs.Following.{IsFaultOf-weaker}
+use Rattle.pbm.proofs.Following.{failed-so, IsFaultOf-weaker, Meets-after, Meets-follows}
+use Rattle.pbm.proofs.Following.{Meets-weaker}
 use Rattle.pbm.proofs.Headers.{header-read}
 use Rattle.pbm.proofs.Taken.{image-so, image-not, image-fault, image-memory}
 use Rattle.pbm.proofs.source.take_image.Goals as goal
 
-pub returns-in-Err-clause-fault : goal.returns-in-Err-clause-fault
-returns-in-Err-clause-fault g c =
-    IsFaultOf-weaker c.in-Err.stop _ _ (λ fault met. image-fault _ _ fault met)
-    c.in-Err.ensures.fault
+pub returns-in_err-header-clause-fault : goal.returns-in_err-header-clause-fault
+returns-in_err-header-clause-fault g c =
+    failed-so _ _ _ c.from_residual.ensures.1
+    (IsFaultOf-weaker c.in_err-header.field-0.0 (λ fault. Meets-weaker (image-fault fault))
+    c.in_err-header.ensures.fault)
 
 pub blank-requires-clause-width : goal.blank-requires-clause-width
-blank-requires-clause-width g c = (header-read _ _ (c.in-Ok.ensures.header.holds [])).width_side
+blank-requires-clause-width g c =
+    (header-read _ _ (c.in_ok-header.ensures.header.holds [])).width_side
 
 pub blank-requires-clause-height : goal.blank-requires-clause-height
-blank-requires-clause-height g c = (header-read _ _ (c.in-Ok.ensures.header.holds [])).height_side
+blank-requires-clause-height g c =
+    (header-read _ _ (c.in_ok-header.ensures.header.holds [])).height_side
 
-pub returns-in-Ok-take_raster-clause-image : goal.returns-in-Ok-take_raster-clause-image
-returns-in-Ok-take_raster-clause-image g c =
-    image-so _ _ _ _ c.in-Ok.found.0 c.in-Ok.found.1 c.in-Ok.found.2 c.in-Ok-blank.bitmap
-    c.take_raster.new.bitmap c.in-Ok-blank.ensures.blank c.in-Ok.ensures.header
-    c.in-Ok-take_raster.ensures.raster
+pub returns-in_err-bitmap-clause-fault : goal.returns-in_err-bitmap-clause-fault
+returns-in_err-bitmap-clause-fault g c =
+    failed-so _ _ _ c.from_residual-in_err-bitmap.ensures.1
+    (rw c.in_err-bitmap.ensures.memory
+    (Meets-follows (λ all left. image-memory _ all) c.in_ok-header.ensures.header))
 
-pub returns-in-Err-take_raster-clause-fault : goal.returns-in-Err-take_raster-clause-fault
-returns-in-Err-take_raster-clause-fault g c =
-    IsFaultOf-weaker c.in-Err-take_raster.stop _ _
-    (λ fault met. image-not _ _ _ _ c.in-Ok.found.0 c.in-Ok.found.1 c.in-Ok.found.2
-    c.in-Ok-blank.bitmap fault c.in-Ok-blank.ensures.blank c.in-Ok.ensures.header met)
-    c.in-Err-take_raster.ensures.fault
+pub returns-in_err-take_raster-clause-fault : goal.returns-in_err-take_raster-clause-fault
+returns-in_err-take_raster-clause-fault g c =
+    failed-so _ _ _ c.from_residual-in_err-take_raster.ensures.1
+    (IsFaultOf-weaker c.in_err-take_raster.field-0.0
+    (λ fault. Meets-after (image-not c.in_ok-header.header.form _ _ c.in_ok-bitmap.bitmap
+    c.in_ok-bitmap.ensures.blank fault) c.in_ok-header.ensures.header)
+    c.in_err-take_raster.ensures.fault)
 
-pub returns-in-Err-blank-clause-fault : goal.returns-in-Err-blank-clause-fault
-returns-in-Err-blank-clause-fault g c =
-    rw c.no_bitmap.ensures (image-memory _ _ _ _ c.in-Ok.found.0 c.in-Ok.found.1 c.in-Ok.found.2
-    c.in-Ok.ensures.header)
+pub returns-clause-image : goal.returns-clause-image
+returns-clause-image g c =
+    Meets-after (image-so c.in_ok-header.header.form _ _ c.in_ok-bitmap.bitmap _
+    c.in_ok-bitmap.ensures.blank) c.in_ok-header.ensures.header c.in_ok-take_raster.ensures.raster

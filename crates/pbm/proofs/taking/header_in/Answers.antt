@@ -4,10 +4,8 @@ use Rattle.pbm.proofs.taking.header_in.Goals as goal
 
 pub overflow_sub-result : goal.overflow_sub-result
 overflow_sub-result c =
-    header-within c.args.bytes.now c.in-Ok.form c.in-Ok.width c.in-Ok.height c.in-Ok.rest.now
-    c.in-Ok.ensures
+    header-within c.args.bytes.now _ _ _ _ c.in_ok-header.ensures
 
-pub returns-in-Ok-clause-found : goal.returns-in-Ok-clause-found
-returns-in-Ok-clause-found c =
-    Stands-header c.args.bytes.now c.in-Ok.form c.in-Ok.width c.in-Ok.height c.in-Ok.rest.now
-    c.in-Ok.ensures
+pub returns-clause-found : goal.returns-clause-found
+returns-clause-found c =
+    Stands-header c.args.bytes.now _ _ _ _ c.in_ok-header.ensures
