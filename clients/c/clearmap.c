@@ -39,6 +39,7 @@ const char *clearmap_status_text(uint32_t status) {
     case CLEARMAP_SIZE: return "a side of the map is 0, or over 4096";
     case CLEARMAP_STRIDE: return "the stride is less than a row, or 2^32 or more";
     case CLEARMAP_LENGTH: return "the map's memory ends before its last row does";
+    case CLEARMAP_TILES: return "the marks of tiles lie among the rows, or the memory ends first";
     case CLEARMAP_METRIC: return "there is no metric of this number";
     case CLEARMAP_EDGE: return "there is no edge of this number";
     case CLEARMAP_POINTS: return "a path has no point, or over 1000";

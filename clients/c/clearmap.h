@@ -74,6 +74,8 @@ enum {
     CLEARMAP_SIZE = 1,     /* a side of the map is 0, or over 4096 */
     CLEARMAP_STRIDE = 2,   /* the stride is less than a row, or 2^32 or more */
     CLEARMAP_LENGTH = 3,   /* the map's memory ends before its last row does */
+    CLEARMAP_TILES = 12,   /* the marks of tiles lie among the rows, or the map's memory ends before
+                              they do */
     CLEARMAP_METRIC = 4,   /* there is no metric of this number */
     CLEARMAP_EDGE = 5,     /* there is no edge of this number */
     CLEARMAP_POINTS = 6,   /* a path has no point, or over 1000 */
@@ -142,7 +144,8 @@ typedef struct clearmap_found {
 /*
  * The layout of a map in bytes: cell (x, y) is the byte at y * stride + x, and an obstacle where
  * low <= byte && byte <= high. The last row need not be padded. Where low is above high, as where
- * high is left out, each call over bytes has the status RANGE; no call over bits has it.
+ * high is left out, each call over bytes has the status RANGE; no call over bits has it, and none
+ * over bytes has TILES.
  */
 typedef struct clearmap_bytes {
     uint32_t width;  /* columns, 1 to 4096 */
@@ -153,24 +156,33 @@ typedef struct clearmap_bytes {
 
 /*
  * The layout of a map in bits: cell (x, y) is bit x % 64, from the lowest, of the word at y *
- * stride + x / 64, and an obstacle where that bit is 1 and bit y / 64 of blank_bands is 0. Bits
- * past the last column may be anything.
+ * stride + x / 64, and an obstacle where that bit is 1 and no mark says that it is in a blank band
+ * or tile. Bits past the last column may be anything.
  *
  * Bit k of blank_bands says that rows 64 k to 64 k + 63 are known to be blank: where it is 1 they
  * count as blank, WHATEVER THEIR WORDS SAY, and queries skip them. clearmap_pack sets it; if you
  * set a bit in row y afterwards, clear bit y / 64 of blank_bands too. 0, as where the field is left
  * out, is right for every map, and costs only time.
+ *
+ * The same is known of single tiles where tiles isn't 0. It is the index, after the last row, of
+ * the first of (height + 63) / 64 more words, one for each 64 rows: where bit i of word tiles + k
+ * is 1, columns 64 i to 64 i + 63 of rows 64 k to 64 k + 63 count as blank. clearmap_mark writes
+ * them, and queries far from obstacles are faster by them. If you set a bit of cell (x, y)
+ * afterwards, clear bit x / 64 of word tiles + y / 64 too. A part of a map, with other rows or
+ * another first word, has other marks: set tiles and blank_bands to 0 there.
  */
 typedef struct clearmap_bits {
     uint32_t width;  /* columns, 1 to 4096 */
     uint32_t height; /* rows, 1 to 4096 */
     size_t stride;   /* words from one row to the next: (width + 63) / 64 or more, below 2^32 */
     uint64_t blank_bands;
+    size_t tiles; /* where the marks of tiles begin among the words; 0 where there are none */
 } clearmap_bits;
 
 /*
  * Packs a map in bytes into words, its rows one after another without a gap, and writes their
- * layout to *bits, whose stride is (width + 63) / 64. The bits past the last column are 0.
+ * layout to *bits, whose stride is (width + 63) / 64 and whose tiles is 0. The bits past the last
+ * column are 0.
  * words_length is at least (width + 63) / 64 * height; the rest stays as it is.
  * Status: SIZE, STRIDE, LENGTH, ROOM, RANGE.
  */
@@ -179,10 +191,20 @@ uint32_t clearmap_pack(const uint8_t *bytes, size_t bytes_length, const clearmap
                        uint64_t *words, size_t words_length, clearmap_bits *bits);
 
 /*
+ * Marks the blank tiles of a map in bits: writes (height + 63) / 64 words from index `tiles` on,
+ * and sets map->tiles and map->blank_bands. The map's cells stay as they are, and so do all other
+ * words. `tiles` is (height - 1) * stride + (width + 63) / 64 or more, and words_length is at least
+ * tiles + (height + 63) / 64.
+ * Status: SIZE, STRIDE, LENGTH, TILES.
+ */
+CLEARMAP_CHECKED
+uint32_t clearmap_mark(uint64_t *words, size_t words_length, clearmap_bits *map, size_t tiles);
+
+/*
  * Unpacks a map in bits into bytes, its rows one after another without a gap: the byte `obstacle`
  * for an obstacle, and `free` for any other cell. bytes_length is at least width * height; the rest
  * stays as it is.
- * Status: SIZE, STRIDE, LENGTH, ROOM.
+ * Status: SIZE, STRIDE, LENGTH, TILES, ROOM.
  */
 CLEARMAP_CHECKED
 uint32_t clearmap_unpack(const uint64_t *words, size_t words_length, const clearmap_bits *map,
@@ -193,7 +215,7 @@ uint32_t clearmap_unpack(const uint64_t *words, size_t words_length, const clear
 /*
  * Writes the distances of the cells of rows y0 to y1 - 1, in row-major order. distances_length is
  * at least (y1 - y0) * width; the rest stays as it is.
- * Status: SIZE, STRIDE, LENGTH, METRIC, EDGE, OUTSIDE, ROOM, RANGE, MEMORY.
+ * Status: SIZE, STRIDE, LENGTH, TILES, METRIC, EDGE, OUTSIDE, ROOM, RANGE, MEMORY.
  */
 CLEARMAP_CHECKED
 uint32_t clearmap_bytes_distances(const uint8_t *bytes, size_t bytes_length,
@@ -223,7 +245,7 @@ uint32_t clearmap_bits_nearest(const uint64_t *words, size_t words_length,
 
 /*
  * Writes the nearest obstacle of cell (x, y).
- * Status: SIZE, STRIDE, LENGTH, METRIC, EDGE, OUTSIDE, RANGE.
+ * Status: SIZE, STRIDE, LENGTH, TILES, METRIC, EDGE, OUTSIDE, RANGE.
  */
 CLEARMAP_CHECKED
 uint32_t clearmap_bytes_at(const uint8_t *bytes, size_t bytes_length, const clearmap_bytes *map,
@@ -237,7 +259,7 @@ uint32_t clearmap_bits_at(const uint64_t *words, size_t words_length, const clea
 /*
  * Writes the first cell with the least distance in columns x0 to x1 - 1 of rows y0 to y1 - 1, in
  * row-major order, and its nearest obstacle; none if the map has no obstacle.
- * Status: SIZE, STRIDE, LENGTH, METRIC, EDGE, OUTSIDE, RANGE.
+ * Status: SIZE, STRIDE, LENGTH, TILES, METRIC, EDGE, OUTSIDE, RANGE.
  */
 CLEARMAP_CHECKED
 uint32_t clearmap_bytes_rect(const uint8_t *bytes, size_t bytes_length, const clearmap_bytes *map,
@@ -252,7 +274,7 @@ uint32_t clearmap_bits_rect(const uint64_t *words, size_t words_length, const cl
  * Writes the first cell with the least distance along a path, and its nearest obstacle; none if the
  * map has no obstacle. A path is 1 to 1000 points, each in the row or the column of the point
  * before it; its cells are the first point, and then those after each point up to the next.
- * Status: SIZE, STRIDE, LENGTH, METRIC, EDGE, POINTS, OUTSIDE, CROOKED, RANGE.
+ * Status: SIZE, STRIDE, LENGTH, TILES, METRIC, EDGE, POINTS, OUTSIDE, CROOKED, RANGE.
  */
 CLEARMAP_CHECKED
 uint32_t clearmap_bytes_path(const uint8_t *bytes, size_t bytes_length, const clearmap_bytes *map,

@@ -15,11 +15,11 @@
 #include <stdlib.h>
 #include <string.h>
 
-enum { ITEMS = 1 << 16, POINTS = 1001, STATUSES = 12 };
+enum { ITEMS = 1 << 16, POINTS = 1001, STATUSES = 13 };
 
 /* The calls of a library, by the names of the header. */
 #define EACH_CALL(of)                                                              \
-    of(pack) of(unpack)                                                            \
+    of(pack) of(unpack) of(mark)                                                   \
     of(bytes_distances) of(bytes_nearest) of(bytes_at) of(bytes_rect)              \
     of(bytes_path) of(bytes_clear_of)                                              \
     of(bits_distances) of(bits_nearest) of(bits_at) of(bits_rect)                  \
@@ -81,7 +81,7 @@ struct given {
     clearmap_bytes bytes;
     clearmap_bits bits;
     uint32_t metric, edge, x0, y0, x1, y1, d;
-    size_t bytes_length, words_length, points_length, room, words_room, cells_room;
+    size_t bytes_length, words_length, points_length, room, words_room, cells_room, tiles;
     uint8_t free, obstacle;
 };
 
@@ -121,10 +121,16 @@ static struct given draw_given(void) {
                                (uint8_t)draw(120), (uint8_t)(120 + draw(136))};
     if (is_odd_call && !draw(4)) g.bytes.high = (uint8_t)(g.bytes.low - draw(2));
     g.bits = (clearmap_bits){about(width), about(height), about((uint32_t)words_stride),
-                             draw(3) ? 0 : 1u << draw(3)};
+                             draw(3) ? 0 : 1u << draw(3), 0};
     if (is_odd_call && !draw(30)) g.bytes.stride = g.bits.stride = (size_t)1 << 32;
     g.bytes_length = length_for((height - 1) * stride + width);
-    g.words_length = length_for((height - 1) * words_stride + across);
+    size_t rows_end = (height - 1) * words_stride + across, marks = rows_end + draw(3);
+    g.words_length = length_for(draw(2) ? rows_end : marks + (height + 63) / 64);
+    g.tiles = about((uint32_t)marks);
+    if (!draw(3)) {
+        g.bits.tiles = about((uint32_t)marks);
+        if (draw(8)) g.words_length = length_for(marks + (height + 63) / 64);
+    }
     g.x0 = draw(width), g.y0 = draw(height);
     g.x1 = about(g.x0 + 1 + draw(width - g.x0)), g.y1 = about(g.y0 + 1 + draw(height - g.y0));
     g.x0 = about(g.x0), g.y0 = about(g.y0);
@@ -178,7 +184,11 @@ static uint32_t call(const struct library *of, int kind, const struct given *g, 
     case 10: return of->bits_at(WORDS(g), g->x0, g->y0, &a->near);
     case 11: return of->bits_rect(WORDS(g), RECT(g), found);
     case 12: return of->bits_path(WORDS(g), PATH(g), found);
-    default: return of->bits_clear_of(WORDS(g), PATH(g), g->d, found);
+    case 13: return of->bits_clear_of(WORDS(g), PATH(g), g->d, found);
+    default:
+        a->bits = g->bits;
+        memcpy(a->all.words, words, sizeof *words * g->words_length);
+        return of->mark(a->all.words, g->words_length, &a->bits, g->tiles);
     }
 }
 
@@ -196,7 +206,7 @@ int main(int argc, char **argv) {
     struct library library = load(argv[1]), model = load(argv[2]);
     long calls = atol(argv[3]), wrong = 0, seen[STATUSES] = {0};
     for (long k = 0; k < calls; k++) {
-        int kind = (int)draw(14);
+        int kind = (int)draw(15);
         struct given g = draw_given();
         answer(&library, kind, &g, &ours);
         answer(&model, kind, &g, &theirs);

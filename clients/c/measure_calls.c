@@ -18,7 +18,7 @@
 #include <string.h>
 #include <sys/mman.h>
 
-enum { STACK = 1 << 18, PAINT = 0xC5, CALLS = 14 };
+enum { STACK = 1 << 18, PAINT = 0xC5, CALLS = 15 };
 
 /* ---- The heap -------------------------------------------------------------------------------- */
 
@@ -63,7 +63,7 @@ struct map {
     uint64_t *words, *packed;
     uint32_t *distances;
     clearmap_near *nears;
-    size_t all, all_words;
+    size_t all, all_words, length; /* the words of the rows, and with the marks of tiles */
 };
 
 struct task {
@@ -77,10 +77,10 @@ struct task {
 static const char *const names[CALLS] = {
     "pack", "unpack", "bytes_distances", "bytes_nearest", "bytes_at", "bytes_rect", "bytes_path",
     "bytes_clear_of", "bits_distances", "bits_nearest", "bits_at", "bits_rect", "bits_path",
-    "bits_clear_of"};
+    "bits_clear_of", "mark"};
 
 #define BYTES m->bytes, m->all, &m->in_bytes, t->metric, t->edge
-#define WORDS m->words, m->all_words, &m->in_bits, t->metric, t->edge
+#define WORDS m->words, m->length, &m->in_bits, t->metric, t->edge
 
 static uint32_t call(const struct task *t) {
     const struct map *m = t->map;
@@ -92,7 +92,7 @@ static uint32_t call(const struct task *t) {
     clearmap_bits bits;
     switch (t->kind) {
     case 0: return clearmap_pack(m->bytes, m->all, &m->in_bytes, m->packed, m->all_words, &bits);
-    case 1: return clearmap_unpack(m->words, m->all_words, &m->in_bits, 0, 1, m->bytes, m->all);
+    case 1: return clearmap_unpack(m->words, m->length, &m->in_bits, 0, 1, m->bytes, m->all);
     case 2: return clearmap_bytes_distances(BYTES, 0, height, m->distances, m->all);
     case 3: return clearmap_bytes_nearest(BYTES, 0, height, m->nears, m->all);
     case 4: return clearmap_bytes_at(BYTES, width / 2, height / 2, &near);
@@ -104,7 +104,10 @@ static uint32_t call(const struct task *t) {
     case 10: return clearmap_bits_at(WORDS, width / 2, height / 2, &near);
     case 11: return clearmap_bits_rect(WORDS, 0, 0, width, height, &found);
     case 12: return clearmap_bits_path(WORDS, path, 3, &found);
-    default: return clearmap_bits_clear_of(WORDS, path, 3, 50, &found);
+    case 13: return clearmap_bits_clear_of(WORDS, path, 3, 50, &found);
+    default:
+        bits = m->in_bits;
+        return clearmap_mark(m->words, m->length, &bits, m->all_words);
     }
 }
 
@@ -148,14 +151,16 @@ static void *room(size_t size) {
     return place;
 }
 
-/* A map with an obstacle in each `every`th cell; 0 for none. */
+/* A map with an obstacle in each `every`th cell, and marks of its tiles; 0 for none of either. */
 static struct map make(uint32_t width, uint32_t height, size_t every) {
     struct map m = {.in_bytes = {width, height, width, 1, 255}, .all = (size_t)width * height};
     m.all_words = ((size_t)width + 63) / 64 * height;
-    m.bytes = room(m.all), m.words = room(8 * m.all_words), m.packed = room(8 * m.all_words);
+    m.length = m.all_words + ((size_t)height + 63) / 64;
+    m.bytes = room(m.all), m.words = room(8 * m.length), m.packed = room(8 * m.all_words);
     m.distances = room(4 * m.all), m.nears = room(sizeof *m.nears * m.all);
     for (size_t k = 0; k < m.all; k++) m.bytes[k] = every && k % every == every / 2;
     if (clearmap_pack(m.bytes, m.all, &m.in_bytes, m.words, m.all_words, &m.in_bits)) exit(2);
+    if (every && clearmap_mark(m.words, m.length, &m.in_bits, m.all_words)) exit(2);
     return m;
 }
 
@@ -175,7 +180,7 @@ int main(void) {
         for (size_t share = 0; share < sizeof shares / sizeof *shares; share++) {
             struct map m = make(sides[side][0], sides[side][1], shares[share]);
             for (int kind = 0; kind < CALLS; kind++)
-                for (uint32_t setting = 0; setting < (kind < 2 ? 1 : 6); setting++) {
+                for (uint32_t setting = 0; setting < (kind < 2 || kind == CALLS - 1 ? 1 : 6); setting++) {
                     struct task t = {&m, NULL, kind, setting / 2, setting % 2, 0, 0, 0, 0, 0};
                     if (!measure(&t, stack)) is_right = false;
                 }

@@ -85,7 +85,32 @@ static void make_bytes(struct map *m, uint32_t width, uint32_t height, uint32_t 
         }
 }
 
-/* The same map in bits, whose rows stand apart; the bits past the edge and between rows are 1. */
+/* Marks the map's blank tiles from an index on; no other word changes. */
+static void mark_tiles(struct map *m, size_t tiles) {
+    uint32_t width = m->in_bytes.width, height = m->in_bytes.height;
+    size_t bands = ((size_t)height + 63) / 64;
+    uint64_t want[64], *before = room(8 * m->words_length);
+    memcpy(before, m->words, 8 * m->words_length);
+    memset(want, 0xff, sizeof want);
+    for (uint32_t y = 0; y < height; y++)
+        for (uint32_t x = 0; x < width; x++)
+            if (is_obstacle(m, (int)x, (int)y)) want[y / 64] &= ~(1ull << (x / 64));
+    clearmap_bits bits = m->in_bits;
+    bits.blank_bands = 0;
+    CHECK(!clearmap_mark(m->words, m->words_length, &bits, tiles));
+    CHECK(bits.blank_bands == m->in_bits.blank_bands && bits.tiles == tiles);
+    CHECK(bits.width == width && bits.height == height && bits.stride == m->in_bits.stride);
+    CHECK(!memcmp(m->words + tiles, want, 8 * bands));
+    memcpy(before + tiles, want, 8 * bands);
+    CHECK(!memcmp(before, m->words, 8 * m->words_length));
+    m->in_bits = bits;
+    free(before);
+}
+
+/*
+ * The same map in bits, whose rows stand apart; the bits past the edge and between rows are 1. Half
+ * of the maps have marks of tiles.
+ */
 static void make_bits(struct map *m) {
     uint32_t width = m->in_bytes.width, height = m->in_bytes.height;
     size_t across = ((size_t)width + 63) / 64, stride = across + draw(3);
@@ -93,7 +118,8 @@ static void make_bits(struct map *m) {
     clearmap_bits bits;
     CHECK(clearmap_pack(m->bytes, m->length, &m->in_bytes, packed, across * height, &bits) == 0);
     CHECK(bits.width == width && bits.height == height && bits.stride == across);
-    m->words_length = (height - 1) * stride + across;
+    size_t rows_end = (height - 1) * stride + across, bands_down = ((size_t)height + 63) / 64;
+    m->words_length = rows_end + (draw(2) ? bands_down + draw(3) : 0);
     m->words = room(8 * m->words_length);
     memset(m->words, 0xff, 8 * m->words_length);
     uint64_t bands = 0;
@@ -110,8 +136,10 @@ static void make_bits(struct map *m) {
         }
     }
     CHECK(bits.blank_bands == ~bands); /* each band without an obstacle is said to be blank */
+    CHECK(bits.tiles == 0);
     bits.stride = stride;
     m->in_bits = bits;
+    if (m->words_length > rows_end) mark_tiles(m, m->words_length - bands_down);
     free(packed);
 }
 
@@ -302,6 +330,32 @@ static void try_bands(const struct map *m) {
     CHECK(same_found(found, least));
 }
 
+/* A tile whose mark is 1 is blank, whatever its words say, and the others are as they were. */
+static void try_tiles(const struct map *m) {
+    if (m->in_bits.tiles == 0) return;
+    clearmap_bits bits = m->in_bits;
+    uint32_t width = bits.width, height = bits.height;
+    uint64_t *words = room(8 * m->words_length);
+    uint8_t *cells = room((size_t)width * height);
+    memcpy(words, m->words, 8 * m->words_length);
+    words[bits.tiles] = 1;
+    CHECK(!clearmap_unpack(words, m->words_length, &bits, 200, 3, cells, (size_t)width * height));
+    for (uint32_t y = 0; y < height; y++)
+        for (uint32_t x = 0; x < width; x++) {
+            int is_marked = x < 64 && y < 64;
+            CHECK(cells[y * width + x]
+                  == (is_obstacle(m, (int)x, (int)y) && !is_marked ? 3 : 200));
+        }
+    /* Marked anew, the tile is blank still, and each cell as before. */
+    CHECK(!clearmap_mark(words, m->words_length, &bits, bits.tiles) && (words[bits.tiles] & 1));
+    uint8_t *again = room((size_t)width * height);
+    CHECK(!clearmap_unpack(words, m->words_length, &bits, 200, 3, again, (size_t)width * height));
+    CHECK(!memcmp(again, cells, (size_t)width * height));
+    free(words);
+    free(cells);
+    free(again);
+}
+
 static void try_maps(int maps) {
     static const uint32_t shares[] = {0, 2, 50, 600, 1000};
     for (int t = 0; t < maps; t++) {
@@ -320,6 +374,7 @@ static void try_maps(int maps) {
             }
         try_unpack(&m);
         try_bands(&m);
+        try_tiles(&m);
         free(table);
         drop(&m);
     }
@@ -351,7 +406,7 @@ static void refuse(struct given g, int kinds, uint32_t status) {
     clearmap_found found = untouched_found;
     uint32_t distances[6] = {7};
     clearmap_bytes by = {g.width, g.height, g.stride ? g.stride : 3, g.low, g.high};
-    clearmap_bits bi = {g.width, g.height, g.stride ? g.stride / 3 : 1, 0};
+    clearmap_bits bi = {g.width, g.height, g.stride ? g.stride / 3 : 1, 0, 0};
     size_t lb = g.length ? g.length : 6, li = g.length ? g.length / 5 : 2;
     uint32_t m = g.metric, e = g.edge;
     if (kinds & AT) {
@@ -451,11 +506,46 @@ static void try_statuses(void) {
                               &found) == CLEARMAP_DONE && found.near.dist == 1);
 }
 
+/* Marks of tiles that lie among the rows, or past the end, and a map with other faults before. */
+static void try_tile_statuses(void) {
+    static const uint64_t words[4] = {2, 0, 0, 0};
+    static const struct {
+        size_t tiles, length;
+        uint32_t width, metric, status;
+    } tries[] = {
+        {2, 3, 3, 0, CLEARMAP_DONE},     {3, 4, 3, 0, CLEARMAP_DONE},
+        {1, 4, 3, 0, CLEARMAP_TILES},    {2, 2, 3, 0, CLEARMAP_TILES},
+        {4, 4, 3, 0, CLEARMAP_TILES},    {SIZE_MAX, 4, 3, 0, CLEARMAP_TILES},
+        {1, 4, 0, 0, CLEARMAP_SIZE},     {1, 1, 3, 0, CLEARMAP_LENGTH},
+        {1, 4, 3, 9, CLEARMAP_TILES},    {2, 4, 3, 9, CLEARMAP_METRIC},
+    };
+    for (size_t k = 0; k < sizeof tries / sizeof *tries; k++) {
+        clearmap_bits bits = {tries[k].width, 2, 1, 0, tries[k].tiles};
+        clearmap_near near = untouched;
+        uint32_t status = clearmap_bits_at(words, tries[k].length, &bits, tries[k].metric, 0, 0, 0,
+                                           &near);
+        CHECK(status == tries[k].status && (!status || same(near, untouched)));
+        uint8_t cells[6];
+        if (tries[k].metric) continue;
+        CHECK(clearmap_unpack(words, tries[k].length, &bits, 0, 1, cells, 6) == status);
+        uint64_t mine[4] = {2, 0, 7, 7};
+        bits.tiles = 0;
+        status = clearmap_mark(mine, tries[k].length, &bits, tries[k].tiles);
+        CHECK(status == tries[k].status && (bits.tiles == tries[k].tiles || status));
+        CHECK(!status || (bits.tiles == 0 && bits.blank_bands == 0 && mine[2] == 7 && mine[3] == 7));
+    }
+    uint64_t mine[3] = {2, 0, 7};
+    clearmap_bits bits = {3, 2, 1, 0, 0};
+    CHECK(clearmap_mark(mine, 3, &bits, 0) == CLEARMAP_TILES && mine[0] == 2);
+    bits.tiles = 1;
+    CHECK(clearmap_mark(mine, 3, &bits, 2) == CLEARMAP_TILES && mine[2] == 7 && bits.tiles == 1);
+}
+
 /* Pack and unpack, with too little of each. */
 static void try_pack_statuses(void) {
     clearmap_bytes by = {3, 2, 3, 1, 1}, wide = {4097, 2, 4097, 1, 1}, close = {3, 2, 2, 1, 1};
     clearmap_bytes turned = {3, 2, 3, 2, 1};
-    clearmap_bits bi = {3, 2, 1, 0}, out = {9, 9, 9, 9};
+    clearmap_bits bi = {3, 2, 1, 0, 0}, out = {9, 9, 9, 9, 9};
     uint64_t words[2] = {7, 7};
     uint8_t bytes[6] = {7};
     CHECK(clearmap_pack(small_bytes, 6, &wide, words, 2, &out) == CLEARMAP_SIZE);
@@ -475,10 +565,10 @@ static void try_pack_statuses(void) {
     bi.height = 0;
     CHECK(clearmap_unpack(words, 2, &bi, 0, 1, bytes, 6) == CLEARMAP_SIZE);
     CHECK(bytes[0] == 7);
-    for (uint32_t status = 0; status < 13; status++)
+    for (uint32_t status = 0; status < 14; status++)
         for (uint32_t other = 0; other < status; other++)
             CHECK(strcmp(clearmap_status_text(status), clearmap_status_text(other)) != 0);
-    CHECK(strcmp(clearmap_status_text(12), clearmap_status_text(UINT32_MAX)) == 0);
+    CHECK(strcmp(clearmap_status_text(13), clearmap_status_text(UINT32_MAX)) == 0);
     CHECK(strcmp(clearmap_version(), CLEARMAP_VERSION) == 0);
 }
 
@@ -486,7 +576,7 @@ static void try_pack_statuses(void) {
 
 static uint32_t rows_call(int which, clearmap_near *nears, uint32_t *distances) {
     static const clearmap_bytes by = {3, 2, 3, 1, 1};
-    static const clearmap_bits bi = {3, 2, 1, 0};
+    static const clearmap_bits bi = {3, 2, 1, 0, 0};
     switch (which) {
     case 0: return clearmap_bytes_nearest(small_bytes, 6, &by, 0, 1, 0, 2, nears, 6);
     case 1: return clearmap_bits_nearest(small_words, 2, &bi, 0, 1, 0, 2, nears, 6);
@@ -634,6 +724,7 @@ static void try_largest(void) {
 int main(int argc, char **argv) {
     int maps = argc > 1 ? atoi(argv[1]) : 40;
     try_statuses();
+    try_tile_statuses();
     try_pack_statuses();
     try_alignments();
     long refused = try_memory();

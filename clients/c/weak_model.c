@@ -20,8 +20,8 @@
  * - It sets errno, of which no sentence tells.
  * - Its texts have words of their own: "What a status says, in one line without its end."
  *
- * Nothing is open in the answers, in the order of the statuses, and in what clearmap_pack and
- * clearmap_unpack write: the clauses of pack.rt fix blank_bands too.
+ * Nothing is open in the answers, in the order of the statuses, and in what clearmap_pack,
+ * clearmap_mark and clearmap_unpack write: the clauses of pack.rt and mark.rt fix blank_bands too.
  */
 #include "clearmap.h"
 #include "weak_duties.h"
@@ -69,10 +69,18 @@ static struct call over_bits(const uint64_t *words, size_t length, const clearma
     return c;
 }
 
+/* The status of marks of tiles that begin at an index, of a map whose rows are there. */
+static uint32_t marks_status(const struct call *c, size_t tiles) {
+    size_t rows = (c->height - 1) * c->stride + c->across, bands = (c->height + 63) / 64;
+    return tiles < rows || c->length < bands || c->length - bands < tiles ? CLEARMAP_TILES
+                                                                          : CLEARMAP_DONE;
+}
+
 static uint32_t map_status(const struct call *c) {
     if (c->width - 1 >= MOST_SIDE || c->height - 1 >= MOST_SIDE) return CLEARMAP_SIZE;
     if (c->stride < c->across || c->stride > UINT32_MAX) return CLEARMAP_STRIDE;
     if (c->length < (c->height - 1) * c->stride + c->across) return CLEARMAP_LENGTH;
+    if (c->bits && c->bits->tiles && marks_status(c, c->bits->tiles)) return CLEARMAP_TILES;
     if (c->metric > CLEARMAP_CHESS) return CLEARMAP_METRIC;
     return c->edge > CLEARMAP_WALL ? CLEARMAP_EDGE : CLEARMAP_DONE;
 }
@@ -92,8 +100,11 @@ static bool is_obstacle(const struct call *c, long x, long y) {
         uint8_t byte = ((const uint8_t *)c->items)[(size_t)y * c->stride + (size_t)x];
         return c->bytes->low <= byte && byte <= c->bytes->high;
     }
-    uint64_t word = ((const uint64_t *)c->items)[(size_t)y * c->stride + (size_t)x / 64];
-    return (word >> (x % 64) & 1) && !(c->bits->blank_bands >> (y / 64) & 1);
+    const uint64_t *words = c->items;
+    uint64_t word = words[(size_t)y * c->stride + (size_t)x / 64];
+    uint64_t marks = c->bits->tiles ? words[c->bits->tiles + (size_t)y / 64] : 0;
+    return (word >> (x % 64) & 1) && !(c->bits->blank_bands >> (y / 64) & 1)
+           && !(marks >> (x / 64) & 1);
 }
 
 /* The bits from a cell on in its word; all of them for a map in bytes, which has no words. */
@@ -339,7 +350,7 @@ const char *clearmap_status_text(uint32_t status) {
     static const char *const texts[] = {
         "0: no fault", "1: sides", "2: the stride", "3: the length", "4: the metric",
         "5: the edge", "6: how many points", "7: not in the map", "8: crooked", "9: the room",
-        "10: malloc", "11: low, high"};
+        "10: malloc", "11: low, high", "12: the tiles"};
     return status < sizeof texts / sizeof *texts ? texts[status] : "no status";
 }
 
@@ -355,7 +366,7 @@ uint32_t clearmap_pack(const uint8_t *bytes, size_t bytes_length, const clearmap
     apart(layout, (struct memory){words, c.height * across * sizeof *words});
     begin(&c, words, c.height * across * sizeof *words);
     begin(&c, bits, sizeof *bits);
-    *bits = (clearmap_bits){c.width, c.height, across, UINT64_MAX};
+    *bits = (clearmap_bits){c.width, c.height, across, UINT64_MAX, 0};
     memset(words, 0, c.height * across * sizeof *words);
     for (long y = 0; y < (long)c.height; y++)
         for (long x = 0; x < (long)c.width; x++) {
@@ -364,6 +375,25 @@ uint32_t clearmap_pack(const uint8_t *bytes, size_t bytes_length, const clearmap
             bits->blank_bands &= ~(1ull << (y / 64));
         }
     return done(&c);
+}
+
+uint32_t clearmap_mark(uint64_t *words, size_t words_length, clearmap_bits *map, size_t tiles) {
+    struct call c = over_bits(words, words_length, map, 0, 0);
+    uint64_t marks[MOST_SIDE / 64];
+    uint32_t status = map_status(&c);
+    if (status || (status = marks_status(&c, tiles))) return status;
+    apart(c.read, c.layout);
+    memset(marks, 0xff, sizeof marks);
+    for (long y = 0; y < (long)c.height; y++)
+        for (long x = 0; x < (long)c.width; x++)
+            if (is_obstacle(&c, x, y)) marks[y / 64] &= ~(1ull << (x / 64));
+    uint32_t checked = done(&c);
+    map->blank_bands = 0;
+    for (size_t band = 0; band < MOST_SIDE / 64; band++)
+        map->blank_bands |= (uint64_t)(marks[band] == UINT64_MAX) << band;
+    map->tiles = tiles;
+    memcpy(words + tiles, marks, (c.height + 63) / 64 * sizeof *marks);
+    return checked;
 }
 
 uint32_t clearmap_unpack(const uint64_t *words, size_t words_length, const clearmap_bits *map,

@@ -285,7 +285,8 @@ public:
         auto side = [](int cells) { return 1 <= cells && cells <= detail::largest_side; };
         if (!side(size.width) || !side(size.height)) detail::check(CLEARMAP_SIZE);
         if (edge != Edge::open && edge != Edge::wall) detail::check(CLEARMAP_EDGE);
-        words_.resize(stride() * static_cast<std::size_t>(size.height));
+        words_.resize(tiles() + (static_cast<std::size_t>(size.height) + 63) / 64);
+        mark();
     }
 
     /// A map in bytes, in a vector, an array or a span: its rows one after another, exactly width
@@ -321,19 +322,26 @@ public:
         detail::ImageReader reader(image);
         Map map(reader.size(), edge);
         reader.read(map.words_, map.stride());
-        map.mark(0, map.size_.height);
+        map.mark();
         return map;
     }
 
     Size size() const noexcept { return words_.empty() ? Size{0, 0} : size_; }
     Edge edge() const noexcept { return edge_; }
 
-    /// The bits, as the calls of clearmap.h take them with `bits()`: those after a row's last
-    /// column are 0.
+    /// The bits, as the calls of clearmap.h take them with `bits()`, and the marks of blank tiles
+    /// after the last row: the bits after a row's last column are 0.
     const std::vector<std::uint64_t>& words() const noexcept { return words_; }
+    /// The layout without the marks of tiles, which fit these words as a whole alone.
     clearmap_bits bits() const noexcept {
         return {detail::numbered(size().width), detail::numbered(size().height), stride(),
-                blank_bands_};
+                blank_bands_, 0};
+    }
+    /// The layout with the marks: for calls over all of `words()`, whose queries they speed up.
+    clearmap_bits marked_bits() const noexcept {
+        clearmap_bits bits = this->bits();
+        bits.tiles = words_.empty() ? 0 : tiles();
+        return bits;
     }
 
     /// Whether the sizes, the edges and the obstacles are the same.
@@ -437,9 +445,9 @@ public:
     Map inverse() const {
         Map map(size());
         const std::uint64_t last = ~std::uint64_t{0} >> (63 - (width() - 1) % 64);
-        for (std::size_t k = 0; k < words_.size(); ++k)
+        for (std::size_t k = 0; k < tiles(); ++k)
             map.words_[k] = ~words_[k] & ((k + 1) % stride() == 0 ? last : ~std::uint64_t{0});
-        map.mark(0, size_.height);
+        map.mark();
         return map;
     }
 
@@ -461,6 +469,10 @@ private:
 
     std::size_t width() const noexcept { return static_cast<std::size_t>(size_.width); }
     std::size_t stride() const noexcept { return (width() + 63) / 64; }
+    /// Where the marks of tiles begin: after the last row.
+    std::size_t tiles() const noexcept {
+        return stride() * static_cast<std::size_t>(size_.height);
+    }
     std::size_t word(int x, int y) const noexcept {
         return static_cast<std::size_t>(y) * stride() + static_cast<std::size_t>(x) / 64;
     }
@@ -472,7 +484,7 @@ private:
     template <class Call, class... Asked>
     void ask(Call call, Metric m, Asked... asked) const {
         static constexpr std::uint64_t none = 0;
-        const clearmap_bits map = bits();
+        const clearmap_bits map = marked_bits();
         detail::check(call(words_.empty() ? &none : words_.data(), words_.size(), &map,
                            detail::numbered(m), detail::numbered(edge_), asked...));
     }
@@ -492,9 +504,9 @@ private:
                                   stride, obstacles.low, obstacles.high};
         clearmap_bits to{};
         detail::check(clearmap_pack(length == 0 ? &none : static_cast<const std::uint8_t*>(cells),
-                                    length, &from, words_.data(), words_.size(), &to));
-        blank_bands_ = to.blank_bands;
+                                    length, &from, words_.data(), tiles(), &to));
         if (rows == Rows::upwards) flip();
+        mark();
     }
 
     /// Reverses the order of the rows.
@@ -505,20 +517,37 @@ private:
                 words_.begin() + static_cast<std::ptrdiff_t>(word(0, size_.height - 1 - y));
             std::swap_ranges(upper, upper + static_cast<std::ptrdiff_t>(stride()), lower);
         }
-        mark(0, size_.height);
     }
 
-    /// Sets whether each band of rows y0 to y1 - 1 is blank.
-    void mark(int y0, int y1) {
+    /// Marks the blank tiles and bands of the whole map, which its cells say.
+    void mark() {
+        clearmap_bits map = bits();
+        map.blank_bands = 0;
+        detail::check(clearmap_mark(words_.data(), words_.size(), &map, tiles()));
+        blank_bands_ = map.blank_bands;
+    }
+
+    /// Marks the tiles of a box whose cells were drawn, and their bands: none of them is blank if
+    /// obstacles were.
+    void mark(int x0, int y0, int x1, int y1, bool obstacles) {
         for (int b = y0 / band; b <= (y1 - 1) / band; ++b) {
-            auto rows = [&](int y) {
-                return words_.begin() + static_cast<std::ptrdiff_t>(word(0, y));
-            };
-            bool any = std::any_of(rows(b * band), rows(std::min((b + 1) * band, size_.height)),
-                                   [](std::uint64_t bits) { return bits != 0; });
-            std::uint64_t bit = std::uint64_t{1} << b;
-            blank_bands_ = any ? blank_bands_ & ~bit : blank_bands_ | bit;
+            std::uint64_t& marks = words_[tiles() + static_cast<std::size_t>(b)];
+            for (int tile = x0 / 64; tile <= (x1 - 1) / 64; ++tile)
+                put(marks, tile, !obstacles && is_blank(tile, b));
+            put(blank_bands_, b, marks == ~std::uint64_t{0});
         }
+    }
+
+    /// Whether a tile of a band has no obstacle.
+    bool is_blank(int tile, int b) const noexcept {
+        std::uint64_t any = 0;
+        for (int y = b * band; y < std::min((b + 1) * band, size_.height); ++y)
+            any |= words_[word(64 * tile, y)];
+        return any == 0;
+    }
+
+    static void put(std::uint64_t& bits, int at, bool one) noexcept {
+        bits = (bits & ~(std::uint64_t{1} << at)) | std::uint64_t{one} << at;
     }
 
     std::uint32_t draw(int x0, int y0, int x1, int y1, bool obstacles) {
@@ -533,7 +562,7 @@ private:
                 changed += std::bitset<64>(old ^ drawn).count();
                 old = drawn;
             }
-        mark(y0, y1);
+        mark(x0, y0, x1, y1, obstacles);
         return static_cast<std::uint32_t>(changed);
     }
 

@@ -313,7 +313,8 @@ static void drawn(int maps) {
 }
 
 /// A path of over 1000 points is asked in pieces, and no cell between two is left out.
-/// The bits of a map whose blank bands are left out are the same map.
+/// The bits of a map are the same map with the marks of its tiles, and where its blank bands are
+/// left out.
 static void bands_left_out(int maps) {
     for (int i = 0; i < maps; ++i) {
         Model model = random_model(150, 300);
@@ -324,13 +325,23 @@ static void bands_left_out(int maps) {
         left_out.stride = map.bits().stride;
         const auto cells = left_out.width * std::size_t{left_out.height};
         std::vector<std::uint8_t> told(cells), wanted(cells);
-        for (bool known : {false, true}) {
-            const clearmap_bits bits = known ? map.bits() : left_out;
-            CHECK(clearmap_unpack(map.words().data(), map.words().size(), &bits, 0, 1,
-                                  known ? wanted.data() : told.data(), cells) == CLEARMAP_DONE);
+        auto unpacked = [&](const clearmap_bits& bits, std::vector<std::uint8_t>& into) {
+            CHECK(clearmap_unpack(map.words().data(), map.words().size(), &bits, 0, 1, into.data(),
+                                  cells) == CLEARMAP_DONE);
+        };
+        unpacked(left_out, wanted);
+        for (const clearmap_bits& bits : {map.bits(), map.marked_bits()}) {
+            unpacked(bits, told);
+            CHECK(told == wanted);
         }
-        CHECK(told == wanted);
+        CHECK(map.bits().tiles == 0 && map.marked_bits().tiles != 0);
     }
+    const Map emptied = [] {
+        Map map({3, 2});
+        Map taken = std::move(map);
+        return map;  // NOLINT(bugprone-use-after-move): it has no cells now
+    }();
+    CHECK(emptied.marked_bits().tiles == 0);
 }
 
 static void long_paths() {

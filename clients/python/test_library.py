@@ -513,7 +513,7 @@ class Finding(unittest.TestCase):
             "clearmap_found *found": ctypes.POINTER(library.CFound),
         }
         calls = re.findall(r"^uint32_t (clearmap_\w+)\(([^)]*)\);", header, re.MULTILINE)
-        self.assertEqual(len(calls), 14)
+        self.assertEqual(len(calls), 15)
         for name, words in calls:
             wanted = []
             for word in re.sub(r"\s+", " ", words).replace("const ", "").split(", "):

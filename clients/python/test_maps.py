@@ -18,7 +18,7 @@ HERE = pathlib.Path(__file__).resolve().parent
 sys.path.append(str(HERE.parent.parent / "tools"))
 
 import clearmap
-from clearmap import copies
+from clearmap import copies, words
 from fakes import Fake
 from served import Served
 
@@ -135,6 +135,11 @@ class Maps(unittest.TestCase):
             np.testing.assert_array_equal(area.grid(), grid)
             bands = sum(1 << k for k in range(5) if grid[64 * k : 64 * k + 64].any())
             self.assertEqual(area._held.memory.layout.blank_bands, 2**64 - 1 - bands)
+            for made in (area, clearmap.Map(grid)):  # each tile with an obstacle has no mark
+                marks = words.marks_of(made._held.memory.cells)
+                for (band, tile), mark in np.ndenumerate(marks[:, None] >> np.arange(3, dtype="u8")):
+                    part = grid[64 * band : 64 * band + 64, 64 * tile : 64 * tile + 64]
+                    self.assertEqual(mark & np.uint64(1), not part.any())
             np.testing.assert_array_equal(area.distances(), clearmap.distances(grid))
 
     def test_is_clear(self):

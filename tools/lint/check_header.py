@@ -51,7 +51,7 @@ def c_arguments(arguments):
 
 def exported(text):
     """The exports of the sources: for each name its arguments and its result, as C has them."""
-    pattern = r'#\[unsafe\(no_mangle\)\]\npub extern "C" fn (\w+)\((.*?)\n\) -> (\w+)'
+    pattern = r'#\[unsafe\(no_mangle\)\]\npub extern "C" fn (\w+)\((.*?)\n?\) -> (\w+)'
     return {
         name: (c_arguments(given), c_type(result))
         for name, given, result in re.findall(pattern, text, re.S)

@@ -4,10 +4,10 @@ from typing import Any, Dict, NoReturn, Optional, Sequence
 
 from . import clock
 from .errors import BadVersion
-from .grids import Memory
-from .library import Bits, numpy
-from .maps import ROWS, Map
+from .library import numpy
+from .maps import Map
 from .records import Record, Tile, cells_of, tiles_of, words_of
+from .words import copied, marked, rows_for
 
 FIXED = "the map of a version isn't changed: paint on a copy, as version.map.copy()"
 
@@ -77,22 +77,20 @@ def put_together(
     width, height = record.size
     if width % 64 and (words[:, -1] >> numpy().uint64(width % 64)).any():
         raise BadVersion("a tile has cells beyond the map's right side")
-    bits = Bits(width, height, words.shape[1], _blank_bands(words))
-    area = FixedMap._of(Memory("bits", words, words.size, bits), record.edge)
+    area = FixedMap._of(marked(words, width), record.edge)
     told = record.number, record.run, record.order, record.hash
     return Version(area, *told, published, record, Known(published))
 
 
 def _words(record: Record, before: Optional[Version], fetched: Dict[bytes, bytes]) -> Any:
     """The words of a record's map, by rows."""
-    width, height = record.size
-    words = numpy().empty((height, (width + 63) // 64), numpy().uint64)
+    words = rows_for(*record.size)
     stock: Dict[bytes, Tile] = {}
     same: Sequence[Optional[bytes]] = [None] * len(record.tiles)
     if before is not None:
         stock, old = stock_of(before), before.map._held.memory.cells
         if before.map.size == record.size:
-            words, same = old.copy(), before._record.tiles
+            words, same = copied(old, record.size[0]), before._record.tiles
     for wanted, had, tile in zip(record.tiles, same, tiles_of(record.size)):
         if wanted != had:
             cells = fetched[wanted] if wanted in fetched else cells_of(old, stock[wanted])
@@ -100,11 +98,3 @@ def _words(record: Record, before: Optional[Version], fetched: Dict[bytes, bytes
                 raise BadVersion(f"its tile {wanted.hex()[:16]} isn't of {tile.length} bytes")
             words[tile.y0 : tile.y1, tile.first : tile.end] = words_of(cells, tile)
     return words
-
-
-def _blank_bands(words: Any) -> int:
-    """One bit per 64 rows, set if they have no obstacle."""
-    rows = words.any(axis=1)
-    starts = range(0, len(rows), ROWS)
-    some = sum(1 << k for k, y in enumerate(starts) if rows[y : y + ROWS].any())
-    return 2**64 - 1 - some

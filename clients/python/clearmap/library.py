@@ -37,6 +37,7 @@ class Bits(ctypes.Structure):
         ("height", ctypes.c_uint32),
         ("stride", ctypes.c_size_t),
         ("blank_bands", ctypes.c_uint64),
+        ("tiles", ctypes.c_size_t),
     ]
 
 
@@ -76,7 +77,9 @@ def _declare(library: ctypes.CDLL) -> None:
     library.clearmap_unpack.argtypes = [
         address, length, by_bits, ctypes.c_uint8, ctypes.c_uint8, address, length,
     ]  # fmt: skip
-    library.clearmap_pack.restype = library.clearmap_unpack.restype = u32
+    library.clearmap_mark.argtypes = [address, length, by_bits, length]
+    for call in (library.clearmap_pack, library.clearmap_unpack, library.clearmap_mark):
+        call.restype = u32
 
 
 def _places() -> List[pathlib.Path]:

@@ -29,6 +29,7 @@ from .requests import EUCLID2, LARGEST_SIDE, LONGEST_PATH, Cell, Near, Request, 
 from .rows import distances_of
 from .signed import NO_BANDS, gradients_of, signed_of
 from .turns import Turn
+from .words import copied, drawn, marked, rows_for
 
 if TYPE_CHECKING:
     import numpy as np
@@ -39,18 +40,15 @@ if TYPE_CHECKING:
 
 M = TypeVar("M", bound="Map")
 END = 1 << 32  # nothing below it can be asked for
-ROWS = 64  # rows of a band
 
 
 def packed(memory: Memory) -> Memory:
     """A map in bytes as one in bits, in memory of its own."""
-    np = numpy()
     _, cells, length, layout = memory
-    words = np.empty((layout.height, (layout.width + 63) // 64), np.uint64)
-    bits = Bits()
+    rows = rows_for(layout.width, layout.height)
     source = cells.ctypes.data, length, ctypes.byref(layout)
-    check(library().clearmap_pack(*source, words.ctypes.data, words.size, ctypes.byref(bits)))
-    return Memory("bits", words, words.size, bits)
+    check(library().clearmap_pack(*source, rows.ctypes.data, rows.size, ctypes.byref(Bits())))
+    return marked(rows, layout.width)
 
 
 def unpacked(memory: Memory, y0: int, y1: int) -> Any:
@@ -349,18 +347,15 @@ class Map:
         x0, y0, x1, y1 = self._corners(name, *corners)
         first, mask = _mask(x0, x1)
         with self._turn.lock():
-            _, cells, length, old = self._held.memory
-            cells, blank = cells.copy(), int(old.blank_bands)
-            part = cells[y0:y1, first : first + len(mask)]
+            _, cells, _, old = self._held.memory
+            rows, end = copied(cells, old.width), first + len(mask)
+            part = rows[y0:y1, first:end]
             if name == "PAINT":
                 part |= mask
             else:
                 part &= ~mask
-            for band in range(y0 // ROWS, (y1 - 1) // ROWS + 1):
-                rows = cells[band * ROWS : (band + 1) * ROWS]
-                blank = blank & ~(1 << band) | int(not rows.any()) << band
-            bits = Bits(old.width, old.height, old.stride, blank)
-            self._held = Held(Memory("bits", cells, length, bits), self._edge)
+            memory = drawn(rows, old, y0, y1, first, end, name == "PAINT")
+            self._held = Held(memory, self._edge)
 
 
 def _mask(x0: int, x1: int) -> Tuple[int, Any]:

@@ -76,7 +76,7 @@ def inverse(memory: Memory) -> Memory:
     """The map in bits whose obstacles are the free cells of another."""
     old = memory.layout
     bits = Bits(old.width, old.height, memory.cells.shape[1], NO_BANDS)
-    return Memory("bits", ~memory.cells, memory.length, bits)
+    return Memory("bits", ~memory.cells, memory.cells.size, bits)
 
 
 # ---- of maps in bits

@@ -22,8 +22,8 @@ use Rattle.clearance.specs.Rows.{words_of_row}
 use Rattle.clearance.proofs.RowWords.{word_in_row}
 use Rattle.libclearmap.specs.declared.layout.ClearmapBytes.{ClearmapBytes}
 use Rattle.libclearmap.specs.declared.layout.ClearmapBits.{ClearmapBits}
-use Rattle.libclearmap.specs.Layouts.{IsShape, cells_of_bits, cells_of_bytes, is_counted, is_dark}
-use Rattle.libclearmap.specs.Layouts.{is_marked, is_obstacle_byte}
+use Rattle.libclearmap.specs.Layouts.{IsShape, cells_of_bytes, cells_of_rows, is_counted, is_dark}
+use Rattle.libclearmap.specs.Layouts.{is_obstacle_byte, is_set}
 
 -- the bits of a number from its size on are 0
 bit_high : (n k i : ℕ) → n < 2 ^ k → k ≤ i → bit_at n i ≡ 0
@@ -33,7 +33,7 @@ bit_high n k i small above =
     ∙ (bit_at_cat_high 0 k n i small above ∙ bit_at-zero (i - k))
 
 -- a number of some answers is one of 64 answers, the rest of which are no
-word_where_part : (test other : ℕ → Bool) (n : ℕ) → n ≤ 64 → ((i : ℕ) → i < n → test i ≡ other i)
+pub word_where_part : (test other : ℕ → Bool) (n : ℕ) → n ≤ 64 → ((i : ℕ) → i < n → test i ≡ other i)
     → ((i : ℕ) → n ≤ i → i < 64 → other i ≡ false)
     → word_where test n ≡ word_where other 64
 word_where_part test other n few same none =
@@ -152,9 +152,9 @@ pub word_in_bits : (map : ClearmapBits) (words : List ℕ) (y k own : ℕ) → k
     ≡ bit_at (get_or words (y * map.stride + k) 0) i)
     → ((i : ℕ) → map.width - 64 * k ≤ i → i < 64 → bit_at own i ≡ 0)
     → (if is_counted map.blank_bands y then own else 0)
-    ≡ get_or (words_of_row (cells_of_bits map words) y) k 0
+    ≡ get_or (words_of_row (cells_of_rows map words) y) k 0
 word_in_bits map words y k own within row fits kept cleared =
-    let cells = cells_of_bits map words in
+    let cells = cells_of_rows map words in
     let band = is_counted map.blank_bands y in
     let test : ℕ → Bool = λ j. has cells (64 * k + j) y in
     same_from_bits_below 64 (if band then own else 0) (word_where test 64)
@@ -163,7 +163,7 @@ word_in_bits map words y k own within row fits kept cleared =
       | inl inside ↦
           let word_is : (64 * k + i) / 64 ≡ k = omega arith in
           let place : (64 * k + i) % 64 ≡ i = omega arith in
-          let told = has-cells_where map.width map.height (is_marked map words) (64 * k + i) y
+          let told = has-cells_where map.width map.height (is_set map words) (64 * k + i) y
           (omega arith) row in
           let here = rw (word_is, place) at told in
           let stored = get_or words (y * map.stride + k) 0 in
@@ -171,7 +171,7 @@ word_in_bits map words y k own within row fits kept cleared =
           ∙ tested (bit_at stored i) (bit_at-lt _ i))
           ∙ (ap (λ (b : Bool). cond b 1 0) (sym here) ∙ sym (bit_at-word_where test 64 i bit))
       | inr past ↦
-          let none = has-cells_where_right map.width map.height (is_marked map words) (64 * k + i) y
+          let none = has-cells_where_right map.width map.height (is_set map words) (64 * k + i) y
           (omega arith) in
           masked band false own i (cleared i past bit)
           ∙ (ap (λ (b : Bool). cond b 1 0) (none_of band)
@@ -186,13 +186,18 @@ word_in_bits map words y k own within row fits kept cleared =
     none_of true = refl
     none_of false = refl
 
+-- nothing is left of 0 by either choice
+pub neither : (b : Bool) → ◌≡◌ {A = ℕ} (if b then 0 else 0) 0
+neither true = refl
+neither false = refl
+
 -- a map in bits has no obstacle in a band that is said to be blank
-pub IsBanded-bits : (map : ClearmapBits) (words : List ℕ) → IsSide map.width → IsSide map.height
-    → map.blank_bands < 2 ^ 64 → IsBanded (cells_of_bits map words) (bit_not w64 map.blank_bands)
-IsBanded-bits map words wide high fits = λ x y obstacle.
-    let inside = has-outside _ (IsBitmap-cells_where map.width map.height (is_marked map words) wide
+pub IsBanded-rows : (map : ClearmapBits) (words : List ℕ) → IsSide map.width → IsSide map.height
+    → map.blank_bands < 2 ^ 64 → IsBanded (cells_of_rows map words) (bit_not w64 map.blank_bands)
+IsBanded-rows map words wide high fits = λ x y obstacle.
+    let inside = has-outside _ (IsBitmap-cells_where map.width map.height (is_set map words) wide
     high) x y obstacle in
-    let marked = sym (has-cells_where map.width map.height (is_marked map words) x y inside.column
+    let marked = sym (has-cells_where map.width map.height (is_set map words) x y inside.column
     inside.row) ∙ obstacle in
     let zero = eqb-true (bit_at map.blank_bands (y / 64)) 0
     (and_parts (is_counted map.blank_bands y) (is_stored map.stride words x y) marked).0 in

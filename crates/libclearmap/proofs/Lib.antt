@@ -1,2 +1,4 @@
 mod CopyLemmas
 mod LayoutLemmas
+mod MarkLemmas
+mod TileLemmas

@@ -1,5 +1,6 @@
 pub mod Distances
 pub mod Kept
 pub mod Layouts
+pub mod Rows
 pub mod Settings
 pub mod Statuses

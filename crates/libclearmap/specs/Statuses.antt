@@ -1,7 +1,8 @@
 -- What is wrong with a call, as a number: this project's own rule. Of several faults it is the
--- first, in the order of their numbers up to 9; then comes 11, and 10 comes last.
-use Rattle.std.specs.Prelude.{◌≡◌, ℕ, zero, suc, ◌+◌, ◌-◌, ◌*◌, ◌^◌, ◌&&◌, ◌||◌, ◌⊎◌, nat_le}
-use Rattle.std.specs.Prelude.{nat_lt, not, Bool, List, length, Option, Some, None, if◌then◌else◌}
+-- first, in the order of their numbers up to 9, with 12 after 3; then comes 11, and 10 comes last.
+use Rattle.std.specs.Prelude.{◌≡◌, ℕ, zero, suc, ◌+◌, ◌-◌, ◌*◌, ◌^◌, ◌&&◌, ◌||◌, ◌⊎◌, ◌==◌}
+use Rattle.std.specs.Prelude.{nat_le, nat_lt, not, Bool, List, length, Option, Some, None}
+use Rattle.std.specs.Prelude.{if◌then◌else◌}
 use Rattle.metric.specs.declared.cell.Cell.{Cell}
 use Rattle.metric.specs.declared.refusal.Refusal.{Refusal}
 use Rattle.metric.specs.declared.refusal.Refusal.TheVariants.{BadPath, OutOfRange}
@@ -10,6 +11,7 @@ use Rattle.bits.specs.Words.{words_across}
 use Rattle.clearance.specs.Paths.{path_refusal}
 use Rattle.libclearmap.specs.declared.layout.ClearmapBytes.{ClearmapBytes}
 use Rattle.libclearmap.specs.declared.layout.ClearmapBits.{ClearmapBits}
+use Rattle.libclearmap.specs.Layouts.{bands_down, rows_end}
 
 -- the first of two statuses that isn't 0; 0 means that nothing is wrong
 abbrev pub first_wrong : ℕ → ℕ → ℕ
@@ -32,10 +34,19 @@ shape_status width height across stride count =
 abbrev pub bytes_status : ClearmapBytes → List ℕ → ℕ
 bytes_status map bytes = shape_status map.width map.height map.width map.stride (length bytes)
 
+-- 12: marks of tiles from an index on lie among the rows, or the memory ends before they do
+abbrev pub marks_status : ℕ → ClearmapBits → ℕ → ℕ
+marks_status tiles map count =
+    if nat_lt tiles (rows_end map) || nat_lt count (tiles + bands_down map) then 12 else 0
+
+-- what is wrong with the marks of a map's tiles; nothing is where it has none
+abbrev pub tiles_status : ClearmapBits → ℕ → ℕ
+tiles_status map count = if map.tiles == 0 then 0 else marks_status map.tiles map count
+
 -- what is wrong with a map in bits
 abbrev pub bits_status : ClearmapBits → List ℕ → ℕ
-bits_status map words = shape_status map.width map.height (words_across map.width) map.stride
-    (length words)
+bits_status map words = first_wrong (shape_status map.width map.height (words_across map.width)
+    map.stride (length words)) (tiles_status map (length words))
 
 -- 4: no metric has this number; 5: no edge has this number
 abbrev pub setting_status : ℕ → ℕ → ℕ

@@ -1,48 +1,58 @@
-//! A map in the caller's bits, read in place.
+//! A map in the caller's bits without marks of its tiles, read in place.
 
-ghost use Rattle.std.specs.Prelude.{◌≡◌, ◌≢◌, ℕ, ◌/◌, ◌≤◌, ◌<◌, IfErr, IfOk, length, if◌then◌else◌};
+ghost use Rattle.std.specs.Prelude.{◌≡◌, ℕ, ◌/◌, ◌≤◌, ◌<◌, length, slice_index, true};
+ghost use Rattle.std.specs.Prelude.{if◌then◌else◌};
 ghost use Rattle.std.specs.Int.{bit_at};
 ghost use Rattle.bits.specs.Words.{words_across};
+ghost use Rattle.clearance.specs.Rows.{IsBlankRow, words_of_row};
 ghost use Rattle.libclearmap.specs.Layouts.{IsShape, is_counted};
-ghost use Rattle.libclearmap.specs.Statuses.{bits_status};
 
 use crate::layout::ClearmapBits;
-use crate::status::{DONE, shape_status};
 use clearance::{Rows, is_blank};
 use metric::{BAND_ROWS, MOST_SIDE};
 
-/// A map laid out as `map` in these words. Bits past the edge may be anything.
+/// A map laid out as `map` in these words. Bits past the edge may be anything, and so may what is
+/// known of its tiles.
 #[derive(Drop)]
 pub struct BitMap<'a> {
     pub words: &'a [u64],
     pub map: ClearmapBits,
-    ghost shape: { IsShape map.width map.height (words_across map.width) map.stride
+    pub ghost shape: { IsShape map.width map.height (words_across map.width) map.stride
         (length words.now) },
 }
 
 impl<'a> BitMap<'a> {
-    /// Returns the map in these words, or the status of what is wrong with it.
-    pub fn of(words: &'a [u64], map: &ClearmapBits) -> Result<Self, u32>
-        ensures map { IfOk result (λ rows. rows.map ≡ map.now) }
-        ensures words { IfOk result (λ rows. rows.words.now ≡ words.entry.now) }
-        ensures right { IfOk result (λ _. bits_status map.now words.entry.now ≡ DONE) }
-        ensures wrong { IfErr result (λ status. status ≡ bits_status map.now words.entry.now) }
-        ensures some { IfErr result (λ status. status ≢ DONE) }
+    ghost use Rattle.libclearmap.specs.Layouts.{cells_of_rows};
+
+    /// A word of row `y`, 0 past the edge and where the row's band is known to be blank.
+    #[inline(always)]
+    pub fn word_at(&self, y: u16, index: usize) -> u64
+        requires row { y < self.now.map.height }
+        requires index { index < words_across self.now.map.width }
+        ensures { result
+            ≡ slice_index (words_of_row (cells_of_rows self.now.map self.now.words.now) y) index }
     {
-        let map = *map;
-        let across = (map.width as usize).div_ceil(64);
-        let status = shape_status(map.width, map.height, across, map.stride, words.len());
-        if status != DONE {
-            return Err(status);
-        }
-        Ok(BitMap { words, map })
+        let word = self.words[usize::from(y) * self.map.stride + index];
+        let own = low_bits(word, self.map.width as usize - 64 * index);
+        counted(self.map.blank_bands, y, own)
+    }
+
+    /// Whether no cell of row `y` is an obstacle. A row with a bit set past its edge doesn't count
+    /// as blank.
+    pub fn is_blank_row(&self, y: u16) -> bool
+        requires { y < self.now.map.height }
+        ensures { result ≡ true
+            → IsBlankRow (cells_of_rows self.now.map self.now.words.now) y }
+    {
+        let start = usize::from(y) * self.map.stride;
+        is_blank(&self.words[start..start + self.across()])
     }
 }
 
 impl<'a> Rows for BitMap<'a> {
-    ghost use Rattle.libclearmap.specs.Layouts.{cells_of_bits};
+    ghost use Rattle.libclearmap.specs.Layouts.{cells_of_rows};
 
-    ghost cells = { λ rows. cells_of_bits rows.map rows.words.now };
+    ghost cells = { λ rows. cells_of_rows rows.map rows.words.now };
 
     fn width(&self) -> u16 {
         self.map.width as u16
@@ -58,15 +68,11 @@ impl<'a> Rows for BitMap<'a> {
 
     #[inline(always)]
     fn word(&mut self, y: u16, index: usize) -> u64 {
-        let word = self.words[usize::from(y) * self.map.stride + index];
-        let own = low_bits(word, self.map.width as usize - 64 * index);
-        counted(self.map.blank_bands, y, own)
+        self.word_at(y, index)
     }
 
-    /// A row with a bit set past its edge doesn't count as blank.
     fn is_blank(&mut self, y: u16) -> bool {
-        let start = usize::from(y) * self.map.stride;
-        is_blank(&self.words[start..start + self.across()])
+        self.is_blank_row(y)
     }
 
     #[inline(always)]

@@ -10,9 +10,10 @@ ghost use Rattle.bits.specs.Writes.{with_row};
 ghost use Rattle.clearance.specs.Rows.{IsBlankRow, words_of_row};
 ghost use Rattle.metric.specs.declared.refusal.Refusal.TheVariants.{Memory};
 
+use crate::marks::without;
 use bits::Bitmap;
 use clearance::Rows;
-use metric::{BAND_ROWS, MOST_SIDE, Refusal};
+use metric::{BAND_ROWS, Refusal};
 use std::alloc::Global;
 
 /// Copies the map into a bitmap. Fails only when out of memory.
@@ -65,26 +66,9 @@ pub fn pack_rows<R: Rows>(rows: &mut R, words: &mut [u64]) -> u64
     let mut blank = u64::MAX;
     'rows: for y in 0..height {
         let some = pack_row(rows, y, usize::from(y) * across, words);
-        blank = still_blank(blank, y, some);
+        blank = without(blank, y / BAND_ROWS, some);
     }
     blank
-}
-
-/// The blank bands after a row whose words have these bits: without its own, if any bit is set.
-#[inline(always)]
-fn still_blank(blank: u64, y: u16, some: u64) -> u64
-    requires { y < MOST_SIDE }
-    ensures marked { (i : ℕ) → bit_at some i ≡ 1 → bit_at result (y / BAND_ROWS) ≡ 0 }
-    ensures fewer { (band : ℕ) → band < BAND_ROWS → bit_at blank band ≡ 0 → bit_at result band ≡ 0 }
-    ensures others { (band : ℕ) → band < BAND_ROWS → band ≢ y / BAND_ROWS → bit_at result band
-        ≡ bit_at blank band }
-    ensures none { some ≡ 0 → result ≡ blank }
-{
-    if some == 0 {
-        blank
-    } else {
-        blank & !(1 << (y / BAND_ROWS))
-    }
 }
 
 /// Writes the words of row `y` from index `start` on. Returns the bits set in any of them.

@@ -21,7 +21,8 @@ pub struct ClearmapBytes {
 /// A map in bits, 64 cells per word: cell (x, y) is bit x % 64 of the word at y * `stride` + x /
 /// 64.
 ///
-/// A cell is an obstacle where its bit is 1 and bit y / 64 of `blank_bands` is 0.
+/// A cell is an obstacle where its bit is 1, bit y / 64 of `blank_bands` is 0, and so is the mark
+/// of its tile, if tiles have marks: bit x / 64 of the word at `tiles` + y / 64.
 #[repr(C)]
 #[derive(Clone, Copy, Debug)]
 pub struct ClearmapBits {
@@ -34,4 +35,8 @@ pub struct ClearmapBits {
     /// Which bands of 64 rows are known to be blank. Where bit k is 1, rows 64 k to 64 k + 63 count
     /// as blank, whatever their words say. 0 where nothing is known.
     pub blank_bands: u64,
+    /// Where among the words, after the last row, the marks of tiles begin, one word per band.
+    /// Where bit i of the word of band k is 1, columns 64 i to 64 i + 63 of its rows count as
+    /// blank, whatever their words say. 0 where there are no marks.
+    pub tiles: usize,
 }

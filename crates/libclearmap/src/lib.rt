@@ -8,9 +8,12 @@
 #![tactic(auto)]
 
 mod bit_map;
+mod bit_rows;
 mod byte_map;
 mod copy;
 mod layout;
+mod mark;
+mod marks;
 mod near;
 mod pack;
 mod queries;
@@ -22,6 +25,7 @@ mod table_bits;
 mod table_bytes;
 mod table_cell;
 mod tables;
+mod tiled_map;
 mod unpack;
 
 pub use layout::{ClearmapBits, ClearmapBytes};

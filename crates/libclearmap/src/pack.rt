@@ -11,15 +11,15 @@ ghost use Rattle.libclearmap.specs.Layouts.{cells_of_bits, cells_of_bytes};
 ghost use Rattle.libclearmap.specs.Statuses.{bits_status, bytes_status, first_wrong};
 ghost use Rattle.libclearmap.specs.Statuses.{range_status, room_status};
 
-use crate::bit_map::BitMap;
+use crate::bit_rows::BitRows;
 use crate::byte_map::ByteMap;
 use crate::copy::pack_rows;
 use crate::layout::{ClearmapBits, ClearmapBytes};
 use crate::status::{DONE, first_wrong, range_status, room_status};
-use crate::unpack::{Shades, unpack_rows};
+use crate::unpack::{Shades, unpack_in};
 
 /// Packs a map in bytes into words, one row after another without a gap, and writes their layout to
-/// `bits`. Bits past the last column are 0.
+/// `bits`, without marks of tiles. Bits past the last column are 0.
 #[unsafe(no_mangle)]
 pub extern "C" fn clearmap_pack(
     bytes: &[u8],
@@ -35,6 +35,7 @@ pub extern "C" fn clearmap_pack(
     ensures blank { (band : ℕ) → result ≡ DONE → band < 64 → ((y : ℕ) → y / 64 ≡ band
         → IsBlankRow (cells_of_bytes map.now bytes.now) y) → bit_at bits.new.blank_bands band ≡ 1 }
     ensures stride { result ≡ DONE → bits.new.stride ≡ words_across map.now.width }
+    ensures tiles { result ≡ DONE → bits.new.tiles ≡ 0 }
     ensures edge { (x y : ℕ) → result ≡ DONE → map.now.width ≤ x
         → x < 64 * words_across map.now.width → y < map.now.height
         → is_stored (words_across map.now.width) words.new x y ≡ false }
@@ -63,6 +64,7 @@ pub extern "C" fn clearmap_pack(
         height,
         stride,
         blank_bands,
+        tiles: 0,
     };
     DONE
 }
@@ -85,14 +87,10 @@ pub extern "C" fn clearmap_unpack(
         (room_status (map.now.height * map.now.width) (length bytes.old)) }
     ensures refused { result ≢ DONE → bytes.new ≡ bytes.old }
 {
-    let mut rows = match BitMap::of(words, map) {
-        Ok(rows) => rows,
-        Err(status) => return status,
-    };
-    let status = room_status(map.height as usize * map.width as usize, bytes.len());
-    if status != DONE {
-        return status;
+    let shades = Shades { free, obstacle };
+    match BitRows::of(words, map) {
+        Ok(BitRows::Plain(mut rows)) => unpack_in(&mut rows, shades, bytes),
+        Ok(BitRows::Tiled(mut rows)) => unpack_in(&mut rows, shades, bytes),
+        Err(status) => status,
     }
-    unpack_rows::<BitMap<'_>>(&mut rows, Shades { free, obstacle }, bytes);
-    DONE
 }

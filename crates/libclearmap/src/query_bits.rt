@@ -11,7 +11,7 @@ ghost use Rattle.libclearmap.specs.Settings.{distance_numbered, edge_numbered};
 ghost use Rattle.libclearmap.specs.Statuses.{bits_status, cell_status, first_wrong, path_status};
 ghost use Rattle.libclearmap.specs.Statuses.{rect_status, setting_status};
 
-use crate::bit_map::BitMap;
+use crate::bit_rows::BitRows;
 use crate::layout::ClearmapBits;
 use crate::near::{ClearmapFound, ClearmapNear};
 use crate::queries::{at_in, clear_in, path_in, rect_in};
@@ -43,8 +43,9 @@ pub extern "C" fn clearmap_bits_at(
         edge,
         range: DONE,
     };
-    match BitMap::of(words, map) {
-        Ok(mut rows) => at_in::<BitMap<'_>>(&mut rows, setting, x, y, near),
+    match BitRows::of(words, map) {
+        Ok(BitRows::Plain(mut rows)) => at_in(&mut rows, setting, x, y, near),
+        Ok(BitRows::Tiled(mut rows)) => at_in(&mut rows, setting, x, y, near),
         Err(status) => status,
     }
 }
@@ -77,8 +78,9 @@ pub extern "C" fn clearmap_bits_rect(
         edge,
         range: DONE,
     };
-    match BitMap::of(words, map) {
-        Ok(mut rows) => { rect_in::<BitMap<'_>>(&mut rows, setting, corners, found) }
+    match BitRows::of(words, map) {
+        Ok(BitRows::Plain(mut rows)) => rect_in(&mut rows, setting, corners, found),
+        Ok(BitRows::Tiled(mut rows)) => rect_in(&mut rows, setting, corners, found),
         Err(status) => status,
     }
 }
@@ -106,8 +108,9 @@ pub extern "C" fn clearmap_bits_path(
         edge,
         range: DONE,
     };
-    match BitMap::of(words, map) {
-        Ok(mut rows) => path_in::<BitMap<'_>>(&mut rows, setting, points, found),
+    match BitRows::of(words, map) {
+        Ok(BitRows::Plain(mut rows)) => path_in(&mut rows, setting, points, found),
+        Ok(BitRows::Tiled(mut rows)) => path_in(&mut rows, setting, points, found),
         Err(status) => status,
     }
 }
@@ -137,8 +140,9 @@ pub extern "C" fn clearmap_bits_clear_of(
         edge,
         range: DONE,
     };
-    match BitMap::of(words, map) {
-        Ok(mut rows) => clear_in::<BitMap<'_>>(&mut rows, setting, points, d, found),
+    match BitRows::of(words, map) {
+        Ok(BitRows::Plain(mut rows)) => clear_in(&mut rows, setting, points, d, found),
+        Ok(BitRows::Tiled(mut rows)) => clear_in(&mut rows, setting, points, d, found),
         Err(status) => status,
     }
 }

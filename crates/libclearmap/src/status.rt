@@ -21,6 +21,9 @@ pub const STRIDE: u32 = 2;
 /// The map's memory ends before its last row does.
 pub const LENGTH: u32 = 3;
 
+/// The marks of tiles lie among the rows, or the map's memory ends before they do.
+pub const TILES: u32 = 12;
+
 /// No metric has this number.
 pub const METRIC: u32 = 4;
 

@@ -9,7 +9,7 @@ ghost use Rattle.libclearmap.specs.Layouts.{cells_of_bits};
 ghost use Rattle.libclearmap.specs.Settings.{distance_numbered, edge_numbered};
 ghost use Rattle.libclearmap.specs.Statuses.{IsStatus, bits_status, first_wrong, table_status};
 
-use crate::bit_map::BitMap;
+use crate::bit_rows::BitRows;
 use crate::layout::ClearmapBits;
 use crate::near::ClearmapNear;
 use crate::setting::Setting;
@@ -45,8 +45,9 @@ pub extern "C" fn clearmap_bits_distances(
         edge,
         range: DONE,
     };
-    match BitMap::of(words, map) {
-        Ok(mut rows) => table_in(alloc, &mut rows, setting, y0..y1, distances),
+    match BitRows::of(words, map) {
+        Ok(BitRows::Plain(mut rows)) => table_in(alloc, &mut rows, setting, y0..y1, distances),
+        Ok(BitRows::Tiled(mut rows)) => table_in(alloc, &mut rows, setting, y0..y1, distances),
         Err(status) => status,
     }
 }
@@ -78,8 +79,9 @@ pub extern "C" fn clearmap_bits_nearest(
         edge,
         range: DONE,
     };
-    match BitMap::of(words, map) {
-        Ok(mut rows) => table_in(alloc, &mut rows, setting, y0..y1, nears),
+    match BitRows::of(words, map) {
+        Ok(BitRows::Plain(mut rows)) => table_in(alloc, &mut rows, setting, y0..y1, nears),
+        Ok(BitRows::Tiled(mut rows)) => table_in(alloc, &mut rows, setting, y0..y1, nears),
         Err(status) => status,
     }
 }

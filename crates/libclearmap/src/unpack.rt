@@ -1,10 +1,12 @@
 //! A map that is read word by word, written as bytes.
 
-ghost use Rattle.std.specs.Prelude.{◌≡◌, ℕ, ◌<◌, ◌≤◌, ◌+◌, ◌*◌, ◌⊎◌, length, slice_index};
+ghost use Rattle.std.specs.Prelude.{◌≡◌, ◌≢◌, ℕ, ◌<◌, ◌≤◌, ◌+◌, ◌*◌, ◌⊎◌, length, slice_index};
 ghost use Rattle.std.specs.Prelude.{if◌then◌else◌};
 ghost use Rattle.bits.specs.Cells.{has};
 ghost use Rattle.bits.specs.TileWords.{is_bit};
+ghost use Rattle.libclearmap.specs.Statuses.{room_status};
 
+use crate::status::{DONE, room_status};
 use clearance::Rows;
 use metric::WORD_BITS;
 
@@ -15,8 +17,28 @@ pub struct Shades {
     pub obstacle: u8,
 }
 
+/// Writes one byte per cell, in row-major order, if there is capacity for them. Returns the status.
+pub fn unpack_in<R: Rows>(rows: &mut R, shades: Shades, bytes: &mut [u8]) -> u32
+    ensures cells { (x y : ℕ) → result ≡ DONE → x < (R.cells rows.old).width
+        → y < (R.cells rows.old).height
+        → slice_index bytes.new (y * (R.cells rows.old).width + x)
+        ≡ (if has (R.cells rows.old) x y then shades.obstacle else shades.free) }
+    ensures rest { (k : ℕ) → (R.cells rows.old).height * (R.cells rows.old).width ≤ k → slice_index
+        bytes.new k ≡ slice_index bytes.old k }
+    ensures status { result ≡ room_status ((R.cells rows.old).height * (R.cells rows.old).width)
+        (length bytes.old) }
+    ensures refused { result ≢ DONE → bytes.new ≡ bytes.old }
+{
+    let needed = usize::from(rows.height()) * usize::from(rows.width());
+    let status = room_status(needed, bytes.len());
+    if status == DONE {
+        unpack_rows(rows, shades, bytes);
+    }
+    status
+}
+
 /// Writes one byte per cell, in row-major order.
-pub fn unpack_rows<R: Rows>(rows: &mut R, shades: Shades, bytes: &mut [u8])
+fn unpack_rows<R: Rows>(rows: &mut R, shades: Shades, bytes: &mut [u8])
     requires { (R.cells rows.old).height * (R.cells rows.old).width ≤ length bytes.old }
     ensures cells { (x y : ℕ) → x < (R.cells rows.old).width → y < (R.cells rows.old).height
         → slice_index bytes.new (y * (R.cells rows.old).width + x)

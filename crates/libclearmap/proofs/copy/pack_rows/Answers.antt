@@ -48,22 +48,22 @@ rows-preserved g c =
         | inr below ↦ let same : b ≡ c.rows.y = omega (arith, low, below) in rw same (row k column)
       ];
       marked = λ x b low obstacle. elim (cases_lt b c.rows.y) [
-        | inl above ↦ c.still_blank-blank.ensures.fewer (b / 64) (omega arith)
+        | inl above ↦ c.without-blank.ensures.fewer (b / 64) (omega arith)
             (c.rows.invariant.marked x b above obstacle)
         | inr below ↦
             let same : b ≡ c.rows.y = omega (arith, low, below) in
             let here = rw same at obstacle in
             let column = (has-outside cells bitmap x c.rows.y here).column in
-            rw same (c.still_blank-blank.ensures.marked (x % 64)
+            rw same (c.without-blank.ensures.marked (x % 64)
             (some (x / 64) (x % 64) (omega arith) (obstacle_bit cells x c.rows.y column here)))
       ];
       blank = λ band few rows. elim (cases_eq band (c.rows.y / 64)) [
         | inl same ↦
             let none = rw c.rows.invariant.rows at c.pack_row-some.ensures.none in
             ap (λ (n : ℕ). bit_at n band)
-            (c.still_blank-blank.ensures.none (none (rows c.rows.y (sym same))))
+            (c.without-blank.ensures.none (none (rows c.rows.y (sym same))))
             ∙ c.rows.invariant.blank band few rows
-        | inr apart ↦ c.still_blank-blank.ensures.others band few apart
+        | inr apart ↦ c.without-blank.ensures.others band few apart
             ∙ c.rows.invariant.blank band few rows
       ];
       rest = λ k beyond. after k (omega (arith, beyond, rows)) ∙ c.rows.invariant.rest k beyond;

@@ -1,6 +1,12 @@
--- The answer is that of the map in bits.
+-- The answer is that of the map in bits, with marks of its tiles or without.
 use Rattle.libclearmap.proofs.query_bits.clearmap_bits_clear_of.Goals as goal
 
-pub returns-in-Ok-clause-clear : goal.returns-in-Ok-clause-clear
-returns-in-Ok-clause-clear c = rw (c.in-Ok.ensures.map, c.in-Ok.ensures.words) at
-    c.clear_in.ensures.clear
+pub returns-in-Ok-Plain-clause-clear : goal.returns-in-Ok-Plain-clause-clear
+returns-in-Ok-Plain-clause-clear c =
+    let cells = rw c.in-Ok-Plain.field-0-is at c.in-Ok-Plain.ensures.cells in
+    rw cells at c.clear_in.ensures.clear
+
+pub returns-in-Ok-Tiled-clause-clear : goal.returns-in-Ok-Tiled-clause-clear
+returns-in-Ok-Tiled-clause-clear c =
+    let cells = rw c.in-Ok-Tiled.field-0-is at c.in-Ok-Tiled.ensures.cells in
+    rw cells at c.clear_in-in-Ok-Tiled.ensures.clear

@@ -1,19 +1,14 @@
 -- A word of the row is 0 where the whole word that holds it is.
-use Rattle.std.proofs.Common.{◌≡◌, ◌+◌, ◌*◌, ◌≤◌, ℕ, Bool, true, false, get_or, length}
-use Rattle.std.proofs.Common.{if◌then◌else◌, refl, sym, ap, ◌∙◌, arith}
+use Rattle.std.proofs.Common.{◌≡◌, ◌+◌, ◌*◌, ◌≤◌, ℕ, get_or, length, refl, sym, ap, ◌∙◌, arith}
 use Rattle.std.specs.Int.{bit_at}
 use Rattle.std.proofs.lemmas.Nat.Bits.{bit_at-zero}
 use Rattle.libclearmap.specs.Layouts.{is_counted}
-use Rattle.libclearmap.proofs.LayoutLemmas.{part_length, part_read, part_within, word_in_bits}
-use Rattle.libclearmap.proofs.bit_map.BitMapRows.is_blank.Goals as goal
+use Rattle.libclearmap.proofs.LayoutLemmas.{neither, part_length, part_read, part_within}
+use Rattle.libclearmap.proofs.LayoutLemmas.{word_in_bits}
+use Rattle.libclearmap.proofs.bit_map.BitMap.is_blank_row.Goals as goal
 
--- nothing is left of 0 by either choice
-neither : (b : Bool) → ◌≡◌ {A = ℕ} (if b then 0 else 0) 0
-neither true = refl
-neither false = refl
-
-pub returns-clause-blank : goal.returns-clause-blank
-returns-clause-blank c = λ yes k within.
+pub returns : goal.returns
+returns c = λ yes k within.
     let map = c.args.self.now.map in
     let words = c.args.self.now.words.now in
     let start = c.from.result * map.stride in

@@ -2,10 +2,10 @@
 use Rattle.std.proofs.Common.{◌≡◌, ◌+◌, ◌*◌, ℕ, get_or, ap, refl, ◌∙◌, arith}
 use Rattle.std.specs.Int.{bit_at}
 use Rattle.libclearmap.proofs.LayoutLemmas.{word_in_bits}
-use Rattle.libclearmap.proofs.bit_map.BitMapRows.word.Goals as goal
+use Rattle.libclearmap.proofs.bit_map.BitMap.word_at.Goals as goal
 
-pub returns-clause-word : goal.returns-clause-word
-returns-clause-word c =
+pub returns : goal.returns
+returns c =
     let map = c.args.self.now.map in
     let words = c.args.self.now.words.now in
     let place : c.from.result * map.stride + c.args.index
