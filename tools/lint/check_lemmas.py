@@ -1,6 +1,6 @@
 #!/usr/bin/env python3
-"""Lists lemmas that say the same, lemmas that nothing cites, and what is `pub` without need. It
-isn't in the gate.
+"""Lists lemmas that say the same, lemmas that nothing cites, names that are cited and aren't there,
+and what is `pub` without need. It isn't in the gate.
 
     tools/lint/check_lemmas.py [CRATE ..]
 
@@ -56,6 +56,20 @@ def lemmas(text):
         yield start + 1, bool(found[1]), found[2], statement, "\n".join(rest)
 
 
+def missing(texts):
+    """The lemmas that a `use` line names and that no file has."""
+    for path, text in sorted(texts.items()):
+        for crate, inner, names in re.findall(r"^ *(?:ghost )?(?:pub )?use Rattle\.(\w+)\.proofs\.([\w.]+)\.\{([^}]*)\}", text, re.M):
+            file = f"crates/{crate}/proofs/{inner.replace('.', '/')}.antt"
+            had = texts.get(file, "")
+            if not (TOP / "crates" / crate).is_dir() or inner.endswith((".Goals", ".Statement")):  # which the check writes
+                continue
+            for name in re.split(r",\s*", names.strip().rstrip(",")):
+                name = name.split(" as ")[0].strip()
+                if not re.search(rf"(?<![\w'.-]){re.escape(name)}(?![\w'-])", had):
+                    yield f"{path}: {file} has no {name}"
+
+
 def plain(statement):
     """A statement with its variables numbered, so that their names don't count."""
     names = [name for group in re.findall(r"[({]([\w' ]+?) : ", statement) for name in group.split()]
@@ -68,7 +82,8 @@ def main():
     asked = sys.argv[1:]
     texts = read_all()
     cited = citations(texts)
-    found, stated = [], collections.defaultdict(list)
+    stated = collections.defaultdict(list)
+    found = [line for line in missing(texts) if not asked or line.split("/")[1] in asked]
     for path, text in sorted(texts.items()):
         named = LEMMAS.fullmatch(path)
         if not named or (asked and named[1] not in asked) or named[3] in RUNS:
