@@ -36,13 +36,24 @@ def settings() -> Dict[str, str]:
     return dict(re.findall(r'^([a-z-]+) = "(.*)"$', text, re.MULTILINE))
 
 
+def optional_dependencies() -> Dict[str, str]:
+    """The table [project.optional-dependencies]: what each extra needs."""
+    text = (HERE / "pyproject.toml").read_text(encoding="utf-8")
+    table = text.partition("[project.optional-dependencies]")[2]
+    return dict(re.findall(r'^([a-z]+) = \["(.*)"\]$', table, re.MULTILINE))
+
+
 def metadata() -> str:
     """What METADATA and PKG-INFO say."""
     told = settings()
+    extras = "".join(
+        f'Provides-Extra: {extra}\nRequires-Dist: {need}; extra == "{extra}"\n'
+        for extra, need in optional_dependencies().items()
+    )
     return (
         f"Metadata-Version: 2.1\nName: {told['name']}\nVersion: {told['version']}\n"
         f"Summary: {told['description']}\nLicense: MIT\n"
-        f"Requires-Python: {told['requires-python']}\n"
+        f"Requires-Python: {told['requires-python']}\n{extras}"
     )
 
 

@@ -41,6 +41,8 @@ PROJECT
 cpp_says='the path is clear: 0.751665 m at its tightest; 1.5 m at (2, 2)'
 row='import clearmap; print(clearmap.distances([[True, False, False]]).tolist())'
 arrays=$(tools/python_with numpy)
+needs='import importlib.metadata as it; print(*it.requires("clearmap"))'
+needs_are='numpy; extra == "numpy" pillow; extra == "pillow" redis; extra == "redis"'
 awk 'BEGIN { printf "P2 4 3 255\n0 205 254 254 254 254 254 0 254 254 254 254\n" }' > "$scratch/map.pgm"
 printf '%s\n' 'image: map.pgm' 'resolution: 0.05' 'origin: [-1.0, -2.0, 0.0]' 'negate: 0' \
     'occupied_thresh: 0.65' 'free_thresh: 0.196' > "$scratch/map.yaml"
@@ -119,11 +121,14 @@ if "$python" -c 'import ensurepip, venv' 2> /dev/null; then
     wheel=$(echo "$wheels" | grep "linux_$(uname -m)\.whl$")
     for kind in '' --system-site-packages; do
         venv=$scratch/venv$kind
+        extra=''
+        [ -z "$kind" ] || [ -z "$arrays" ] || extra='[numpy]' # which is there: nothing is fetched
         timeout 300 "$python" -m venv $kind "$venv" \
-            && (cd "$scratch" && bare "$venv/bin/pip" install -q --no-cache-dir "$wheel") \
+            && (cd "$scratch" && bare "$venv/bin/pip" install -q --no-cache-dir "$wheel$extra") \
             || wrong=$((wrong + 1))
         found=$(cd "$scratch" && bare "$venv/bin/python" -c \
             'import clearmap.library as it; it.library(); print(it._found())')
+        expect "what $wheel may need" "$(bare "$venv/bin/python" -c "$needs")" "$needs_are"
         expect "the library of $wheel" "${found#"$venv"/lib/python*/}" \
             'site-packages/clearmap/libclearmap.so.1'
     done
@@ -141,6 +146,26 @@ if "$python" -c 'import ensurepip, venv' 2> /dev/null; then
     expect 'no rt' "$(bare sh -c 'command -v rt')" ''
 else
     echo 'the wheel left out: python3 has no venv, or no ensurepip'
+fi
+
+# A release, by `make release` in a clone of this commit: all packages with their sums, and none by
+# the log of a gate that failed. The gate's log is made up here.
+if wants git 'a release' && wants dpkg-deb 'a release'; then
+    git clone -q . "$scratch/clone"
+    for crate in clearmap libclearmap; do
+        ln -s "$PWD/crates/$crate/out" "$scratch/clone/crates/$crate/out"
+    done
+    release() { # release LAST_LINE: by a log that ends so
+        echo "$1" > "$scratch/clone/gate.log"
+        timeout 300 make -s -C "$scratch/clone" -o all -o lib release > "$scratch/log" 2>&1
+    }
+    release '243 passed, 1 failed' && expect 'a release of what failed' made refused
+    release '243 passed, 0 failed' || { wrong=$((wrong + 1)); cat "$scratch/log"; }
+    expect 'sums of a release' "$(cd "$scratch/clone/packages" && sha256sum -c --quiet SHA256SUMS \
+        2>&1 && ls | sed 's/[-_].*//' | LC_ALL=C sort -u | tr '\n' ' ')" \
+        'SHA256SUMS clearmap gate libclearmap libclearmap1 '
+    expect 'what a release leaves in the tree' "$(git -C "$scratch/clone" status --porcelain \
+        --untracked-files=no)" ''
 fi
 
 # The package by pip from its folder, with its types.

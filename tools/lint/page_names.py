@@ -85,13 +85,15 @@ def is_there(span):
 
 
 def lines_of_text(page):
-    """The lines of a page outside of blocks, each with its number. A block is moved in by four
-    blanks, and comes after an empty line."""
-    before, in_block = "", False
+    """The lines of a page outside of blocks, each with its number. A block stands between fences,
+    or is moved in by four blanks and comes after an empty line."""
+    before, in_block, in_fence = "", False, False
     for number, line in enumerate(page.split("\n"), 1):
+        is_fence = line.startswith("```")
+        in_fence ^= is_fence
         in_block = line.startswith("    ") and (in_block or not before.strip())
         before = line
-        if not in_block:
+        if not (in_block or in_fence or is_fence):
             yield number, line
 
 
