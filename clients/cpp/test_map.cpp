@@ -361,7 +361,7 @@ static void long_paths() {
     }
 }
 
-/// Eight threads ask one map and one field, each so many times.
+/// Eight threads ask one map and one field, each `times` times.
 static void shared(int times) {
     Model model{{300, 200}, Edge::open, std::vector<std::uint8_t>(60000)};
     for (int i = 0; i < 50; ++i) model.cells[static_cast<std::size_t>(below(60000))] = 1;

@@ -1,5 +1,5 @@
 #!/usr/bin/env python3
-"""Measures or compares what clients/c/clearmap.h says of the library beside its answers.
+"""Measures or compares what clients/c/clearmap.h says of the library besides its answers.
 
     tools/gate/check_library_promises.py [FOLDER]
 
@@ -108,7 +108,7 @@ def check_calls(folder, archive):
 
 
 def check_memory(line, width, height, asked):
-    """The bytes for each column, beside the copy of the map and the rest that is told."""
+    """The bytes for each column, besides the copy of the map and the rest that is told."""
     most, rest = told(r"at most (\d+) bytes per column and (\d+) more")
     copy = (width + 63) // 64 * 8 * height
     check(copy <= asked <= copy + most * width + rest, f"{line}: {asked} bytes of memory")
@@ -152,7 +152,7 @@ def check_names(archive, shared):
         check(name in WANTED | {"_GLOBAL_OFFSET_TABLE_"}, f"{archive.name} needs {name}")
 
 
-# ---- C beside Python
+# ---- C next to Python
 
 
 def numbers_of(folder):

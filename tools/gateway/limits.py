@@ -36,7 +36,7 @@ class Room:
         return self._size - (self._held - oldest.held)
 
     def take(self, share: "Share", count: int) -> None:
-        """Takes so many bytes, no more than are left for it."""
+        """Takes `count` bytes, no more than are left for it."""
         share.held += count
         self._held += count
 
@@ -59,7 +59,7 @@ class Share:
         return self._room.left_for(self)
 
     def take(self, count: int) -> None:
-        """Takes so many bytes."""
+        """Takes `count` bytes."""
         self._room.take(self, count)
 
     def leave(self) -> None:

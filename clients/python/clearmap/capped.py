@@ -30,7 +30,7 @@ class Capped:
 
 
 def capped(client: Any, most: int) -> Any:
-    """A client of Redis whose later connections read at most so many bytes for each reply, with
+    """A client of Redis whose later connections read at most `most` bytes for each reply, with
     what comes after it."""
     pool = client.connection_pool
     kind = pool.connection_class

@@ -29,7 +29,7 @@ def exact(number: Number) -> Fraction:
 
 
 def _stepped(number: float, steps: int) -> float:
-    """The float so many after one from 0 on."""
+    """The float that many steps after one from 0 on."""
     (bits,) = struct.unpack("<q", struct.pack("<d", number))
     (found,) = struct.unpack("<d", struct.pack("<q", bits + steps))
     return float(found)

@@ -12,7 +12,7 @@ from .library import redis
 from .records import MOVED, Keys, Record, Tile, order_of, read_record, read_tile
 
 BATCH = 64  # tiles that are asked for at once
-LONGEST_REPLY = 2**20  # bytes, more than twice those of so many tiles
+LONGEST_REPLY = 2**20  # bytes, more than twice those of `BATCH` tiles
 LOOKS = 5  # at the newest version, until none comes during one
 MICRO = 1_000_000
 

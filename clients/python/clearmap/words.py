@@ -1,4 +1,4 @@
-"""Maps in bits, with the marks of their blank tiles behind the rows."""
+"""Maps in bits, with the marks of their blank tiles after the rows."""
 import ctypes
 from typing import Any
 
@@ -9,7 +9,7 @@ SIDE = 64  # columns and rows of a tile
 
 
 def rows_for(width: int, height: int) -> Any:
-    """Words for the rows of a map of this size, with room for the marks behind them."""
+    """Words for the rows of a map of this size, with room for the marks after them."""
     np = numpy()
     across, bands = (width + SIDE - 1) // SIDE, (height + SIDE - 1) // SIDE
     words = np.empty(across * height + bands, np.uint64)
@@ -17,14 +17,14 @@ def rows_for(width: int, height: int) -> Any:
 
 
 def copied(rows: Any, width: int) -> Any:
-    """A copy of rows that `rows_for` made for a map of this width, with the marks behind them."""
+    """A copy of rows that `rows_for` made for a map of this width, with the marks after them."""
     words = rows_for(width, len(rows))
     words.base[...] = rows.base
     return words
 
 
 def marks_of(rows: Any) -> Any:
-    """The marks behind the rows that `rows_for` made: one word per 64 rows."""
+    """The marks after the rows that `rows_for` made: one word per 64 rows."""
     return rows.base[rows.size :]
 
 
