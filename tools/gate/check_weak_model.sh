@@ -95,6 +95,6 @@ if [ -e "$library" ]; then
         cat "$scratch/log"
     fi
 else
-    echo 'the library left out beside the weak model: it is not built'
+    echo 'the weak model is not compared with the library, which is not built'
 fi
 exit "$failed"

@@ -1,4 +1,4 @@
-"""What check_limits.py and check_beside.py try with: checks that count, runs of the program, and
+"""What check_limits.py and check_together.py try with: checks that count, runs of the program, and
 connections."""
 import pathlib
 import socket

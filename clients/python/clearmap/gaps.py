@@ -22,10 +22,10 @@ def square_gap(corners: Sequence[Corner], cell: Cell, steps: int) -> Ratio:
     right, below = left + steps, top + steps
     square = [(left, top), (right, top), (right, below), (left, below)]
     sides = list(zip(corners, [*corners[1:], corners[0]]))
-    beside = [max(left - x, x - right, 0) ** 2 + max(top - y, y - below, 0) ** 2 for x, y in corners]
+    outwards = [max(left - x, x - right, 0) ** 2 + max(top - y, y - below, 0) ** 2 for x, y in corners]
     if not _is_apart(corners, sides, square):
         return 0, 1
-    least = min(beside), 1
+    least = min(outwards), 1
     for a, b in sides:
         dx, dy = b[0] - a[0], b[1] - a[1]
         length = dx * dx + dy * dy
