@@ -1,3 +1,4 @@
 pub mod logs
 pub mod seats
 pub mod steps
+mod Names

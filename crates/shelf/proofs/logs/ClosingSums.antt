@@ -1,26 +1,15 @@
 -- Where each reader was given up once, what they made adds up to the log's length.
-use Rattle.std.proofs.Common.{◌≡◌, ◌≢◌, ◌==◌, ℕ, zero, suc, ◌+◌, ◌<◌, ◌≤◌, cond, Bool, List, []}
-use Rattle.std.proofs.Common.{◌∷◌, length, refl, ap, sym, ◌∙◌, subst, arith, eq-eqb, ne_eqb}
-use Rattle.std.specs.Prelude.{All, sum_by}
+use Rattle.shelf.proofs.Names.{nat_tests, ◌≡◌, ◌==◌, ℕ, zero, suc, ◌+◌, ◌<◌, ◌≤◌, cond, List, []}
+use Rattle.shelf.proofs.Names.{◌∷◌, length, refl, ◌∙◌, arith, All, times, StoreEntry, KeeperView}
+use Rattle.shelf.proofs.Names.{made_by}
+use Rattle.std.proofs.lemmas.Bool.{cases_eq}
+use Rattle.std.specs.Prelude.{sum_by}
 use Rattle.std.proofs.lemmas.List.Sums.{sum_by-cons}
-use mathlib.Core.Logic.{dite}
-use native.Mathlib.Decide.{ℕ_discrete, dec_le}
-use Rattle.map_core.specs.Safe.{times}
-use Rattle.shelf.specs.declared.store_entry.StoreEntry.{StoreEntry}
-use Rattle.shelf.specs.Roles.{KeeperView, made_by}
 use Rattle.shelf.specs.Close.{IsClosing}
 
 -- two numbers that are one count 1, and others count 0
 abbrev one_if : ℕ → ℕ → ℕ
 one_if n m = cond (n == m) 1 0
-
--- where two numbers are equal, one_if of them is 1
-equal : (n m : ℕ) → n ≡ m → one_if n m ≡ 1
-equal n m is = ap (λ (b : Bool). let one : ℕ = cond b 1 0 in one) (eq-eqb n m is)
-
--- where two numbers differ, one_if of them is 0
-other : (n m : ℕ) → n ≢ m → one_if n m ≡ 0
-other n m else = ap (λ (b : Bool). let one : ℕ = cond b 1 0 in one) (ne_eqb n m else)
 
 -- the values of a function at the numbers below d are added up
 abbrev sum_below : ℕ → (ℕ → ℕ) → ℕ
@@ -41,19 +30,12 @@ sum_below-none (suc d) = let rest = sum_below-none d in omega arith
 -- where m isn't below d, no number below d equals it: one_if sums to 0
 sum_below-past : (d m : ℕ) → d ≤ m → sum_below d (λ n. one_if n m) ≡ 0
 sum_below-past zero m le = refl
-sum_below-past (suc d) m le =
-    let rest = sum_below-past d m (omega arith) in
-    let here = other d m (λ is. absurd (omega arith)) in
-    omega arith
+sum_below-past (suc d) m le = grind (arith, nat_tests, sum_below-past d m)
 
 -- where m is below d, one number below d equals it: one_if sums to 1
 sum_below-once : (d m : ℕ) → m < d → sum_below d (λ n. one_if n m) ≡ 1
 sum_below-once zero m below = absurd (omega arith)
-sum_below-once (suc d) m below =
-    dite (ℕ_discrete d m)
-    (λ is. let here = equal d m is in let rest = sum_below-past d m (omega arith) in omega arith)
-    (λ else. let here = other d m else in let rest = sum_below-once d m (omega arith) in
-    omega arith)
+sum_below-once (suc d) m below = grind (arith, nat_tests, sum_below-past d m, sum_below-once d m)
 
 -- where a list has numbers below d alone, how often each of these stands in it adds up to its
 -- length
@@ -63,12 +45,7 @@ all_counted d [] below = sum_below-none d
 all_counted d (m ∷ ms) below =
     let rest = all_counted d ms (λ n le. let none_of = below n le in omega arith) in
     let split = sum_below-plus d (λ n. one_if n m) (λ n. times n ms) in
-    let first = sum_below-once d m (is_below (dec_le d m)) in
-    omega arith
-  where
-    is_below : Dec (d ≤ m) → m < d
-    is_below (yes le) = let none_of = below m le in let one = equal m m refl in absurd (omega arith)
-    is_below (no less) = omega arith
+    grind (arith, nat_tests, sum_below-once d m, below m)
 
 -- d terms of at most 1 add up to at most d
 at_most : (d : ℕ) (f : ℕ → ℕ) → ((n : ℕ) → f n ≤ 1) → sum_below d f ≤ d
@@ -81,9 +58,7 @@ each_one zero f small all n below = absurd (omega arith)
 each_one (suc d) f small all n below =
     let rest = at_most d f small in
     let last = small d in
-    dite (ℕ_discrete n d) (λ is. subst (λ m. f m ≡ 1) (sym is)
-    (let here : f d ≡ 1 = omega arith in here))
-    (λ else. each_one d f small (omega arith) n (omega arith))
+    grind (arith, each_one d f small, cases_eq n d)
 
 -- the sum over a list of f plus g is the sum of f plus the sum of g
 sum_by-plus : (f g : ℕ → ℕ) (ns : List ℕ) → sum_by (λ n. f n + g n) ns ≡ sum_by f ns + sum_by g ns
@@ -99,12 +74,8 @@ sum_by-none (n ∷ ns) = let rest = sum_by-none ns in omega (arith, sum_by-cons 
 -- how many elements of a list equal m is how often m stands in it
 sum_by-times : (m : ℕ) (ns : List ℕ) → sum_by (λ n. one_if n m) ns ≡ times m ns
 sum_by-times m [] = refl
-sum_by-times m (n ∷ ns) = let rest = sum_by-times m ns in let same = turned n m in
-    omega (arith, sum_by-cons (λ k. one_if k m) n ns)
-  where
-    turned : (n m : ℕ) → one_if n m ≡ one_if m n
-    turned n m = dite (ℕ_discrete n m) (λ is. equal n m is ∙ sym (equal m n (sym is)))
-        (λ else. other n m else ∙ sym (other m n (λ e. else (sym e))))
+sum_by-times m (n ∷ ns) = let rest = sum_by-times m ns in
+    grind (arith, nat_tests, sum_by-cons (λ k. one_if k m) n ns)
 
 -- where each caller of a log stands once in a list, the numbers in the list have made all its
 -- entries

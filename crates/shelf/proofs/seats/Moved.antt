@@ -1,5 +1,5 @@
 -- Which seat has which reader, where one reader has moved to another seat.
-use Rattle.std.proofs.Common.{◌≡◌, ◌≢◌, ℕ, refl}
+use Rattle.shelf.proofs.Names.{◌≡◌, ◌≢◌, ℕ, refl}
 use native.Mathlib.Decide.{ℕ_discrete}
 
 -- the number is one or another, as a decision says
@@ -11,20 +11,23 @@ pick (no _) a b = b
 pub moved : (ℕ → ℕ) → ℕ → ℕ → ℕ → ℕ
 moved owner r seat n = pick (ℕ_discrete n r) seat (owner n)
 
+-- what holds of the new seat for the reader that moved, and of its seat for another, holds of each
+-- reader's seat
+pub moved-each : (owner : ℕ → ℕ) (r seat n : ℕ) (P : ℕ → Type 0) → (n ≡ r → P seat)
+    → (n ≢ r → P (owner n)) → P (moved owner r seat n)
+unfolding moved
+moved-each owner r seat n P here else = go (ℕ_discrete n r)
+  where
+    go : (d : Dec (n ≡ r)) → P (pick d seat (owner n))
+    go (yes e) = here e
+    go (no f) = else f
+
 -- the reader that moved is in its new seat
 pub moved-here : (owner : ℕ → ℕ) (r seat : ℕ) → moved owner r seat r ≡ seat
-unfolding moved
-moved-here owner r seat = go (ℕ_discrete r r)
-  where
-    go : (d : Dec (r ≡ r)) → pick d seat (owner r) ≡ seat
-    go (yes _) = refl
-    go (no n) = absurd (n refl)
+moved-here owner r seat =
+    moved-each owner r seat r (λ q. q ≡ seat) (λ e. refl) (λ f. absurd (f refl))
 
 -- another reader than the one that moved is in its old seat
 pub moved-else : (owner : ℕ → ℕ) (r seat n : ℕ) → n ≢ r → moved owner r seat n ≡ owner n
-unfolding moved
-moved-else owner r seat n other = go (ℕ_discrete n r)
-  where
-    go : (d : Dec (n ≡ r)) → pick d seat (owner n) ≡ owner n
-    go (yes e) = absurd (other e)
-    go (no _) = refl
+moved-else owner r seat n other =
+    moved-each owner r seat n (λ q. q ≡ owner n) (λ e. absurd (other e)) (λ f. refl)

@@ -1,31 +1,16 @@
 -- Which seat has a reader's view, and which the keeper's.
-use Rattle.std.proofs.Common.{◌≡◌, ℕ, List, ap, sym, ◌∙◌}
-use mathlib.Core.Option.{some}
-use lib.ListN.{get_elem?}
-use Rattle.map_core.specs.Words.{Base}
-use Rattle.map_core.specs.Views.{Reader}
-use Rattle.shelf.specs.Roles.{KeeperView, Role, idle, keeping, reading, meeting, ticket, learning}
-use Rattle.shelf.specs.Rule.{AreSeats, Knows, HasReader, HasKeeper}
+use Rattle.shelf.proofs.Names.{rules, ◌≡◌, ℕ, List, sym, ◌∙◌, some, get_elem?, Base, Reader}
+use Rattle.shelf.proofs.Names.{KeeperView, Role, AreSeats, Knows, HasReader, HasKeeper}
 
 -- a reader's view stands in the seat of its owner
 owner_is : (z : Base) (k : KeeperView) (readers : List Reader) (keeper : ℕ) (owner : ℕ → ℕ)
     (j r : ℕ) (role : Role) → Knows z k readers keeper owner j role → HasReader r role → owner r ≡ j
-owner_is z k readers keeper owner j r idle knows is = absurd is
-owner_is z k readers keeper owner j r (keeping u) knows is = absurd is
-owner_is z k readers keeper owner j r (ticket seen) knows is = absurd is
-owner_is z k readers keeper owner j r (reading x) knows is = ap owner (sym is) ∙ knows.0
-owner_is z k readers keeper owner j r (meeting u x) knows is = ap owner (sym is) ∙ knows.2
-owner_is z k readers keeper owner j r (learning x seen) knows is = ap owner (sym is) ∙ knows.0
+owner_is z k readers keeper owner j r role knows has = search rules
 
 -- the keeper's view stands in its seat
 keeper_is : (z : Base) (k : KeeperView) (readers : List Reader) (keeper : ℕ) (owner : ℕ → ℕ) (j : ℕ)
     (role : Role) → Knows z k readers keeper owner j role → HasKeeper role → j ≡ keeper
-keeper_is z k readers keeper owner j idle knows is = absurd is
-keeper_is z k readers keeper owner j (reading x) knows is = absurd is
-keeper_is z k readers keeper owner j (ticket seen) knows is = absurd is
-keeper_is z k readers keeper owner j (learning x seen) knows is = absurd is
-keeper_is z k readers keeper owner j (keeping u) knows is = knows.0
-keeper_is z k readers keeper owner j (meeting u x) knows is = knows.0
+keeper_is z k readers keeper owner j role knows has = search rules
 
 -- no two seats have one reader's view
 pub readers_apart : (z : Base) (k : KeeperView) (readers : List Reader) (views : List Role)

@@ -1,10 +1,7 @@
 -- Each round deals the next reader, for which there is room.
-use Rattle.std.proofs.Common.{◌++◌, ◌∷◌, [], ap, ◌∙◌, arith, length}
-use Rattle.std.specs.Arc.{arc_value}
+use Rattle.shelf.proofs.Names.{◌++◌, ◌∷◌, [], ap, ◌∙◌, arith, length, arc_value, TableId, newcomer}
+use Rattle.shelf.proofs.Names.{store_at}
 use Rattle.std.proofs.lemmas.List.FromFn.{length-map-range_with_len}
-use Rattle.atomic_table.specs.Seated.{TableId}
-use Rattle.shelf.specs.Open.{newcomer}
-use Rattle.shelf.specs.Seats.{store_at}
 use Rattle.shelf.proofs.seats.Newcomers.{newcomers-push}
 use Rattle.shelf.proofs.opening.deal_all.Goals as goal
 

@@ -1,9 +1,6 @@
 -- This many readers are dealt, by number, and there is capacity for the others.
-use Rattle.std.proofs.Common.{◌≡◌, ◌≤◌, [], vec_capacity}
-use Rattle.std.specs.Arc.{arc_value}
-use Rattle.shelf.specs.Roles.{keeping, resting}
-use Rattle.shelf.specs.Seats.{store_at}
-use Rattle.shelf.specs.Open.{newcomers}
+use Rattle.shelf.proofs.Names.{◌≡◌, ◌≤◌, [], arc_value, keeping, resting, store_at, newcomers}
+use Rattle.std.proofs.Common.{vec_capacity}
 use Rattle.shelf.proofs.opening.deal_all.Given as goal
 
 abbrev pub invariant-loop-number : goal.invariant-loop-number

@@ -1,6 +1,6 @@
 -- A ticket's view is joined, and the load tells.
-use Rattle.std.proofs.Common.{ap, ◌∙◌, ◌∷◌, []}
-use Rattle.shelf.specs.Seats.{base_of, reader_on, ticket_on}
+use Rattle.shelf.proofs.Names.{rules, ap, ◌∙◌, reader_on}
+use Rattle.shelf.specs.Seats.{ticket_on}
 use Rattle.shelf.specs.Steps.{handed}
 use Rattle.shelf.proofs.seats.OwnTable.{its_role}
 use Rattle.shelf.proofs.steps.TicketSteps.{joins_ticket, learns_it}
@@ -10,15 +10,8 @@ pub join_seat-requires : goal.join_seat-requires
 join_seat-requires g c =
     let role = its_role _ _ _ c.into_seat-seat.ensures.2
     (ap (λ b. b.views) c.replace.ensures.value ∙ c.requires.reader) in
-    let its = its_role _ _ _ c.into_seat.ensures.2 c.requires.token in (
-      c.into_seat-seat.ensures.0
-          ∙ (ap (λ b. b.table_id) c.replace.ensures.value ∙ c.requires.table.0),
-      c.into_seat.ensures.0 ∙ c.requires.table.1,
-      c.into_seat.ensures.3,
-      c.requires.table.2,
-      rw (role, its) (joins_ticket (base_of c.args.words.now.shared.key) _ _
-          (reader_on c.args.reader.now.views) (ticket_on c.args.token.views)),
-    )
+    let its = its_role _ _ _ c.into_seat.ensures.2 c.requires.token in
+    rw (role, its) (search (rules, joins_ticket))
 
 pub load-word-requires : goal.load-word-requires
 load-word-requires g c =
@@ -26,9 +19,7 @@ load-word-requires g c =
     (ap (λ b. b.views) c.replace.ensures.value ∙ c.requires.reader) in
     let its = its_role _ _ _ c.into_seat.ensures.2 c.requires.token in
     let now = ap (λ m. m.0) c.join_seat.ensures.2 ∙ (λ i. handed (role i) (its i)) in (
-      c.join_seat.ensures.0
-          ∙ (c.into_seat-seat.ensures.0
-          ∙ (ap (λ b. b.table_id) c.replace.ensures.value ∙ c.requires.table.0)),
+      search rules,
       c.requires.table.2,
       rw c.requires.base (learns_it g.Id.StoreName.store.base _ _ _
           (reader_on c.args.reader.now.views) (ticket_on c.args.token.views) now),
@@ -40,11 +31,5 @@ returns-clause-learned g c =
     (ap (λ b. b.views) c.replace.ensures.value ∙ c.requires.reader) in
     let its = its_role _ _ _ c.into_seat.ensures.2 c.requires.token in
     let now = ap (λ m. m.0) c.join_seat.ensures.2 ∙ (λ i. handed (role i) (its i)) in
-    let told = c.load-word.ensures.2 (reader_on c.args.reader.now.views)
-    (ticket_on c.args.token.views) now in
-    record {
-      log = told.0;
-      views_are = c.into_badge.ensures.2 ∙ ap (λ m. m.0 ∷ []) told.1;
-      sees = told.2;
-      learned = told.3;
-    }
+    let told = c.load-word.ensures.2 _ _ now in
+    search rules

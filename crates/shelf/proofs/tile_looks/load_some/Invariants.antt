@@ -1,7 +1,5 @@
 -- The rows before this one are loaded, and the seat is as it was.
-use Rattle.std.proofs.Common.{◌≡◌, ◌+◌, length}
-use Rattle.shelf.specs.Roles.{reader_in}
-use Rattle.shelf.specs.TileLooks.{ShowRows}
+use Rattle.shelf.proofs.Names.{◌≡◌, ◌+◌, length, reader_in, ShowRows}
 use Rattle.shelf.proofs.tile_looks.load_some.Given as goal
 
 abbrev pub invariant-rows : goal.invariant-rows

@@ -1,9 +1,6 @@
 -- The last load tells that each caller was a reader that was dealt, so that the counts of all
 -- readers add up.
-use Rattle.std.proofs.Common.{ap, sym, ◌∙◌}
-use Rattle.map_core.proofs.shared_words.PlaceLemmas.{now-within}
-use Rattle.shelf.specs.Roles.{keeper_in}
-use Rattle.shelf.proofs.seats.OwnTable.{at_own, within_own}
+use Rattle.shelf.proofs.Names.{rules, ap, sym, ◌∙◌, now-within, keeper_in}
 use Rattle.shelf.proofs.steps.EndSteps.{ends_it}
 use Rattle.shelf.proofs.logs.ClosingSums.{closed_sum}
 use Rattle.shelf.proofs.closing.Closing.end.Goals as goal
@@ -11,12 +8,11 @@ use Rattle.shelf.proofs.closing.Closing.end.Goals as goal
 pub load-requires : goal.load-requires
 load-requires g c =
     let of = c.self.invariant.0 in
-    let role = ap (λ m. m.0) c.self.invariant.1 in
     rw c.deref.ensures (
-      at_own _ _ _ _ _ of,
-      within_own _ _ _ _ _ _ of (now-within _),
+      search rules,
+      search (rules, now-within),
       rw of.basis_is (ends_it g.Id.StoreName.store.base _ _ _
-          (keeper_in c.self.inside.seat.me.0) role),
+          (keeper_in c.self.inside.seat.me.0) (search rules)),
     )
 
 pub returns-clause-made : goal.returns-clause-made

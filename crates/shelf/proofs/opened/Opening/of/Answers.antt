@@ -1,8 +1,6 @@
 -- The rule holds of the table as it is made, and the seats are at it.
-use Rattle.std.proofs.Common.{length, ap, sym, ◌∙◌}
-use Rattle.map_core.specs.Words.{Base}
+use Rattle.shelf.proofs.Names.{rules, Base}
 use Rattle.map_core.proofs.steps.OpenWorld.{fits_ready}
-use Rattle.shelf.specs.Seats.{base_of}
 use Rattle.shelf.proofs.steps.EndSteps.{is_of_new}
 use Rattle.shelf.proofs.steps.OpeningSteps.{rule_at_first}
 use Rattle.shelf.proofs.opened.Opening.of.Goals as goal
@@ -19,13 +17,10 @@ deal_all-requires-clause-of c =
     let z : Base = record { setting = c.args.setting; opening = c.args.map.now } in
     let made = c.in_ok-table.ensures in
     let shared = c.in_ok-words.ensures.ok in
-    let told = ap base_of (ap (λ t. t.shared.key) shared ∙ made.5)
-    ∙ ap (λ b. record { setting = c.args.setting; opening = b }) c.of.ensures in
-    is_of_new _ _ _ _ z _ (ap (λ t. t.shared.table_id) shared ∙ sym made.2) told
-    (ap (λ t. t.shared.table_id.words) shared ∙ (made.0 ∙ ap length c.as_slice.ensures.value))
-    (c.in_ok-list.ensures {u = tt}).words
-    (fits_ready c.args.setting c.args.map.now c.of-plan.ensures.bitmap c.requires)
-    c.of-plan.ensures.plan
+    let words = (c.in_ok-list.ensures {u = tt}).words in
+    let ready = fits_ready c.args.setting c.args.map.now c.of-plan.ensures.bitmap c.requires in
+    let key = rw c.of.ensures at made.5 in
+    search (rules, is_of_new)
 
 pub invariant_of-result : goal.invariant_of-result
 invariant_of-result c =
@@ -33,13 +28,6 @@ invariant_of-result c =
     let made = c.in_ok-table.ensures in
     let shared = c.in_ok-words.ensures.ok in
     let dealt = c.in_ok-readers.ensures {u = tt} in
-    let told = ap base_of (ap (λ t. t.shared.key) shared ∙ made.5)
-    ∙ ap (λ b. record { setting = c.args.setting; opening = b }) c.of.ensures in (
-      is_of_new _ _ _ _ z _ (ap (λ t. t.shared.table_id) shared ∙ (sym made.2 ∙ sym dealt.table))
-          told (ap (λ t. t.shared.table_id.words) shared
-          ∙ (made.0 ∙ ap length c.as_slice.ensures.value))
-          (c.in_ok-list.ensures {u = tt}).words
-          (fits_ready c.args.setting c.args.map.now c.of-plan.ensures.bitmap c.requires)
-          c.of-plan.ensures.plan,
-      dealt.keeper,
-    )
+    let words = (c.in_ok-list.ensures {u = tt}).words in
+    let ready = fits_ready c.args.setting c.args.map.now c.of-plan.ensures.bitmap c.requires in
+    (search (rules, is_of_new), dealt.keeper)
