@@ -89,7 +89,7 @@ else
     echo 'the first run at a terminal left out: there is no script'
 fi
 expect 'a first run without a terminal' "$(PATH=$scratch/fresh/bin:$PATH timeout 60 "$scratch/fresh/clearmap" one 2>&1)" \
-    "$(printf '%s\n' "clearmap: the first run proves and builds all crates: 15 to 40 minutes" 'ran one')"
+    "$(printf '%s\n' "clearmap: the first run proves and builds all crates: 40 minutes on four cores" 'ran one')"
 expect 'a run without a proof' "$(PATH=$scratch/fresh/bin:$PATH timeout 60 "$scratch/fresh/clearmap" --unproved one two 2> /dev/null)" 'tried one two'
 expect 'what it says of itself' "$(PATH=$scratch/fresh/bin:$PATH timeout 60 "$scratch/fresh/clearmap" --unproved one 2>&1 > /dev/null)" \
     'clearmap: --unproved: nothing is proved of what runs now'
