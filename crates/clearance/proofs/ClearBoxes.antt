@@ -23,7 +23,7 @@ far_across distance grows stays rect reach limit a b column row far beyond =
     (of_grows distance grows stays reach (column_gap rect a) 0 (row_gap rect b) beyond
     (omega arith) (omega arith) (omega arith)) far
 
--- so is one as many rows outside
+-- a cell as many rows outside of it is as far away as that
 far_down : (distance : ℕ → ℕ → ℕ) → Grows distance → StaysNearer distance
     → (rect : Rect) (reach limit a b : ℕ) → a ≤ 4095 → b ≤ 4095
     → IsFar (distance 0 reach) limit → reach ≤ row_gap rect b

@@ -15,7 +15,7 @@ use Rattle.clearance.proofs.Searches.{IsFar-greater, obstacle_within}
 use Rattle.std.proofs.lemmas.Grind.{common_steps}
 use Rattle.std.proofs.lemmas.Bool.Decides.{nat_tests}
 
--- where a column is far to the right, so are those behind it
+-- where a column is far to the right, so are those after it
 pub AreColumnsFar-from : (distance : ℕ → ℕ → ℕ) → Grows distance → StaysNearer distance
     → (rect : Rect) (gap least column : ℕ) → column ≤ 4096
     → IsFar (distance (column - (rect.x1 - 1)) gap) least
@@ -57,14 +57,14 @@ IsBandFarIn-columns distance cells rect gap least band IsColumn IsSide bitmap wh
     let row = last.3 in
     far a b (omega arith) (omega arith) (where_are a b obstacle here side) away
 
--- the obstacles of a band from a column on lie in its next tile or behind it
+-- the obstacles of a band from a column on lie in its next tile or after that
 pub from_next_tile : (cells : Cells) (band tiles start tile : ℕ) → IsTiled cells band tiles
     → ((k : ℕ) → start / 64 ≤ k → k < tile → bit_at tiles k ≡ 1 → ⊥)
     → (x y : ℕ) → IsObstacle cells x y → y / 64 ≡ band → start ≤ x → 64 * tile ≤ x
 from_next_tile cells band tiles start tile tiled none x y obstacle here from =
     grind (arith, nat_tests, common_steps)
 
--- and those before a column in its last tile or before it
+-- the obstacles of a band before a column lie in its last tile or before that
 pub before_last_tile : (cells : Cells) (band tiles end after : ℕ) → IsTiled cells band tiles
     → ((k : ℕ) → after ≤ k → k ≤ end / 64 → bit_at tiles k ≡ 1 → ⊥)
     → (x y : ℕ) → IsObstacle cells x y → y / 64 ≡ band → x < end → x < 64 * after
@@ -76,7 +76,7 @@ pub record AreJoined (cells : Cells) (band tile all : ℕ) : Type 0 where
   pub bits : (x y : ℕ) → IsObstacle cells x y → y / 64 ≡ band → x / 64 ≡ tile
       → bit_at all (x % 64) ≡ 1
 
--- the lowest of them from a column on
+-- the obstacles of a band from a column on lie from the lowest bit of its tile on
 pub from_lowest_bit : (cells : Cells) (band start tile all word p : ℕ)
     → AreJoined cells band tile all
     → ((i : ℕ) → start - 64 * tile ≤ i → i < 64 → bit_at word i ≡ bit_at all i)
@@ -96,7 +96,7 @@ from_tile_after cells band tiles start tile next all word tiled joined kept blan
     here from behind =
     grind (arith, nat_tests, common_steps)
 
--- the highest of them before a column
+-- the obstacles of a band before a column lie up to the highest bit of its tile
 pub before_highest_bit : (cells : Cells) (band end tile all word p : ℕ)
     → AreJoined cells band tile all
     → ((i : ℕ) → i < end - 64 * tile → i < 64 → bit_at word i ≡ bit_at all i)

@@ -46,7 +46,7 @@ IsBandFar-tiles distance cells rect gap least tiles band bitmap tiled far =
     let row = last.3 in
     far a b (omega arith) (omega arith) (tiled a b obstacle here) away
 
--- so is one that is far on both sides
+-- a band that is far on both sides is far
 pub IsBandFar-both : (distance : ℕ → ℕ → ℕ) (cells : Cells) (rect : Rect) (gap least band : ℕ)
     → IsBandFarIn distance cells rect gap least band (λ a. rect.x0 ≤ a)
     → IsBandFarIn distance cells rect gap least band (λ a. a < rect.x0)

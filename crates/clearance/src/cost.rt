@@ -26,9 +26,9 @@ const WORD: u32 = 11;
 /// What a word costs where it is first asked whether the row is blank.
 const BLANK_WORD: u32 = 3;
 
-/// Whether a search by tiles costs less than one by rows, for obstacles that may be so many rows or
-/// columns away: by the tiles and the rows, of the bands that may have an obstacle, that are within
-/// the reach. A tile of the known band needn't be searched.
+/// Whether a search by tiles costs less than one by rows, for obstacles that may be this far away
+/// in rows or columns: by the tiles and the rows, of the bands that may have an obstacle, that are
+/// within the reach. A tile of the known band needn't be searched.
 pub fn does_pay<M: Metric, R: Rows>(rows: &R, rect: Rect, reach: u16, known: u16) -> bool
     requires { reach ≤ MOST_SIDE }
 {
@@ -52,7 +52,7 @@ pub fn does_pay<M: Metric, R: Rows>(rows: &R, rect: Rect, reach: u16, known: u16
     is_less::<M>(by_tiles, by_rows)
 }
 
-/// What the search of so many rows of a tile costs.
+/// What the search of this many rows of a tile costs.
 #[inline(always)]
 fn tile_cost(rows: u32) -> u32
     requires { rows ≤ 64 }
@@ -61,7 +61,7 @@ fn tile_cost(rows: u32) -> u32
     TILE + TILE_ROW * rows
 }
 
-/// What the words of a row in a band cost, if it is searched in these tiles, of which so many may
+/// What the words of a row in a band cost, if it is searched in these tiles, of which this many may
 /// have an obstacle.
 fn words_cost<R: Rows>(rows: &R, rect: Rect, band: u16, tiles: (u16, u16), count: u32) -> u32
     requires band { band < 64 }

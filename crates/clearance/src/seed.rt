@@ -132,7 +132,7 @@ fn looks_far<M: Metric, R: Rows>(rows: &mut R, rect: Rect, limit: u64) -> bool
 }
 
 /// Whether a search by tiles for obstacles below the limit costs less than one by rows, whose first
-/// row is so many rows away: not, if only a few rows are left.
+/// row is this many rows away: not, if only a few rows are left.
 fn does_pay_within<M: Metric, R: Rows>(
     rows: &R,
     rect: Rect,

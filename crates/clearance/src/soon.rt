@@ -21,7 +21,7 @@ pub fn is_tall(rect: Rect) -> bool
 }
 
 /// Whether obstacles below the limit seem to be far away, and a search by rows, whose first row is
-/// so many rows away, doesn't meet one soon.
+/// this many rows away, doesn't meet one soon.
 pub fn seems_far<M: Metric, R: Rows>(rows: &mut R, rect: Rect, gap: u16, limit: u64) -> bool
     requires rect { IsRectIn (R.cells rows.old) rect }
     requires gap { gap ≤ MOST_SIDE }
@@ -47,7 +47,7 @@ pub fn seems_far<M: Metric, R: Rows>(rows: &mut R, rect: Rect, gap: u16, limit: 
     are_few_near(rows, rect)
 }
 
-/// Whether a search by rows that is so many rows away has at most this many left.
+/// Whether a search by rows that is this far away, in rows, has at most this many left.
 #[inline(always)]
 pub fn ends_soon<M: Metric>(gap: u16, rows: u16, limit: u64) -> bool
     requires gap { gap ≤ MOST_SIDE }
@@ -133,7 +133,7 @@ fn is_met_in_tile<R: Rows>(rows: &mut R, rect: Rect, tile: u16, top: u16, end: u
 }
 
 /// Whether a search by rows soon ends once it is past the blank bands round the rectangle, which
-/// end so many rows away: its first rows there have an obstacle that leaves few others.
+/// end this many rows away: its first rows there have an obstacle that leaves few others.
 fn is_met_soon<M: Metric, R: Rows>(rows: &mut R, rect: Rect, gap: u16, limit: u64) -> bool
     requires rect { IsRectIn (R.cells rows.old) rect }
     requires gap { gap ≤ MOST_SIDE }

@@ -198,14 +198,14 @@ entry_of edge cells x entry bitmap black = elim (cases_eq entry 65535) [
   | inr some ↦ inr (capped_row edge cells x entry bitmap (black some))
 ]
 
--- an entry of the obstacles before a row
+-- an entry of a line before a row stands for a row or for none
 pub before_entry : (edge : Edge) (cells : Cells) (y x : ℕ) (line : List ℕ) → IsBitmap cells
     → IsLineBefore (capped edge cells) y line → x < cells.width → IsEntry (get_or line x 0)
 before_entry edge cells y x line bitmap before column =
     entry_of edge cells x (get_or line x 0) bitmap
     (λ some. (rw (row_of-some (get_or line x 0) some) at (before.each x column)).0)
 
--- an entry of the obstacles from a row on
+-- an entry of a line from a row on stands for a row or for none
 pub from_entry : (edge : Edge) (cells : Cells) (y x : ℕ) (line : List ℕ) → IsBitmap cells
     → IsLineFrom (capped edge cells) y line → x < cells.width → IsEntry (get_or line x 0)
 from_entry edge cells y x line bitmap behind column =

@@ -1,1 +1,2 @@
 pub mod Quadrupled
+pub mod Raised

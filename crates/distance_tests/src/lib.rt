@@ -13,6 +13,8 @@ mod blank_bands;
 #[cfg(test)]
 mod columns;
 #[cfg(test)]
+mod compact_tables;
+#[cfg(test)]
 mod compare;
 #[cfg(test)]
 mod distance_tables;
@@ -36,6 +38,8 @@ mod phases;
 mod quadrupled;
 #[cfg(test)]
 mod queries;
+#[cfg(test)]
+mod raised;
 #[cfg(test)]
 mod row_answers;
 #[cfg(test)]

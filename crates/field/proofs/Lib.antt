@@ -3,3 +3,5 @@ mod ObstacleLemmas
 mod RowLemmas
 mod StripLemmas
 mod DistanceLemmas
+mod HalfLemmas
+mod CompactLemmas

@@ -2,9 +2,13 @@
 #![tactic(auto)]
 
 mod bands;
+mod compact_distances;
+mod compact_rows;
+mod compact_strip;
 mod distance_rows;
 mod distance_table;
 mod filling;
+mod halves;
 mod measuring;
 mod obstacle_cell;
 mod obstacle_table;
@@ -15,6 +19,7 @@ mod workers;
 
 pub use bands::rows_with;
 pub use column::Batch;
+pub use compact_distances::CompactDistances;
 pub use distance_table::DistanceTable;
 pub use filling::fill;
 pub use measuring::measure;

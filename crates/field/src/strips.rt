@@ -4,10 +4,13 @@
 ghost use Rattle.std.specs.Prelude.{◌≡◌, ◌+◌, ◌-◌, ◌<◌, ◌≤◌, All, IfErr, IfOk, None, Ok, map};
 ghost use Rattle.std.specs.Prelude.{vec_len};
 ghost use Rattle.field.specs.Bands.{IsWorkers};
+ghost use Rattle.field.specs.Compact.{AreStripsKept, IsStripKept};
 ghost use Rattle.field.specs.Distances.{AreStripsMeasured, IsStripMeasured};
 ghost use Rattle.field.specs.Obstacles.{AreStripAnswers, IsStripAnswer, strip_row};
 ghost use Rattle.metric.specs.declared.refusal.Refusal.TheVariants.{Memory};
 
+use crate::compact_rows::compact_distances;
+use crate::compact_strip::CompactStrip;
 use crate::distance_rows::distances;
 use crate::obstacle_cell::ObstacleCell;
 use crate::table::answers;
@@ -73,6 +76,30 @@ pub fn measure_strips<M: Metric + Sync, G: Gate + Sync, R: Threads + Sync>(
     gather(alloc, found)
 }
 
+/// As `measure_strips`, in two bytes per distance where they are short.
+pub fn compact_strips<M: Metric + Sync, G: Gate + Sync, R: Threads + Sync>(
+    rt: &R,
+    alloc: Global,
+    strips: &Strips<'_>,
+    count: u8,
+    gate: &G,
+) -> Result<Vec<CompactStrip>, Refusal>
+    requires count { IsWorkers count }
+    ensures count { IfOk result (λ kept. vec_len kept ≡ count) }
+    ensures each { IfOk result (λ kept. AreStripsKept M.distance strips.now.batch.now
+        strips.now.height kept.items) }
+    ensures memory { IfErr result (λ refusal. refusal ≡ Memory) }
+{
+    let work = |strip: usize| -> Result<CompactStrip, Refusal>
+        requires { strip < 16 }
+        ensures rows { IfOk result (λ kept. IsStripKept M.distance strips.entry.now.batch.now
+            strips.entry.now.height strip kept) }
+        ensures memory { IfErr result (λ refusal. refusal ≡ Memory) }
+    { compact_strip::<M, G>(alloc, strips, gate, strip as u8) };
+    let found = map_indices(rt, alloc, usize::from(count), &work)?;
+    gather(alloc, found)
+}
+
 /// Enters the gate, and computes the distances of one strip, counted from 0.
 fn measure_strip<M: Metric, G: Gate>(
     alloc: Global,
@@ -87,6 +114,23 @@ fn measure_strip<M: Metric, G: Gate>(
 {
     gate.enter(strip + 1);
     distances::<M>(alloc, &strips.rows_of(strip))
+}
+
+/// Enters the gate, and computes the distances of one strip, counted from 0, in two bytes each
+/// where they are short.
+fn compact_strip<M: Metric, G: Gate>(
+    alloc: Global,
+    strips: &Strips<'_>,
+    gate: &G,
+    strip: u8,
+) -> Result<CompactStrip, Refusal>
+    requires strip { strip < 16 }
+    ensures rows { IfOk result (λ kept. IsStripKept M.distance strips.now.batch.now
+        strips.now.height strip kept) }
+    ensures memory { IfErr result (λ refusal. refusal ≡ Memory) }
+{
+    gate.enter(strip + 1);
+    compact_distances::<M>(alloc, &strips.rows_of(strip))
 }
 
 /// Enters the gate, and computes the rows of one strip, counted from 0.
@@ -135,10 +179,7 @@ impl<'a> Strips<'a> {
 }
 
 /// The results of all strips. Fails if one of them failed, or when out of memory.
-fn gather<T: Drop>(
-    alloc: Global,
-    found: Vec<Result<Vec<T>, Refusal>>,
-) -> Result<Vec<Vec<T>>, Refusal>
+fn gather<T: Drop>(alloc: Global, found: Vec<Result<T, Refusal>>) -> Result<Vec<T>, Refusal>
     requires memory { All (λ cells. IfErr cells (λ refusal. refusal ≡ Memory)) found.items }
     ensures found { IfOk result (λ strips. found.items ≡ map (λ strip. Ok strip) strips.items) }
     ensures memory { IfErr result (λ refusal. refusal ≡ Memory) }

@@ -90,7 +90,7 @@ AreSomeRead-digits run most count bytes number some few within room are =
       below = mask_lt number count;
     })
 
--- the first of some digits are read so behind a whitespace byte too, if there is one
+-- the first of some digits are read so after a whitespace byte too, if there is one
 pub AreSomeRead-line : (run most count : ℕ) (bytes line : List ℕ) (number : ℕ)
     → line ≡ behind_space bytes → 0 < count → count ≤ most → count ≤ run → count ≤ 64
     → AreDigits run line number

@@ -165,7 +165,7 @@ digit-pixel zero rest small = refl
 digit-pixel (suc zero) rest small = refl
 digit-pixel (suc (suc n)) rest small = absurd (omega arith)
 
--- a digit of a pixel behind a whitespace byte is the next pixel
+-- a digit of a pixel after a whitespace byte is the next pixel
 digit-pixel_spaced : (byte bit : ℕ) (rest : List ℕ) → is_whitespace byte ≡ true → bit < 2
     → next_pixel (byte ∷ (48 + bit) ∷ rest) ≡ Ok (bit == 1, rest)
 unfolding next_pixel filling
@@ -173,7 +173,7 @@ digit-pixel_spaced byte zero rest spaced small = rw spaced refl
 digit-pixel_spaced byte (suc zero) rest spaced small = rw spaced refl
 digit-pixel_spaced byte (suc (suc n)) rest spaced small = absurd (omega arith)
 
--- pixels of which the first is a digit are read behind a whitespace byte as without it
+-- pixels of which the first is a digit are read after a whitespace byte as without it
 pixels-spaced : (n byte bit : ℕ) (rest : List ℕ) → 0 < n → is_whitespace byte ≡ true → bit < 2
     → pixels n (byte ∷ (48 + bit) ∷ rest) ≡ pixels n ((48 + bit) ∷ rest)
 unfolding pixels
@@ -181,7 +181,7 @@ pixels-spaced zero byte bit rest some spaced small = absurd (omega arith)
 pixels-spaced (suc n) byte bit rest some spaced small =
     rw (digit-pixel_spaced byte bit rest spaced small, digit-pixel bit rest small) refl
 
--- some pixels, the first of them a digit, are read behind a whitespace byte as without it
+-- some pixels, the first of them a digit, are read after a whitespace byte as without it
 some-spaced : (most run count number digits byte : ℕ) (others rest : List ℕ)
     → is_whitespace byte ≡ true → 0 < run → AreDigits run others digits
     → AreSomeRead most others count number rest → AreSomeRead most (byte ∷ others) count number rest
@@ -204,7 +204,7 @@ some-spaced most run count number digits byte (digit ∷ others) rest spaced som
       below = read.below;
     }
 
--- some pixels are read as behind a byte if that is whitespace, and otherwise with it
+-- some pixels are read as after a byte if that is whitespace, and otherwise with it
 some-behind : (spaced : Bool) (most run count number digits byte : ℕ) (others rest : List ℕ)
     → is_whitespace byte ≡ spaced → 0 < run
     → AreDigits run (cond spaced others (byte ∷ others)) digits
@@ -214,7 +214,7 @@ some-behind true most run count number digits byte others rest spaced some are r
     some-spaced most run count number digits byte others rest spaced some are read
 some-behind false most run count number digits byte others rest spaced some are read = read
 
--- some pixels, the first of them a digit, are read as behind a whitespace byte if there is one
+-- some pixels, the first of them a digit, are read as after a whitespace byte if there is one
 pub AreSomeRead-behind : (most run count number digits : ℕ) (bytes rest : List ℕ) → 0 < run
     → AreDigits run (behind_space bytes) digits
     → AreSomeRead most (behind_space bytes) count number rest

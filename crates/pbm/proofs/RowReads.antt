@@ -35,7 +35,7 @@ pub IsRawTo-none : (width height : ℕ) (bytes : List ℕ) (cells : Cells)
     → cells ≡ cells_where width height (λ x y. false) → IsRawTo width height 0 bytes bytes cells
 IsRawTo-none width height bytes cells blank = grind (arith, nat_tests, common_steps)
 
--- one more row was read
+-- a further row was read
 pub IsRawTo-row : (width height y : ℕ) (all here left words : List ℕ) (cells : Cells)
     → width ≤ 4096 → IsRawTo width height y all here cells
     → IsRowRead (bytes_across width) here words left

@@ -1,4 +1,4 @@
--- The tiles behind the last one have no obstacle, and its columns behind its highest bit none.
+-- The tiles after the last one have no obstacle, and its columns above its highest bit none.
 use Rattle.std.proofs.Common.{ℕ, ◌-◌, ◌*◌, ◌<◌, arith}
 use Rattle.clearance.proofs.FarColumns.{AreJoined, before_highest_bit, before_last_tile}
 use Rattle.clearance.proofs.FarColumns.{before_tile_before}

@@ -1,4 +1,4 @@
--- The column is far, and so are those behind it.
+-- The column is far, and so are those after it.
 use Rattle.std.proofs.Common.{◌≡◌, ◌-◌, arith}
 use Rattle.std.proofs.lemmas.Bool.{leb-true}
 use Rattle.clearance.proofs.FarColumns.{AreColumnsFar-from}

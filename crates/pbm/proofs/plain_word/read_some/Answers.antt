@@ -1,4 +1,4 @@
--- As many of the digits as are wanted, behind a whitespace byte if there is one.
+-- As many of the digits as are wanted, after a whitespace byte if there is one.
 use Rattle.std.proofs.Common.{◌≡◌, ◌-◌, take, drop, length, arith, length-drop}
 use Rattle.std.proofs.lemmas.List.{take_all}
 use Rattle.pbm.proofs.Digits.{AreSomeRead-line}
