@@ -38,7 +38,7 @@ same_part : (before after one two : List ℕ) → after ≡ before ++ one → af
 same_part before after one two first second =
     append_cancel_left before one two (sym first ∙ second)
 
--- where so many bytes were gathered, and then at most one more was taken, at most one more was
+-- where some bytes were gathered, and then at most one more was taken, at most one more was
 pub few_behind : (so_far count : ℕ) (unread between left : Option (List ℕ))
     (before middle : List ℕ) → so_far < count → Gathers unread before middle between
     → PutsCount so_far before middle → TakesFew 1 between left → TakesFew count unread left
@@ -143,7 +143,7 @@ counted_behind counts unread between left before middle stripped count empty fir
       taken = Takes-behind unread between left one.bytes next.bytes one.taken next.taken;
     }
 
--- the same, where the bytes after the line may have been taken whole
+-- where the bytes after a line end early, at most as many as it counts were taken
 pub counted_cut : {T E : Type 0} (counts : List ℕ → ℕ) (unread between left : Option (List ℕ))
     (before middle stripped : List ℕ) (count : ℕ) (result : Result T E) → before ≡ []
     → PutsLine before middle → Gathers unread before middle between

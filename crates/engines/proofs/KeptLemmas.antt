@@ -8,7 +8,6 @@ use Rattle.std.specs.Fmt.{decimal}
 use Rattle.std.specs.List.{flat_map, join_with_byte, range_with_len, slice_range}
 use Rattle.std.proofs.Math.Path.{fun_ext}
 use Rattle.std.proofs.Math.Nat.{div-lt_iff_lt-mul, mod-lt, mul-le-mul_right}
-use Rattle.std.proofs.lemmas.Bool.{false≢true}
 use Rattle.std.proofs.lemmas.Nat.{div-mul-add, mod-mul-add}
 use Rattle.std.proofs.lemmas.List.{drop-map, ext_get_or, get_or-drop, get_or-map, get_or-take}
 use Rattle.std.proofs.lemmas.List.{length-drop, length-map, length-take-le}
@@ -20,11 +19,11 @@ use Rattle.metric.specs.Nearest.{IsNear}
 use Rattle.bits.specs.Cells.{Cells}
 use Rattle.bits.specs.Edges.{IsBlocked}
 use Rattle.field.specs.Distances.{Distances, IsFarAway, number_at}
-use Rattle.field.specs.Obstacles.{IsMeasured, Obstacles}
+use Rattle.field.specs.Obstacles.{IsMeasured}
 use Rattle.engines.specs.dist.Measured.{AreDistances, IsDistanceOf, distance_text}
 use Rattle.engines.specs.dist.Table.{entry_text, table_text}
-use Rattle.engines.specs.dist.Tabled.{HasAllNumbers, IsBelowNone, IsKept, IsTableOf, has_obstacles}
-use Rattle.engines.specs.dist.Tabled.{nears_kept, some_near, some_nears}
+use Rattle.engines.specs.dist.Tabled.{HasAllNumbers, IsBelowNone, IsTableOf}
+use Rattle.engines.specs.dist.Tabled.{some_near, some_nears}
 use Rattle.engines.proofs.MeasuredLines.{distance_text-near}
 
 -- a measured number is at most the one that means none
@@ -210,28 +209,6 @@ AreDistances-line width height y table numbers row all long same =
           rw (here, same x column) (IsDistanceOf-some (number_at table x y)
           (all.few x y column row));
     }
-
--- what is kept, or else this
-abbrev kept_or : Distances → Option Distances → Distances
-kept_or other (Some table) = table
-kept_or other None = other
-
--- where a table has no obstacles, the line of a row of its distances has the row's numbers
-pub AreDistances-kept : (d : ℕ → ℕ → ℕ) (width height y : ℕ) (obstacles : Option Obstacles)
-    (distances : Option Distances) (table : Distances) (numbers : List ℕ)
-    → has_obstacles obstacles ≡ false → distances ≡ Some table
-    → IsKept d width height obstacles distances → y < height → length numbers ≡ width
-    → ((x : ℕ) → x < table.width → slice_index numbers x ≡ number_at table x y)
-    → AreDistances (slice_range (nears_kept d width height obstacles distances) (y * width)
-    (y * width + width)) numbers
-AreDistances-kept d width height y (Some obstacles) distances table numbers none same kept row long
-    each = absurd (false≢true (sym none))
-AreDistances-kept d width height y None None table numbers none same kept row long each =
-    absurd kept
-AreDistances-kept d width height y None (Some other) table numbers none same kept row long each =
-    let here : other ≡ table = ap (kept_or other) same in
-    AreDistances-line width height y other numbers row kept long
-    (λ x inside. rw here (each x (rw (← here, kept.across) inside)))
 
 -- a table's text is that of what is written of its cells
 pub table_text-told : (nearest : Bool) (width height : ℕ) (nears others : List (Option Near))

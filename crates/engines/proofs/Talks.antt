@@ -193,7 +193,7 @@ pub Completes-ended : (before after : Talk) → RunsOut before after → Complet
 Completes-ended before after ended =
     record { between = before; exchanges = Exchanges-nothing before; over = inr ended }
 
--- exchanges, and then some that complete a run, complete it
+-- a run is complete by exchanges, and then some that complete it
 pub Completes-behind : (before between after : Talk) → Exchanges before between
     → Completes between after → Completes before after
 Completes-behind before between after one two = record {

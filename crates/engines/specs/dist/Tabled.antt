@@ -1,12 +1,12 @@
 -- A table in memory of a map: this project's own rule.
-use Rattle.std.specs.Prelude.{◌≡◌, ℕ, ◌*◌, ◌/◌, ◌%◌, ◌<◌, ◌≤◌, ◌==◌, pos, List, [], Bool, true, false}
+use Rattle.std.specs.Prelude.{◌≡◌, ℕ, ◌*◌, ◌/◌, ◌%◌, ◌<◌, ◌≤◌, ◌==◌, pos, List, Bool}
 use Rattle.std.specs.Prelude.{map, Option, Some, None, if◌then◌else◌}
 use Rattle.std.specs.List.{range_with_len}
 use Rattle.metric.specs.declared.edge.Edge.{Edge}
 use Rattle.metric.specs.declared.near.Near.{Near}
 use Rattle.bits.specs.Cells.{Cells}
 use Rattle.field.specs.Distances.{Distances, number_at}
-use Rattle.field.specs.Obstacles.{Obstacles, nears_told}
+use Rattle.field.specs.Obstacles.{Obstacles}
 use Rattle.field.specs.Rows.{AreNears}
 use Rattle.engines.specs.dist.Table.{entry_text}
 
@@ -35,18 +35,6 @@ some_nears width height table =
     map (λ k. some_near (number_at table (k % width) (k / width)))
     (range_with_len 0 (height * width))
 
--- what is kept of all cells: obstacles, or else distances
-abbrev pub nears_kept : (ℕ → ℕ → ℕ) → ℕ → ℕ → Option Obstacles → Option Distances
-    → List (Option Near)
-nears_kept distance width height (Some obstacles) distances = nears_told distance obstacles
-nears_kept distance width height None (Some distances) = some_nears width height distances
-nears_kept distance width height None None = []
-
--- whether obstacles are kept
-abbrev pub has_obstacles : Option Obstacles → Bool
-has_obstacles (Some obstacles) = true
-has_obstacles None = false
-
 -- these are the obstacles of all rows of a map of this size, by this distance
 pub record HasAllRows (distance : ℕ → ℕ → ℕ) (width height : ℕ) (obstacles : Obstacles) :
     Type 0 where
@@ -61,12 +49,6 @@ pub record HasAllNumbers (width height : ℕ) (distances : Distances) : Type 0 w
   pub from : distances.y0 ≡ 0
   pub to : distances.y1 ≡ height
   pub few : (x y : ℕ) → x < width → y < height → number_at distances x y ≤ 4294967295
-
--- all rows of a map of this size are kept, as obstacles or as distances
-abbrev pub IsKept : (ℕ → ℕ → ℕ) → ℕ → ℕ → Option Obstacles → Option Distances → Type 0
-IsKept distance width height (Some obstacles) distances = HasAllRows distance width height obstacles
-IsKept distance width height None (Some distances) = HasAllNumbers width height distances
-IsKept distance width height None None = ⊥
 
 -- the map has the table's size, and what is written of the table's cells is what is written of the
 -- nearest obstacles by this distance and edge

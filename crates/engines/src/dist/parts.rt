@@ -3,12 +3,10 @@
 ghost use Rattle.std.specs.Prelude.{◌≡◌, ◌+◌, ◌-◌, ◌*◌, ◌<◌, ◌≤◌, ◌++◌, All, IfOk, length, take};
 ghost use Rattle.std.specs.Prelude.{vec_capacity, vec_len};
 ghost use Rattle.std.specs.List.{slice_range};
-ghost use Rattle.engines.specs.dist.Parts.{IsRowRoom};
-ghost use Rattle.engines.specs.dist.Putting.{Puts};
+ghost use Rattle.engines.specs.dist.Parts.{IsLineRoom, IsRowRoom};
 ghost use Rattle.engines.specs.dist.Table.{row_line, rows_text};
 
-use crate::dist::distances::put_distances;
-use crate::dist::line::{ENTRY_ROOM, SPARE_ROOM, put_row};
+use crate::dist::line::{ENTRY_ROOM, SPARE_ROOM};
 use crate::dist::printer::Printer;
 use metric::{Metric, Near};
 use std::alloc::{AllocError, Global};
@@ -18,7 +16,9 @@ use std::alloc::{AllocError, Global};
 pub struct WorkerLines {
     /// The nearest obstacles of a row's cells; no cells if only distances are written.
     pub row: Vec<Option<Near>>,
-    /// The lines, and what is left behind them of earlier ones. Their capacity is allocated once,
+    /// The distances of a row's cells; no cells if obstacles are written too.
+    pub distances: Vec<u32>,
+    /// The lines, and what is left after them of earlier ones. Their capacity is allocated once,
     /// and only as much of it is touched as the lines take, with room for one more.
     pub text: Vec<u8>,
     /// How many bytes of the text are lines.
@@ -37,6 +37,7 @@ impl WorkerLines {
         let line = ENTRY_ROOM * across + 1;
         Ok(WorkerLines {
             row: vec![in alloc; None; if nearest { across } else { 0 }]?,
+            distances: vec![in alloc; 0; if nearest { 0 } else { across }]?,
             text: Vec::with_capacity(alloc, rows as usize * line + SPARE_ROOM)?,
             end: 0,
         })
@@ -54,7 +55,8 @@ impl WorkerLines {
         let height = u32::from(printer.table.height());
         let to = height.min(from + printer.rows) as u16;
         let from = height.min(from) as u16;
-        self.end = put_lines(printer, self.row.as_mut_slice(), from, to, &mut self.text);
+        let (row, distances) = (self.row.as_mut_slice(), self.distances.as_mut_slice());
+        self.end = put_lines(printer, row, distances, from, to, &mut self.text);
     }
 
     /// The lines written.
@@ -90,6 +92,7 @@ impl WorkerLines {
 fn put_lines<M: Metric + Sync>(
     printer: &Printer<M>,
     row: &mut [Option<Near>],
+    distances: &mut [u32],
     from: u16,
     to: u16,
     text: &mut Vec<u8>,
@@ -97,6 +100,8 @@ fn put_lines<M: Metric + Sync>(
     requires order { from ≤ to }
     requires within { to ≤ printer.now.table.height }
     requires cells { IsRowRoom printer.now.nearest printer.now.table.width (length row.old) }
+    requires distances { IsLineRoom printer.now.nearest printer.now.table.width
+        (length distances.old) }
     requires room { (to - from) * (25 * printer.now.table.width + 1) + 3 ≤ vec_capacity text.old }
     ensures text { take result text.new.items ≡ rows_text printer.now.nearest
         printer.now.table.width from (to - from) printer.now.table.nears }
@@ -105,22 +110,25 @@ fn put_lines<M: Metric + Sync>(
 {
     let mut end = 0;
     'rows: for y in from..to {
-        end = put_next(printer, row, y, text, end);
+        end = put_next(printer, row, distances, y, text, end);
     }
     end
 }
 
-/// Writes the line of row `y` behind the first `at` bytes of the text, and returns where it ends.
+/// Writes the line of row `y` after the first `at` bytes of the text, and returns where it ends.
 /// The text has capacity for it.
 fn put_next<M: Metric + Sync>(
     printer: &Printer<M>,
     row: &mut [Option<Near>],
+    distances: &mut [u32],
     y: u16,
     text: &mut Vec<u8>,
     at: usize,
 ) -> usize
     requires row { y < printer.now.table.height }
     requires cells { IsRowRoom printer.now.nearest printer.now.table.width (length row.old) }
+    requires distances { IsLineRoom printer.now.nearest printer.now.table.width
+        (length distances.old) }
     requires front { at ≤ vec_len text.old }
     requires room { at + (25 * printer.now.table.width + 4) ≤ vec_capacity text.old }
     ensures line { take result text.new.items ≡ take at text.old.items
@@ -133,7 +141,8 @@ fn put_next<M: Metric + Sync>(
 {
     let width = usize::from(printer.table.width());
     lengthen(text, at + (ENTRY_ROOM * width + 1 + SPARE_ROOM));
-    put_line(printer, row, y, text.as_mut_slice(), at)
+    let (table, decimals) = (&printer.table, &printer.decimals);
+    table.put_line(decimals, y, row, distances, text.as_mut_slice(), at)
 }
 
 /// Lengthens a text to this many bytes, if it has fewer. It has capacity for them.
@@ -147,27 +156,4 @@ fn lengthen(text: &mut Vec<u8>, count: usize)
     if text.len() < count {
         let _ = text.resize(count, 0);
     }
-}
-
-/// Writes the line of row `y`, and returns where it ends.
-fn put_line<M: Metric + Sync>(
-    printer: &Printer<M>,
-    row: &mut [Option<Near>],
-    y: u16,
-    text: &mut [u8],
-    at: usize,
-) -> usize
-    requires row { y < printer.now.table.height }
-    requires cells { IsRowRoom printer.now.nearest printer.now.table.width (length row.old) }
-    requires room { at + (25 * printer.now.table.width + 3) ≤ length text.old }
-    ensures line { Puts text.old at (row_line printer.now.nearest
-        (slice_range printer.now.table.nears (y * printer.now.table.width)
-        (y * printer.now.table.width + printer.now.table.width))) text.new result }
-    ensures end { result ≤ at + (25 * printer.now.table.width + 1) }
-{
-    if printer.nearest {
-        printer.table.fill_row(y, row);
-        return put_row(&printer.decimals, text, at, row);
-    }
-    put_distances(&printer.decimals, text, at, printer.table.distances(y))
 }

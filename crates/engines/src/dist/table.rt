@@ -4,41 +4,65 @@
 ghost use Rattle.std.specs.Prelude.{◌≡◌, ◌+◌, ◌*◌, ◌<◌, ◌≤◌, true, false, IfErr, IfOk, length};
 ghost use Rattle.std.specs.Prelude.{slice_range};
 ghost use Rattle.metric.specs.declared.refusal.Refusal.TheVariants.{Memory};
-ghost use Rattle.engines.specs.dist.Measured.{AreDistances};
+ghost use Rattle.engines.specs.dist.Putting.{Puts};
+ghost use Rattle.engines.specs.dist.Table.{row_line};
 ghost use Rattle.engines.specs.dist.Tabled.{IsBelowNone, IsTableOf};
 
+use crate::dist::decimals::Decimals;
+use crate::dist::distances::put_distances;
+use crate::dist::line::put_row;
 use bits::Bitmap;
-use field::{Batch, DistanceTable, ObstacleTable, Workers};
+use field::{Batch, CompactDistances, ObstacleTable, Workers};
 use metric::{Edge, Gate, Metric, Near, Refusal};
 use std::alloc::Global;
 use std::marker::Model;
 use std::thread::Threads;
 
-/// The nearest obstacles of all cells by one metric, or else their distances: four bytes per cell.
-/// Contracts see its size, whether it has obstacles, and these, in row-major order; of distances
-/// they see some spots at them.
+/// What is kept of all cells.
+#[derive(Drop)]
+enum Kept<M: Metric> {
+    /// Their nearest obstacles, in four bytes per cell.
+    Obstacles(ObstacleTable<M>),
+    /// Their distances alone, in two bytes per cell of a row where all are short, otherwise four.
+    Distances(CompactDistances),
+}
+
+/// The nearest obstacles of all cells by one metric, or else their distances. Contracts see its
+/// size, whether it has obstacles, and these, in row-major order; of distances they see some spots
+/// at them.
 #[derive(Drop)]
 pub struct Table<M: Metric> {
     width: u16,
     height: u16,
-    obstacles: Option<ObstacleTable<M>>,
-    /// The distances, if there are no obstacles.
-    distances: Option<DistanceTable>,
+    kept: Kept<M>,
 }
 
 impl<M: Metric> Model for Table<M> {
-    ghost use Rattle.engines.specs.dist.Tabled.{IsKept, TableView, has_obstacles, nears_kept};
+    ghost use Rattle.std.specs.Prelude.{Bool, List, Option, true, false};
+    ghost use Rattle.metric.specs.declared.near.Near.{Near};
+    ghost use Rattle.field.specs.Obstacles.{nears_told};
+    ghost use Rattle.engines.specs.declared.dist.table.Kept.TheVariants.{Obstacles, Distances};
+    ghost use Rattle.engines.specs.dist.Tabled.{HasAllNumbers, HasAllRows, TableView, some_nears};
 
     ghost Value = { TableView };
 
     ghost view = { λ t. record {
       width = t.width;
       height = t.height;
-      nearest = has_obstacles t.obstacles;
-      nears = nears_kept M.distance t.width t.height t.obstacles t.distances;
+      nearest = elim t.kept as (λ _. Bool) [
+        | Obstacles table ↦ true
+        | Distances table ↦ false
+      ];
+      nears = elim t.kept as (λ _. List (Option Near)) [
+        | Obstacles table ↦ nears_told M.distance table
+        | Distances table ↦ some_nears t.width t.height table
+      ];
     } };
 
-    ghost invariant = { λ t. IsKept M.distance t.width t.height t.obstacles t.distances };
+    ghost invariant = { λ t. elim t.kept as (λ _. Type 0) [
+      | Obstacles table ↦ HasAllRows M.distance t.width t.height table
+      | Distances table ↦ HasAllNumbers t.width t.height table
+    ] };
 }
 
 impl<M: Metric + Sync> Table<M> {
@@ -94,8 +118,7 @@ impl<M: Metric + Sync> Table<M> {
         Ok(Table {
             width,
             height,
-            obstacles: Some(obstacles),
-            distances: None,
+            kept: Kept::Obstacles(obstacles),
         })
     }
 
@@ -114,12 +137,11 @@ impl<M: Metric + Sync> Table<M> {
         ensures memory { IfErr result (λ refusal. refusal ≡ Memory) }
     {
         let (width, height) = (batch.bitmap.width(), batch.bitmap.height());
-        let distances = DistanceTable::of::<M, Passing, T>(rt, alloc, batch, workers, &Passing)?;
+        let distances = CompactDistances::of::<M, Passing, T>(rt, alloc, batch, workers, &Passing)?;
         Ok(Table {
             width,
             height,
-            obstacles: None,
-            distances: Some(distances),
+            kept: Kept::Distances(distances),
         })
     }
 
@@ -137,31 +159,35 @@ impl<M: Metric + Sync> Table<M> {
         self.height
     }
 
-    /// Fills a line with the nearest obstacles of row `y`, of a table that has them.
-    pub fn fill_row(&self, y: u16, nears: &mut [Option<Near>])
-        requires nearest { self.now.nearest ≡ true }
+    /// Writes the line of row `y`, with obstacles if the table has them, and returns where it ends.
+    /// The other two are buffers: for the row's nearest obstacles if the table has them, and for
+    /// its distances if it has these alone.
+    pub fn put_line(
+        &self,
+        decimals: &Decimals,
+        y: u16,
+        nears: &mut [Option<Near>],
+        distances: &mut [u32],
+        text: &mut [u8],
+        at: usize,
+    ) -> usize
         requires row { y < self.now.height }
-        requires width { length nears.old ≡ self.now.width }
-        ensures { nears.new ≡ slice_range self.now.nears (y * self.now.width)
-            (y * self.now.width + self.now.width) }
+        requires nears { self.now.nearest ≡ true → length nears.old ≡ self.now.width }
+        requires distances { self.now.nearest ≡ false → length distances.old ≡ self.now.width }
+        requires room { at + (25 * self.now.width + 3) ≤ length text.old }
+        ensures line { Puts text.old at (row_line self.now.nearest (slice_range self.now.nears
+            (y * self.now.width) (y * self.now.width + self.now.width))) text.new result }
+        ensures end { result ≤ at + (25 * self.now.width + 1) }
     {
-        if let Some(obstacles) = &self.obstacles {
-            obstacles.fill_row(y, nears);
-        }
-    }
-
-    /// The distances of the cells of row `y`, of a table that has no obstacles, in the metric's
-    /// unit; `u32::MAX` where there is no obstacle.
-    pub fn distances(&self, y: u16) -> &[u32]
-        requires nearest { self.now.nearest ≡ false }
-        requires row { y < self.now.height }
-        ensures width { length result.now ≡ self.now.width }
-        ensures row { AreDistances (slice_range self.now.nears (y * self.now.width)
-            (y * self.now.width + self.now.width)) result.now }
-    {
-        match &self.distances {
-            Some(table) => table.row(y),
-            None => &[],
+        match &self.kept {
+            Kept::Obstacles(table) => {
+                table.fill_row(y, nears);
+                put_row(decimals, text, at, nears)
+            }
+            Kept::Distances(table) => {
+                table.fill_row(y, distances);
+                put_distances(decimals, text, at, distances)
+            }
         }
     }
 

@@ -1,4 +1,4 @@
--- Four short distances are put one behind the other.
+-- Four short distances are put one after the other.
 use Rattle.std.proofs.Common.{◌≡◌, ◌∷◌, length, rules, slice_index_or}
 use Rattle.std.proofs.lemmas.List.{append-nil}
 use Rattle.engines.specs.dist.Measured.{distance_text}

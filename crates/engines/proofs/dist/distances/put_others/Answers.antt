@@ -1,4 +1,4 @@
--- Four more distances are put behind those in front of them.
+-- Four more distances are put after those in front of them.
 use Rattle.std.proofs.Common.{◌≡◌, ◌∷◌, ◌++◌, length, take, drop, sym, ap, ◌∙◌, arith}
 use Rattle.std.proofs.Common.{rules, append_assoc, length-append}
 use Rattle.std.proofs.lemmas.List.{take-append-drop}
