@@ -1,10 +1,12 @@
 -- What a session's seat is once it has pinned or learned, and that a pin stays.
-use Rattle.std.proofs.Common.{◌≡◌, ℕ, ◌<◌, List, false, refl, ap, sym, subst, ◌∙◌, arith}
-use Rattle.std.specs.Prelude.{Bool, Option, Some, None, ◌⊎◌}
+use Rattle.std.proofs.Common.{◌≡◌, ℕ, ◌<◌, List, refl, ap, sym, subst, ◌∙◌, arith}
+use Rattle.std.specs.Int.{bit_at}
+use Rattle.std.specs.Prelude.{Option, Some, None, ◌⊎◌}
 use mathlib.Core.Logic.{inl}
 use mathlib.Core.List.{IsPrefix}
 use Rattle.metric.specs.declared.edge.Edge.{Edge}
-use Rattle.bits.specs.Cells.{Cells}
+use Rattle.bits.specs.Cells.{Cells, IsBitmap}
+use Rattle.bits.specs.Tiles.{tiles_down}
 use Rattle.map_core.specs.declared.command.Entry.{Entry}
 use Rattle.map_core.specs.declared.kept.Seen.{Seen}
 use Rattle.map_core.specs.declared.kept.Seen.TheVariants.{From, Exact}
@@ -23,7 +25,8 @@ use Rattle.shelf.proofs.logs.LogParts.{prefix-entries}
 use Rattle.shelf.specs.Roles.{ReaderView, entries, as_reader}
 use Rattle.shelf.specs.Steps.{announcing, confirming, loaded, newest_slot}
 use Rattle.shelf.proofs.seats.ReaderSeats.{hold_stays}
-use Rattle.session.specs.Sessions.{PinView, IsPin, bitmap_pinned}
+use Rattle.session.specs.Sessions.{PinView, HasReadBands, IsPin, bitmap_pinned}
+use Rattle.session.proofs.BandCopies.{nothing_read}
 
 -- a load by a seat that holds, or has announced nothing, changes what it has seen alone
 pub seen_alone : (z : Base) (x y : ReaderView) → (x.announced ≡ None)
@@ -86,9 +89,9 @@ pinned_seat z x a b d y version quiet free first told last is confirmed =
 
 -- the bitmap of a pin stays where its session sees more of the log
 pub bitmap_stays : (store : StoreId) (p : PinView) (y : ReaderView) (slot : ℕ) (bitmap : Cells)
-    (is_read : Bool) → IsPin store p slot bitmap is_read → IsPrefix p.seat.seen y.seen
+    (unread : ℕ) → IsPin store p slot bitmap unread → IsPrefix p.seat.seen y.seen
     → bitmap_pinned store record { seat = y; version = p.version } ≡ bitmap_pinned store p
-bitmap_stays store p y slot bitmap is_read pin began =
+bitmap_stays store p y slot bitmap unread pin began =
     let published = pin.published in
     bitmap-beginning store.base (entries p.seat.seen) (entries y.seen)
     (prefix-entries p.seat.seen y.seen began) p.version published
@@ -96,68 +99,78 @@ bitmap_stays store p y slot bitmap is_read pin began =
 -- a pin stays where its session sees more of the log: it holds the same version, which has the same
 -- bitmap
 pub pin_stays : (store : StoreId) (p : PinView) (y : ReaderView) (slot : ℕ) (bitmap : Cells)
-    (is_read : Bool) → IsPin store p slot bitmap is_read → IsPrefix p.seat.seen y.seen
+    (unread : ℕ) → IsPin store p slot bitmap unread → IsPrefix p.seat.seen y.seen
     → y.announced ≡ p.seat.announced → y.holds ≡ p.seat.holds
-    → IsPin store record { seat = y; version = p.version } slot bitmap is_read
-pin_stays store p y slot bitmap is_read pin began announced holds =
+    → IsPin store record { seat = y; version = p.version } slot bitmap unread
+pin_stays store p y slot bitmap unread pin began announced holds =
     let z = store.base in
     let begins = prefix-entries p.seat.seen y.seen began in
     let grown = newest-beginning z (entries p.seat.seen) (entries y.seen) begins in
     let published = pin.published in
-    let same = sym (bitmap_stays store p y slot bitmap is_read pin began) in
+    let same = sym (bitmap_stays store p y slot bitmap unread pin began) in
+    let copying = pin.copying in
     record {
       announced = announced ∙ pin.announced;
-      held = holds ∙ pin.held;
       published = omega arith;
-      slot_is = record {
-        slot_is = pin.slot_is.slot_is
-            ∙ sym (slot-beginning z (entries p.seat.seen)
-            (entries y.seen) begins p.version published);
-        below = pin.slot_is.below;
-      };
       ready = pin.ready;
-      of_map = subst (IsOfMap z) same pin.of_map;
-      width_is = pin.width_is;
-      height_is = pin.height_is;
-      bitmap_is = λ read. pin.bitmap_is read ∙ same;
+      copying = record {
+        held = holds ∙ copying.held;
+        slot_is = record {
+          slot_is = copying.slot_is.slot_is
+              ∙ sym (slot-beginning z (entries p.seat.seen)
+              (entries y.seen) begins p.version published);
+          below = copying.slot_is.below;
+        };
+        of_map = subst (IsOfMap z) same copying.of_map;
+        bitmap_is = copying.bitmap_is;
+        width_is = copying.width_is;
+        height_is = copying.height_is;
+        read = subst (λ (cells : Cells). HasReadBands bitmap cells unread) same copying.read;
+      };
     }
 
 -- a session that has loaded, announced, loaded again and confirmed is a pin of the newest version,
 -- with room for its bitmap
 pub pin_made : (store : StoreId) (x a b d y : ReaderView) (version slot : ℕ) (bitmap : Cells)
-    → IsReady store.base → x.announced ≡ None → x.holds ≡ None → a ≡ loaded store.base a.seen x
-    → b ≡ announcing store.base a
+    (unread : ℕ) → IsReady store.base → x.announced ≡ None → x.holds ≡ None
+    → a ≡ loaded store.base a.seen x → b ≡ announcing store.base a
     → d ≡ loaded store.base d.seen b → version ≡ newest (story store.base (entries d.seen))
     → y ≡ confirming version d → slot ≡ newest_slot store.base d.seen
     → slot < store.base.setting.versions
     → IsLegal store.base.setting store.base.opening (entries d.seen)
-    → bitmap.width ≡ store.base.opening.width → bitmap.height ≡ store.base.opening.height
-    → IsPin store record { seat = y; version = version } slot bitmap false
-pin_made store x a b d y version slot bitmap ready quiet free first told last is confirmed slot_is
-    below legal width height =
+    → IsBitmap bitmap → bitmap.width ≡ store.base.opening.width
+    → bitmap.height ≡ store.base.opening.height
+    → ((k : ℕ) → k < tiles_down bitmap.height → bit_at unread k ≡ 1)
+    → IsPin store record { seat = y; version = version } slot bitmap unread
+pin_made store x a b d y version slot bitmap unread ready quiet free first told last is confirmed
+    slot_is below legal bitmap_is width height all =
     let z = store.base in
     let y_is = pinned_seat z x a b d y version quiet free first told last is confirmed in
     let seen : d.seen ≡ y.seen = sym (ap (λ (q : ReaderView). q.seen) confirmed) in
     let newest_is : version ≡ newest (story z (entries y.seen)) = is
     ∙ ap (λ (l : List StoreEntry). newest (story z (entries l))) seen in
+    let of_map : IsOfMap z (bitmap_pinned store record { seat = y; version = version }) =
+    (IsTidy-legal z (entries y.seen) ready
+    (subst (λ (l : List StoreEntry). IsLegal z.setting z.opening (entries l)) seen
+    legal)).published version (omega arith) in
     record {
       announced = ap (λ (q : ReaderView). q.announced) y_is;
-      held = ap (λ (q : ReaderView). q.holds) y_is;
       published = omega arith;
-      slot_is = record {
-        slot_is = slot_is
-            ∙ (ap (λ (l : List StoreEntry). newest_slot z l) seen
-            ∙ ap (λ (v : ℕ). slot_of z (story z (entries y.seen)) v) (sym newest_is));
-        below = below;
-      };
       ready = ready;
-      of_map =
-          ((IsTidy-legal z (entries y.seen) ready
-          (subst (λ (l : List StoreEntry). IsLegal z.setting z.opening (entries l)) seen
-          legal)).published version (omega arith));
-      width_is = width;
-      height_is = height;
-      bitmap_is = λ read. absurd (cc);
+      copying = record {
+        held = ap (λ (q : ReaderView). q.holds) y_is;
+        slot_is = record {
+          slot_is = slot_is
+              ∙ (ap (λ (l : List StoreEntry). newest_slot z l) seen
+              ∙ ap (λ (v : ℕ). slot_of z (story z (entries y.seen)) v) (sym newest_is));
+          below = below;
+        };
+        of_map = of_map;
+        bitmap_is = bitmap_is;
+        width_is = width;
+        height_is = height;
+        read = nothing_read bitmap _ unread (height ∙ sym of_map.height_is) all;
+      };
     }
 
 -- what is answered of a bitmap and its border is answered of an equal bitmap and an equal border

@@ -1,9 +1,10 @@
 -- What contracts see of pins and of sessions: this project's own rule.
-use Rattle.std.specs.Prelude.{◌≡◌, ◌+◌, ◌<◌, ◌≤◌, ℕ, Bool, true, false, All, List, drop, length}
-use Rattle.std.specs.Prelude.{map, sum_by, Result, Some, None}
+use Rattle.std.specs.Prelude.{◌≡◌, ◌+◌, ◌/◌, ◌<◌, ◌≤◌, ℕ, All, List, drop, length, map, sum_by}
+use Rattle.std.specs.Prelude.{Result, Some, None}
 use Rattle.std.specs.List.{range_with_len}
 use mathlib.Core.List.{IsPrefix}
-use Rattle.bits.specs.Cells.{Cells}
+use Rattle.std.specs.Int.{bit_at}
+use Rattle.bits.specs.Cells.{Cells, has, IsBitmap, IsInside}
 use Rattle.metric.specs.declared.refusal.Refusal.{Refusal}
 use Rattle.map_core.specs.declared.command.Command.{Command}
 use Rattle.map_core.specs.declared.command.Reply.{Reply}
@@ -16,8 +17,6 @@ use Rattle.shelf.specs.declared.store_entry.StoreEntry.{StoreEntry}
 use Rattle.shelf.specs.Store.{StoreId, readers_of}
 use Rattle.shelf.specs.Roles.{ReaderView, entries, reader_at_opening, made_by}
 use Rattle.map_core.specs.Legal.{IsLegal}
-use Rattle.session.specs.declared.pinned.looks.Looks.{Looks}
-use Rattle.session.specs.declared.pinned.looks.Looks.TheVariants as looks
 use Rattle.desk.specs.Desks.{DeskView, IsApplied, base_place}
 
 -- a pin has its session's seat, and the version that it holds
@@ -76,23 +75,30 @@ pub record IsSession (store : StoreId) (x : ReaderView) (size : Size) : Type 0 w
   pub width_is : size.width ≡ store.base.opening.width
   pub height_is : size.height ≡ store.base.opening.height
 
--- whether a pin's queries ask the bitmap that it has read
-abbrev pub is_whole : Looks → Bool
-is_whole (looks.Words left) = false
-is_whole looks.Whole = true
+-- a bitmap has a version's cells in each band of 64 rows whose bit is 0
+abbrev pub HasReadBands : Cells → Cells → ℕ → Type 0
+HasReadBands bitmap cells unread =
+    (x y : ℕ) → IsInside cells x y → bit_at unread (y / 64) ≡ 0 → has bitmap x y ≡ has cells x y
 
--- a pin holds a published version that it has seen, has announced exactly, and knows the slot of
-pub record IsPin (store : StoreId) (p : PinView) (slot : ℕ) (bitmap : Cells) (is_read : Bool) :
-    Type 0 where
-  pub announced : p.seat.announced ≡ Some (Exact p.version)
-  pub held : p.seat.holds ≡ Some p.version
-  pub published : p.version ≤ newest_of_session store p.seat
-  pub slot_is : HasSlot store p.seat p.version slot
-  pub ready : IsReady store.base
-  pub of_map : IsOfMap store.base (bitmap_pinned store p)
+-- a seat holds a version with this slot, and a bitmap of its map's size has each band of it whose
+-- bit is 0
+pub record IsCopying (store : StoreId) (x : ReaderView) (version slot : ℕ) (bitmap : Cells)
+    (unread : ℕ) : Type 0 where
+  pub held : x.holds ≡ Some version
+  pub slot_is : HasSlot store x version slot
+  pub of_map : IsOfMap store.base (bitmap_seen store x version)
+  pub bitmap_is : IsBitmap bitmap
   pub width_is : bitmap.width ≡ store.base.opening.width
   pub height_is : bitmap.height ≡ store.base.opening.height
-  pub bitmap_is : is_read ≡ true → bitmap ≡ bitmap_pinned store p
+  pub read : HasReadBands bitmap (bitmap_seen store x version) unread
+
+-- a pin holds a published version that it has seen, and has announced it exactly
+pub record IsPin (store : StoreId) (p : PinView) (slot : ℕ) (bitmap : Cells) (unread : ℕ) :
+    Type 0 where
+  pub announced : p.seat.announced ≡ Some (Exact p.version)
+  pub published : p.version ≤ newest_of_session store p.seat
+  pub ready : IsReady store.base
+  pub copying : IsCopying store p.seat p.version slot bitmap unread
 
 -- a pin's command is answered as its session's, and the pin keeps its version and its bitmap
 pub record IsPinApplied (store : StoreId) (old : DeskView) (p : PinView) (c : Command)

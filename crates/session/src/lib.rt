@@ -9,6 +9,7 @@
 //! `std::marker::Brand`.
 #![tactic(auto)]
 
+mod bit;
 mod blank;
 mod pinned;
 mod reading;

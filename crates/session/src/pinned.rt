@@ -10,14 +10,16 @@ ghost use Rattle.std.specs.Borrow.{sem};
 ghost use Rattle.session.specs.Sessions.{bitmap_pinned, newest_of_session};
 
 mod commands;
+mod copy;
+mod copying;
 mod looks;
 mod queries;
 mod rows;
 
-use crate::reading::read_once;
 use crate::room::Room;
 use crate::session::Session;
 use bits::Bitmap;
+pub(crate) use copy::VersionCopy;
 pub(crate) use looks::Looks;
 use metric::Edge;
 use shelf::{ReaderSeat, StoreName, Ticket};
@@ -31,20 +33,18 @@ pub struct Pinned<Id: StoreName> {
     pub(crate) seat: ReaderSeat<Id>,
     pub(crate) version: u32,
     pub(crate) slot: u32,
-    // The version's bitmap once it is read; until then a buffer for it.
-    pub(crate) bitmap: Bitmap,
-    pub(crate) looks: Looks,
+    pub(crate) copy: VersionCopy,
 }
 
 impl<Id: StoreName> Model for Pinned<Id> {
-    ghost use Rattle.session.specs.Sessions.{PinView, IsPin, is_whole};
+    ghost use Rattle.session.specs.Sessions.{PinView, IsPin};
 
     ghost Value = { PinView };
 
     ghost view = { λ p. record { seat = p.seat; version = p.version } };
 
     ghost invariant = { λ p. IsPin Id.store record { seat = p.seat; version = p.version } p.slot
-        p.bitmap (is_whole p.looks) };
+        p.copy.bitmap p.copy.unread };
 }
 
 impl<Id: StoreName> Pinned<Id> {
@@ -74,20 +74,19 @@ impl<Id: StoreName> Pinned<Id> {
         self.seat.made()
     }
 
-    /// Whether its version has been read.
-    fn is_read(&self) -> bool {
-        self.looks.is_whole()
+    /// Whether a query asks the version's bitmap, and has what isn't read yet of it read: half of
+    /// the bands have been, or eight words per tile.
+    fn asks_bitmap(&self) -> bool {
+        self.copy.is_enough()
     }
 
     /// The bitmap of the version that it holds, if that version has been read as a whole: by
-    /// `bitmap`, or by queries after they had read eight words per tile of the map. `None` before.
+    /// `bitmap`, or by queries after they had read eight words per tile of the map or half of its
+    /// bands of 64 rows. `None` before.
     pub fn bitmap_read(&self) -> Option<&Bitmap>
         ensures { IfSome result (λ bitmap. bitmap.now ≡ bitmap_pinned Id.store self.now) }
     {
-        match self.looks {
-            Looks::Whole => Some(&self.bitmap),
-            Looks::Words { .. } => None,
-        }
+        self.copy.whole()
     }
 
     /// The bitmap that was published as the version that it holds. The first call reads it from the
@@ -97,10 +96,8 @@ impl<Id: StoreName> Pinned<Id> {
         ensures* pin { sem 𝓛 (KeepsPin Id.row Id.StoreName self.entry) }
     {
         let (version, slot) = (self.version, self.slot);
-        let is_read = self.looks.is_whole();
-        read_once(&mut self.seat, version, slot, is_read, &mut self.bitmap);
-        self.looks = Looks::Whole;
-        &self.bitmap
+        self.copy.read_rest(&mut self.seat, version, slot);
+        &self.copy.bitmap
     }
 
     /// Learns a ticket: loads NOW, and has then seen all that it and the ticket had seen. It keeps
@@ -127,11 +124,10 @@ impl<Id: StoreName> Pinned<Id> {
             mut seat,
             version: _,
             slot: _,
-            bitmap,
-            looks: _,
+            copy,
         } = self;
         seat.leave();
-        let room = Room::with(bitmap);
+        let room = Room::with(copy.bitmap);
         Session { seat, room }
     }
 }

@@ -1,13 +1,15 @@
 //! Reads a version from the shared words.
 
-ghost use Rattle.std.specs.Prelude.{◌≡◌, ℕ, ◌<◌, ◌≤◌, true, Some, slice_index};
+ghost use Rattle.std.specs.Prelude.{◌≡◌, ◌≢◌, ℕ, ◌/◌, ◌<◌, ◌≤◌, Some, slice_index};
+ghost use Rattle.bits.specs.Cells.{has, IsBitmap, IsInside};
+ghost use Rattle.bits.specs.Tiles.{tiles_down};
 ghost use Rattle.bits.specs.Words.{words_across};
 ghost use Rattle.clearance.specs.Rows.{words_of_row};
-ghost use Rattle.map_core.specs.Words.{tiles};
 ghost use Rattle.map_core.specs.Tidy.{IsOfMap};
 ghost use Rattle.session.specs.Sessions.{bitmap_seen, HasSlot};
 
 use bits::Bitmap;
+use metric::BAND_ROWS;
 use shelf::{ReaderSeat, StoreName};
 
 /// Reads one word of a row of the held version, whose rows take `across` words: the row of its
@@ -62,11 +64,13 @@ pub fn blank_words<Id: StoreName>(
     across
 }
 
-/// Reads the held version, tile by tile, into a bitmap of the map's size.
-fn read_version<Id: StoreName>(
+/// Reads the rows of a band of the held version, tile by tile, into a bitmap of the map's size. No
+/// mark of the bitmap's earlier contents counts there, since each tile is written anew.
+pub fn read_band<Id: StoreName>(
     seat: &mut ReaderSeat<Id>,
     version: u32,
     slot: u32,
+    band: u16,
     bitmap: &mut Bitmap,
 )
     requires held { seat.old.holds ≡ Some version }
@@ -74,35 +78,21 @@ fn read_version<Id: StoreName>(
     requires of_map { IsOfMap Id.store.base (bitmap_seen Id.store seat.old version) }
     requires width { bitmap.old.width ≡ Id.store.base.opening.width }
     requires height { bitmap.old.height ≡ Id.store.base.opening.height }
+    requires band { band < tiles_down bitmap.old.height }
     ensures seat { seat.new ≡ seat.old }
-    ensures bitmap { bitmap.new ≡ bitmap_seen Id.store seat.old version }
+    ensures bitmap { IsBitmap bitmap.new }
+    ensures width { bitmap.new.width ≡ bitmap.old.width }
+    ensures height { bitmap.new.height ≡ bitmap.old.height }
+    ensures read { (x y : ℕ) → IsInside bitmap.old x y → y / BAND_ROWS ≡ band
+        → has bitmap.new x y ≡ has (bitmap_seen Id.store seat.old version) x y }
+    ensures kept { (x y : ℕ) → IsInside bitmap.old x y → y / BAND_ROWS ≢ band
+        → has bitmap.new x y ≡ has bitmap.old x y }
 {
+    let across = bitmap.width().div_ceil(64);
     let mut words = [0; 64];
-    'positions: for position in 0..bitmap.tiles() {
+    'tiles: for index in 0..across {
+        let position = band * across + index;
         seat.look_rows(version, slot, position, &mut words);
         bitmap.renew_tile(position, &words);
-    }
-}
-
-/// Reads the held version into a bitmap of the map's size, unless it has been read. No band or tile
-/// of the bitmap's earlier contents counts, since each tile is written anew.
-pub fn read_once<Id: StoreName>(
-    seat: &mut ReaderSeat<Id>,
-    version: u32,
-    slot: u32,
-    is_read: bool,
-    bitmap: &mut Bitmap,
-)
-    requires held { seat.old.holds ≡ Some version }
-    requires slot { HasSlot Id.store seat.old version slot }
-    requires of_map { IsOfMap Id.store.base (bitmap_seen Id.store seat.old version) }
-    requires width { bitmap.old.width ≡ Id.store.base.opening.width }
-    requires height { bitmap.old.height ≡ Id.store.base.opening.height }
-    requires is_read { is_read ≡ true → bitmap.old ≡ bitmap_seen Id.store seat.old version }
-    ensures seat { seat.new ≡ seat.old }
-    ensures bitmap { bitmap.new ≡ bitmap_seen Id.store seat.old version }
-{
-    if !is_read {
-        read_version(seat, version, slot, bitmap);
     }
 }

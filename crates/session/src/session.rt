@@ -10,16 +10,12 @@ ghost use Rattle.session.specs.Sessions.{newest_of_session};
 
 mod commands;
 
-use crate::pinned::{Looks, Pinned};
+use crate::pinned::{Pinned, VersionCopy};
 use crate::room::Room;
 use metric::Refusal;
 use shelf::{ReaderSeat, StoreName, Ticket};
 use std::alloc::Global;
 use std::marker::Model;
-
-/// Words per tile of the map that a pin's queries read one by one before they read the whole
-/// version.
-const LOOKS: u32 = 8;
 
 /// A session of a store: it runs commands, and pins versions. Contracts see it as its number, what
 /// it has seen of the log, and how many entries of the log are its own. It has announced nothing
@@ -88,9 +84,7 @@ impl<Id: StoreName> Session<Id> {
             Ok(bitmap) => bitmap,
             Err(refusal) => return Err((Session { seat, room }, refusal)),
         };
-        let looks = Looks::Words {
-            left: LOOKS * u32::from(bitmap.tiles()),
-        };
+        let copy = VersionCopy::fresh(bitmap);
         seat.take();
         seat.announce();
         let now = seat.take();
@@ -99,8 +93,7 @@ impl<Id: StoreName> Session<Id> {
             seat,
             version: now.version,
             slot: now.slot,
-            bitmap,
-            looks,
+            copy,
         })
     }
 

@@ -2,6 +2,7 @@
 //! answers from outside.
 
 mod acts;
+mod bands;
 mod beside;
 mod busy;
 mod counted;

@@ -1,22 +1,91 @@
-//! What the queries of a pin read.
+//! How many words of its version a pin's queries look at one by one, before they read more at once.
 
-/// Single words of the version, or all of it.
-#[derive(Clone, Copy)]
-pub enum Looks {
-    /// Single words, and how many more of them before the whole version is read.
-    Words { left: u32 },
-    /// The version's bitmap, already read.
-    Whole,
+ghost use Rattle.std.specs.Prelude.{◌≤◌};
+
+use metric::{MOST_SIDE, MOST_TILES, WORD_CELLS};
+
+/// Words per tile of the map that queries read before the rest of the version is read.
+const WORDS: u16 = 8;
+
+/// Blank words in a row, per tile of a band, that queries look at before a band is read. Where
+/// more words have an obstacle queries end soon, and reading a tile takes longer.
+const BLANKS: u32 = 4;
+
+/// The words that queries have read, and the blank ones that they may look at before the next with
+/// an obstacle.
+#[derive(Drop)]
+pub struct Looks {
+    words: u64,
+    most_words: u64,
+    blanks: u32,
+    most_blanks: u32,
 }
 
 impl Looks {
-    ghost use Rattle.std.specs.Prelude.{◌≡◌};
-    ghost use Rattle.session.specs.Sessions.{is_whole};
-
-    /// Whether the whole version has been read.
-    pub fn is_whole(self) -> bool
-        ensures { result ≡ is_whole self }
+    /// Those of a pin before its first query, on a map of this width and this many tiles.
+    pub fn fresh(width: u16, tiles: u16) -> Looks
+        requires width { width ≤ MOST_SIDE }
+        requires tiles { tiles ≤ MOST_TILES }
     {
-        matches!(self, Looks::Whole)
+        let most_blanks = BLANKS * u32::from(width.div_ceil(WORD_CELLS));
+        Looks {
+            words: 0,
+            most_words: u64::from(WORDS * tiles),
+            blanks: most_blanks,
+            most_blanks,
+        }
+    }
+
+    /// Whether queries have read all words that they may before the rest of the version is read.
+    pub fn are_used_up(&self) -> bool {
+        self.most_words <= self.words
+    }
+
+    /// How many blank words may be looked at after one with an obstacle: none once they are used
+    /// up, so that a long query reads bands.
+    #[inline(always)]
+    fn blanks_next(&self) -> u32 {
+        if self.are_used_up() {
+            0
+        } else {
+            self.most_blanks
+        }
+    }
+
+    /// Whether this many words may be looked at, even if they are blank.
+    #[inline(always)]
+    pub fn allow(&self, words: u32) -> bool {
+        words <= self.blanks
+    }
+
+    /// Counts a word that was read from the bitmap.
+    pub fn count_read(&mut self) {
+        self.words = self.words.wrapping_add(1);
+    }
+
+    /// Counts a word that was looked at.
+    #[inline(always)]
+    pub fn count_word(&mut self, word: u64) {
+        self.words = self.words.wrapping_add(1);
+        self.blanks = if word == 0 {
+            self.blanks.saturating_sub(1)
+        } else {
+            self.blanks_next()
+        };
+    }
+
+    /// Counts a look at this many words: how many are blank before the first that isn't.
+    pub fn count_row(&mut self, words: u32, blank: u32) {
+        self.words = self.words.wrapping_add(u64::from(blank));
+        self.blanks = if blank < words {
+            self.blanks_next()
+        } else {
+            self.blanks.saturating_sub(words)
+        };
+    }
+
+    /// Counts a band that was read: fewer blank words are looked at before the next is.
+    pub fn count_band(&mut self) {
+        self.blanks = self.blanks_next() / BLANKS;
     }
 }

@@ -31,7 +31,7 @@ impl<Id: StoreName> Pinned<Id> {
             (IsRefusalFor (IsInside (bitmap_pinned Id.store self.old) cell.x cell.y)) }
     {
         let edge = self.edge();
-        if self.is_read() {
+        if self.asks_bitmap() {
             clearance::at::<M>(alloc, self.bitmap(), edge, cell)
         } else {
             clearance::at_rows::<M, Pinned<Id>>(self, edge, cell)
@@ -57,7 +57,7 @@ impl<Id: StoreName> Pinned<Id> {
             (IsRefusalFor (LiesIn (bitmap_pinned Id.store self.old) rect)) }
     {
         let edge = self.edge();
-        if self.is_read() {
+        if self.asks_bitmap() {
             clearance::least_in::<M>(alloc, self.bitmap(), edge, rect)
         } else {
             clearance::least_in_rows::<M, Pinned<Id>>(self, edge, rect)
@@ -85,7 +85,7 @@ impl<Id: StoreName> Pinned<Id> {
             (IsPathRefusal (bitmap_pinned Id.store self.old) points.now) }
     {
         let edge = self.edge();
-        if self.is_read() {
+        if self.asks_bitmap() {
             clearance::along::<M>(alloc, self.bitmap(), edge, points)
         } else {
             clearance::along_rows::<M, Pinned<Id>>(self, edge, points)
@@ -111,7 +111,7 @@ impl<Id: StoreName> Pinned<Id> {
             (IsPathRefusal (bitmap_pinned Id.store self.old) points.now) }
     {
         let edge = self.edge();
-        if self.is_read() {
+        if self.asks_bitmap() {
             clearance::clear_of::<M>(alloc, self.bitmap(), edge, points, d)
         } else {
             clearance::clear_of_rows::<M, Pinned<Id>>(self, edge, points, d)

@@ -6,7 +6,7 @@ use Rattle.session.proofs.PinLemmas.{bitmap_stays, pin_stays}
 use Rattle.session.proofs.pinned.Pinned.apply.Goals as goal
 
 pub apply-requires : goal.apply-requires
-apply-requires g c = inr (c.self.inside.version, c.self.invariant.held)
+apply-requires g c = inr (c.self.inside.version, c.self.invariant.copying.held)
 
 pub invariant_of-self : goal.invariant_of-self
 invariant_of-self g c =

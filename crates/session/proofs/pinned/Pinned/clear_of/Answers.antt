@@ -6,15 +6,15 @@ use Rattle.clearance.specs.Paths.{cells_of_path}
 use Rattle.session.proofs.PinLemmas.{asked_so}
 use Rattle.session.proofs.pinned.Pinned.clear_of.Goals as goal
 
-pub returns-then-is_read-clause-clear : goal.returns-then-is_read-clause-clear
-returns-then-is_read-clause-clear g c =
+pub returns-then-asks_bitmap-clause-clear : goal.returns-then-asks_bitmap-clause-clear
+returns-then-asks_bitmap-clause-clear g c =
     asked_so (λ cells edge. IfOk c.clear_of.result
     (IsClearOf g.M.Metric.distance (IsBlocked cells edge)
     (cells_of_path c.args.points.now) c.args.d)) _ _ _ _ c.bitmap.ensures.bitmap
     c.edge-edge.ensures c.clear_of.ensures.clear
 
-pub returns-else-is_read-clause-clear : goal.returns-else-is_read-clause-clear
-returns-else-is_read-clause-clear g c =
+pub returns-else-asks_bitmap-clause-clear : goal.returns-else-asks_bitmap-clause-clear
+returns-else-asks_bitmap-clause-clear g c =
     asked_so (λ cells edge. IfOk c.clear_of_rows.result
     (IsClearOf g.M.Metric.distance (IsBlocked cells edge)
     (cells_of_path c.args.points.now) c.args.d)) _ _ _ _ refl c.edge-edge.ensures

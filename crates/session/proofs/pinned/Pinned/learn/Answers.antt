@@ -9,9 +9,9 @@ pub invariant_of-self : goal.invariant_of-self
 invariant_of-self g c =
     let it = c.self.inside in
     let is = seen_alone g.Id.StoreName.store.base it.seat c.learn.new.self
-    (inr (it.version, c.self.invariant.held)) c.learn.ensures.seat in
+    (inr (it.version, c.self.invariant.copying.held)) c.learn.ensures.seat in
     pin_stays g.Id.StoreName.store record { seat = it.seat; version = it.version } c.learn.new.self
-    it.slot it.bitmap _ c.self.invariant c.learn.ensures.began
+    it.slot it.copy.bitmap _ c.self.invariant c.learn.ensures.began
     (ap (λ (x : ReaderView). x.announced) is) (ap (λ (x : ReaderView). x.holds) is)
 
 pub returns-clause-bitmap : goal.returns-clause-bitmap

@@ -1,0 +1,10 @@
+-- Where no band is left, the bitmap is the version.
+use Rattle.std.proofs.Common.{◌∙◌}
+use Rattle.std.proofs.lemmas.Option.{IfSome_then}
+use Rattle.session.proofs.CopyingLemmas.{whole_copied}
+use Rattle.session.proofs.pinned.Pinned.bitmap_read.Goals as goal
+
+pub returns : goal.returns
+returns g c =
+    rw (← c.self.view_is) (IfSome_then c.whole.result c.whole.ensures
+    (λ bitmap so. so.0 ∙ whole_copied _ _ _ _ _ _ c.self.invariant.copying so.1))
