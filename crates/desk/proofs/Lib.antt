@@ -8,3 +8,4 @@ mod HoldPublish
 mod OpenedLemmas
 mod PublishSteps
 mod ScanSteps
+mod Names

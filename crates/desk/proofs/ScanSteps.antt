@@ -1,33 +1,16 @@
 -- What a scan has seen so far, and what it keeps.
-use Rattle.std.proofs.Common.{◌≡◌, ℕ, ◌+◌, ◌^◌, ◌<◌, ◌≤◌, List, [], ◌∷◌, ◌++◌, length, map, take}
-use Rattle.std.proofs.Common.{set, ap, sym, subst, ◌∙◌, refl, arith}
-use Rattle.std.specs.Prelude.{Option, None}
-use Rattle.std.proofs.lemmas.List.{map-append, length-map, length-take, take_more_set}
-use Rattle.map_core.specs.declared.command.Command.{Command}
-use Rattle.map_core.specs.declared.command.Command.TheVariants.{Collect}
-use Rattle.map_core.specs.declared.command.Entry.{Entry}
-use Rattle.map_core.specs.declared.command.Reply.{Reply}
-use Rattle.map_core.specs.declared.kept.Kept.{Kept}
-use Rattle.map_core.specs.declared.kept.Seen.{Seen}
-use Rattle.map_core.specs.Kept.{IsIn, kept_after}
-use Rattle.map_core.specs.Legal.{told, kept_told}
-use Rattle.map_core.specs.Story.{Story, newest, IsKept}
-use Rattle.map_core.specs.Steps.{kept_scanned, steps_before}
-use Rattle.map_core.specs.Words.{Base, pin_word, seen_in}
-use Rattle.map_core.specs.Views.{story}
-use Rattle.map_core.proofs.steps.StepLemmas.{story-push}
+use Rattle.desk.proofs.Names.{◌≡◌, ℕ, ◌+◌, ◌^◌, ◌<◌, ◌≤◌, List, [], ◌∷◌, ◌++◌, length, map, take}
+use Rattle.desk.proofs.Names.{set, ap, sym, subst, ◌∙◌, refl, arith, Option, None, map-append}
+use Rattle.desk.proofs.Names.{length-map, length-take, take_more_set, Command, Collect, Entry}
+use Rattle.desk.proofs.Names.{Reply, Kept, Seen, IsIn, kept_after, told, kept_told, Story, newest}
+use Rattle.desk.proofs.Names.{IsKept, kept_scanned, steps_before, Base, pin_word, seen_in, story}
+use Rattle.desk.proofs.Names.{story-push, the_reply, StoreId, readers_of, KeeperView, entries}
+use Rattle.desk.proofs.Names.{scanning, Holding, IsToldByLog, Does, IsInHand, IsWorked}
+use Rattle.desk.proofs.Names.{refused_by_ledger, place_of_ledger}
 use Rattle.map_core.proofs.logs.KeptLemmas.{seen_in-pin_word}
-use Rattle.map_core.proofs.logs.Replies.{the_reply}
-use Rattle.shelf.specs.Store.{StoreId, readers_of}
-use Rattle.shelf.specs.Roles.{KeeperView, entries}
-use Rattle.shelf.specs.Steps.{scanning}
-use Rattle.desk.specs.declared.holding.Holding.{Holding}
-use Rattle.desk.specs.Holdings.{IsToldByLog, Does}
-use Rattle.desk.specs.Carries.{IsInHand, IsWorked}
-use Rattle.map_core.specs.Ledger.{refused_by_ledger}
-use Rattle.map_core.proofs.logs.LedgerLemmas.{place_of_ledger}
 use Rattle.desk.proofs.HoldOpen.{can_answer}
 use Rattle.desk.proofs.HoldLemmas.{tidy_told}
+use Rattle.desk.proofs.CarryLemmas.{has_task}
 
 -- a scan up to a reader has seen as many words as that reader's number
 pub seen_long : (seen : List (Option Seen)) (reader : ℕ) → reader ≤ length seen
@@ -41,14 +24,12 @@ pub scan_grows : (seen : List (Option Seen)) (reader word : ℕ) (o : Option See
     → map pin_word (take (reader + 1) (set seen reader o))
     ≡ map pin_word (take reader seen) ++ word ∷ []
 scan_grows seen reader word o inside is =
-    ap (map pin_word) (take_more_set seen reader o inside)
-    ∙ (map-append pin_word (take reader seen) (o ∷ [])
-    ∙ ap (λ (w : ℕ). map pin_word (take reader seen) ++ w ∷ []) (sym is))
+    rw (take_more_set seen reader o inside, map-append pin_word (take reader seen) (o ∷ []), is) refl
 
 -- what is read in the words by which readers announce is what they have announced
 words_seen : (seen : List (Option Seen)) → map seen_in (map pin_word seen) ≡ seen
 words_seen [] = refl
-words_seen (o ∷ os) = λ i. seen_in-pin_word o i ∷ words_seen os i
+words_seen (o ∷ os) = rw (seen_in-pin_word o, words_seen os) refl
 
 -- the versions that a scan keeps are those that are computed from what it saw
 pub kept_computed : (z : Base) (k : KeeperView) (h : Holding) (kept : Kept)
@@ -57,10 +38,7 @@ pub kept_computed : (z : Base) (k : KeeperView) (h : Holding) (kept : Kept)
     → kept ≡ kept_scanned (story z (entries k.log)) (map pin_word seen)
 unfolding kept_scanned
 kept_computed z k h kept seen as' tells is same =
-    let ledger = tells.holds.summary.ledger_is in
-    is ∙ ((λ i. kept_after (ledger.kept_is i) (ledger.newest_is i) (same i))
-    ∙ sym (ap (kept_after (story z (entries k.log)).kept (newest (story z (entries k.log))))
-    (words_seen seen)))
+    let ledger = tells.holds.summary.ledger_is in cc (words_seen seen)
 
 -- the ledger keeps newest
 pub newest_kept : (z : Base) (k : KeeperView) (h : Holding) → IsToldByLog z (entries k.log) h
@@ -68,8 +46,7 @@ pub newest_kept : (z : Base) (k : KeeperView) (h : Holding) → IsToldByLog z (e
 unfolding IsKept
 newest_kept z k h tells =
     let ledger = tells.holds.summary.ledger_is in
-    subst (λ (q : Kept × ℕ). IsIn q.0 q.1) (λ j. (sym ledger.kept_is j, sym ledger.newest_is j))
-    (tidy_told z (entries k.log) h tells).slots.newest_in
+    rw (ledger.kept_is, ledger.newest_is) (tidy_told z (entries k.log) h tells).slots.newest_in
 
 -- the versions that the ledger keeps after a collect are those of the collect's reply
 pub kept_replied : (z : Base) (log : List Entry) (h new : Holding) (reply : Reply) (kept : Kept)
@@ -77,20 +54,20 @@ pub kept_replied : (z : Base) (log : List Entry) (h new : Holding) (reply : Repl
     → kept_told (story z log) reply ≡ kept
 unfolding told
 kept_replied z log h new reply kept tells does is =
-    let e : Entry = record { command = Collect; reply = reply } in
-    let after = (does z log tells).1 in
-    sym (after.holds.summary.ledger_is.kept_is ∙ ap (λ (s : Story). s.kept) (story-push z log e))
-    ∙ is
+    let after = (does z log tells).1.holds.summary.ledger_is.kept_is in
+    cc (story-push z log record { command = Collect; reply = reply })
 
 -- where the ledger doesn't refuse the current command, one more version can be counted
 pub few_versions : (z : Base) (k : KeeperView) (h : Holding) (c : Command)
     → IsToldByLog z (entries k.log) h → refused_by_ledger h.ledger c ≡ None
     → newest (story z (entries k.log)) + 1 < 2 ^ 32
 few_versions z k h c tells judged =
-    let left = place_of_ledger h.ledger c judged in
-    let fewer = (can_answer z (entries k.log) h tells).balanced.newest_in in
-    let is = tells.holds.summary.ledger_is.newest_is in
-    omega arith
+    omega (
+      arith,
+      place_of_ledger h.ledger c judged,
+      can_answer z (entries k.log) h tells,
+      tells.holds.summary.ledger_is.newest_is,
+    )
 
 -- a collect that has seen each reader's word is worked once what it does is done
 pub collect_worked : (z : StoreId) (k u : KeeperView) (h new : Holding) (by : ℕ) (kept : Kept)
@@ -112,3 +89,6 @@ collect_worked z k u h new by kept seen reply hand scanned all does kept_is of_s
           (kept_replied z.base log h new reply kept hand.told does kept_is ∙ of_scan);
       does = does;
     }
+
+-- what a collect finds before it is worked
+pub ruleset collecting = (has_task, few_versions, newest_kept)

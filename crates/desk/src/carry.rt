@@ -16,6 +16,7 @@ use map_core::{Reply, Seen};
 use shelf::{KeeperSeat, Request, StoreName};
 
 /// Does all steps but the last of the current command, and its effect on what the desk holds.
+#[tactic(auto, using(crate::proofs::CarryLemmas::carrying))]
 fn work<Id: StoreName>(
     keeper: &mut KeeperSeat<Id>,
     holding: &mut Holding,
@@ -44,6 +45,7 @@ fn work<Id: StoreName>(
 /// and allocates no memory.
 ///
 /// `announced` has an element for each reader; a collect leaves there what its scan saw.
+#[tactic(auto, using(crate::proofs::CarryLemmas::carrying))]
 pub fn carry<Id: StoreName>(
     keeper: &mut KeeperSeat<Id>,
     holding: &mut Holding,

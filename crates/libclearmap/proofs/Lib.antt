@@ -2,3 +2,4 @@ mod CopyLemmas
 mod LayoutLemmas
 mod MarkLemmas
 mod TileLemmas
+mod Names

@@ -26,6 +26,7 @@ impl<'a> BitMap<'a> {
 
     /// A word of row `y`, 0 past the edge and where the row's band is known to be blank.
     #[inline(always)]
+    #[tactic(auto, using(crate::proofs::LayoutLemmas::word_in_bits))]
     pub fn word_at(&self, y: u16, index: usize) -> u64
         requires row { y < self.now.map.height }
         requires index { index < words_across self.now.map.width }
@@ -49,6 +50,7 @@ impl<'a> BitMap<'a> {
     }
 }
 
+#[tactic(auto, using(crate::proofs::LayoutLemmas::maps))]
 impl<'a> Rows for BitMap<'a> {
     ghost use Rattle.libclearmap.specs.Layouts.{cells_of_rows};
 

@@ -42,6 +42,7 @@ impl<'a> ByteMap<'a> {
     }
 }
 
+#[tactic(auto, using(crate::proofs::LayoutLemmas::maps))]
 impl<'a> Rows for ByteMap<'a> {
     ghost use Rattle.libclearmap.specs.Layouts.{cells_of_bytes};
 
@@ -86,6 +87,7 @@ impl<'a> Rows for ByteMap<'a> {
 }
 
 /// The bits of up to 64 cells, lowest first.
+#[tactic(auto, unfolding(bits::specs::Tiles::word_where))]
 fn word_of(bytes: &[u8], low: u8, high: u8) -> u64
     requires { length bytes.now ≤ 64 }
     ensures { result ≡ word_where (λ i. is_obstacle_byte low high (slice_index bytes.now i))

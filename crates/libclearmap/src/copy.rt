@@ -46,6 +46,7 @@ fn copy_row<R: Rows>(bitmap: &mut Bitmap, rows: &mut R, y: u16)
 }
 
 /// Writes the words of all rows, one row after another. Returns which bands are blank.
+#[tactic(auto, using(crate::proofs::MarkLemmas::bit_of_ones))]
 pub fn pack_rows<R: Rows>(rows: &mut R, words: &mut [u64]) -> u64
     requires { (R.cells rows.old).height * words_across (R.cells rows.old).width
         ≤ length words.old }

@@ -60,6 +60,7 @@ pub fn without(bits: u64, index: u16, word: u64) -> u64
 }
 
 /// The bands all of whose tiles have a mark.
+#[tactic(auto, using(crate::proofs::MarkLemmas::bit_of_ones))]
 pub fn blank_bands(marks: &[u64; 64]) -> u64
     ensures some { (band tile : ℕ) → band < 64 → tile < 64
         → bit_at (slice_index marks.now band) tile ≡ 0 → bit_at result band ≡ 0 }
@@ -75,6 +76,7 @@ pub fn blank_bands(marks: &[u64; 64]) -> u64
 
 /// The tiles of a band that have no mark.
 #[inline(always)]
+#[tactic(auto, using(crate::proofs::MarkLemmas::not_of_ones))]
 fn unmarked(marks: u64) -> u64
     ensures some { (tile : ℕ) → tile < 64 → bit_at marks tile ≡ 0 → bit_at result tile ≡ 1 }
     ensures none { ((tile : ℕ) → tile < 64 → bit_at marks tile ≡ 1) → result ≡ 0 }

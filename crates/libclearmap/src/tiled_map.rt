@@ -28,6 +28,7 @@ impl<'a> TiledMap<'a> {
     }
 }
 
+#[tactic(auto, using(crate::proofs::TileLemmas::tiled))]
 impl<'a> Rows for TiledMap<'a> {
     ghost use Rattle.libclearmap.specs.Layouts.{cells_of_bits};
 

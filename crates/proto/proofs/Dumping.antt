@@ -35,9 +35,7 @@ pub rows_on : (cells : Cells) (old between new : Wire) (from to : ℕ) (piece : 
     → HasWritten old (rows_text cells from) between → HasWritten between piece new
     → HasWritten old (rows_text cells to) new
 rows_on cells old between new from to piece order is first next =
-    subst (λ (t : List ℕ). HasWritten old t new)
-    (ap (λ (t : List ℕ). rows_text cells from ++ t) is
-    ∙ flat_map-rows (plain_digit cells) cells.width from to (omega (arith, order)))
+    rw (← flat_map-rows (plain_digit cells) cells.width from to (omega arith), ← is)
     (written_on old between new (rows_text cells from) piece first next)
 
 -- where the write of the lines of some rows failed, the write of the lines of all rows failed
@@ -48,17 +46,13 @@ pub rows_failed : (cells : Cells) (old between new : Wire) (from to all : ℕ) (
     → HasWritten old (rows_text cells from) between → HasNotWritten between piece new
     → HasNotWritten old (rows_text cells all) new
 rows_failed cells old between new from to all piece order within is first next =
-    let here : rows_text cells from ++ piece ≡ rows_text cells to =
-    ap (λ (t : List ℕ). rows_text cells from ++ t) is
-    ∙ flat_map-rows (plain_digit cells) cells.width from to (omega (arith, order)) in
-    let failed : HasNotWritten old (rows_text cells to) new =
-    subst (λ (t : List ℕ). HasNotWritten old t new) here
-    (failed_on old between new (rows_text cells from) piece first next) in
-    subst (λ (t : List ℕ). HasNotWritten old t new)
-    (flat_map-rows (plain_digit cells) cells.width to all within)
-    (failed_first old new (rows_text cells to)
-    (flat_map (plain_digit cells) (range_with_len (to * cells.width) ((all - to) * cells.width)))
-    failed)
+    let failed = failed_on old between new (rows_text cells from) piece first next in
+    rw (← flat_map-rows (plain_digit cells) cells.width to all within) (failed_first old new
+    (rows_text cells to) _ (rw (
+      ← flat_map-rows (plain_digit cells) cells.width from to
+          (omega arith),
+      ← is,
+    ) failed))
 
 -- a text that was written, or whose write failed, is said with the end that its write comes to
 pub said_after : (written : Result (Unit {0}) WriteFault) (end : Option End) (old new : Wire)
@@ -71,13 +65,7 @@ said_after (Err fault) end old new text is put = rw is (refl, put)
 dump_body : (store : StoreId) (old : CallerValue) (answer : Answer) (body : List ℕ)
     → IsDump (bitmap_held store old) answer body → body ≡ body_of store old answer
 dump_body store old (answers.Dumped n) body is = is.0
-dump_body store old (answers.Near near) body is = is.1
-dump_body store old (answers.Found found) body is = is.1
-dump_body store old (answers.Clear found) body is = is.1
-dump_body store old (answers.Done reply) body is = is.1
-dump_body store old (answers.Version version) body is = is.1
-dump_body store old answers.Bye body is = is.1
-dump_body store old (answers.Refused refusal) body is = is.1
+dump_body store old answer body is = is.1
 
 -- what DUMP is answered and said, with a pin or without one, is an answer to its line
 pub dumped : (store : StoreId) (written : Result (Unit {0}) WriteFault) (end : Option End)
@@ -94,13 +82,8 @@ dumped store written end before wire wire_after seat None heard is put =
     (put_alone written wire wire_after (reply_line (answers.Refused NotPinned)) put))
 dumped store written end before wire wire_after seat (Some version) heard is said =
     let old : CallerValue = record { seat = seat; pin = Some version } in
-    let body : said.body ≡ body_of store old said.answer =
-    dump_body store old said.answer said.body said.is_dump in
+    let body = dump_body store old said.answer said.body said.is_dump in
     exchanged store end before wire wire wire_after
     (Ok saids.dump) [] said.answer said.body old old heard refl (omega arith) (nothing_read wire)
-    record {
-      answered = subst (λ (b : List ℕ). IsDump (bitmap_held store old) said.answer b) body
-          said.is_dump;
-      same = refl;
-    } body
+    record { answered = rw body at said.is_dump; same = refl } body
     (said_after written end wire wire_after _ is said.put)

@@ -16,6 +16,8 @@ use Rattle.metric.specs.Digits.{is_digit, value_from}
 use Rattle.proto.specs.Asked.{first_of}
 use Rattle.proto.specs.Numbers.{coordinate, number, points, cell_of}
 use Rattle.proto.specs.Words.{words}
+use Rattle.std.proofs.lemmas.Bool.Decides.{nat_tests}
+use Rattle.std.proofs.lemmas.Grind.{common_steps}
 
 -- a byte is a blank
 abbrev is_blank : ℕ → Bool
@@ -23,15 +25,11 @@ is_blank byte = eqb byte 32
 
 -- a digit is no blank
 digit-plain : (byte : ℕ) → is_digit byte ≡ true → is_blank byte ≡ false
-digit-plain byte is =
-    let low = leb-true 48 byte (and_parts (leb 48 byte) (leb byte 57) is).0 in
-    ne_eqb byte 32 (λ same. omega (arith, low, same))
+digit-plain byte is = grind (arith, nat_tests)
 
 -- a digit has a value below ten
 pub digit-below : (byte : ℕ) → is_digit byte ≡ true → byte - 48 < 10
-digit-below byte is =
-    let high = leb-true byte 57 (and_parts (leb 48 byte) (leb byte 57) is).1 in
-    omega (arith, high)
+digit-below byte is = grind (arith, nat_tests)
 
 -- digits have no blank
 digits-plain : (word : List ℕ) → list_all is_digit word ≡ true
@@ -50,29 +48,24 @@ value_from-push so_far [] digit = refl
 value_from-push so_far (first ∷ others) digit =
     value_from-push (10 * so_far + (first - 48)) others digit
 
--- one more digit at the front
+-- a further digit at the front is one of the digits there
 pub front-digits : (bytes : List ℕ) (count : ℕ) → count < length bytes
     → is_digit (get_or bytes count 0) ≡ true → list_all is_digit (take count bytes) ≡ true
     → list_all is_digit (take (count + 1) bytes) ≡ true
 front-digits bytes count within next so_far =
-    ap (λ (l : List ℕ). list_all is_digit l) (take_more bytes count 0 within)
-    ∙ list_all-append is_digit (take count bytes) (get_or bytes count 0 ∷ [])
-    ∙ rw (so_far, next) refl
+    rw (take_more bytes count 0 within, list_all-append, so_far, next) refl
 
--- one more digit at the front makes ten times the value and the digit
+-- a further digit at the front makes ten times the value and the digit
 pub front-value : (bytes : List ℕ) (count value : ℕ) → count < length bytes
     → value ≡ value_from 0 (take count bytes)
     → 10 * value + (get_or bytes count 0 - 48) ≡ value_from 0 (take (count + 1) bytes)
 front-value bytes count value within so_far =
-    rw so_far (sym (ap (value_from 0) (take_more bytes count 0 within)
-    ∙ value_from-push 0 (take count bytes) (get_or bytes count 0)))
+    rw (so_far, take_more bytes count 0 within, value_from-push) refl
 
--- one more digit fits one more place
+-- a further digit fits a further place
 pub front-small : (value count digit : ℕ) → value < 10 ^ count → digit < 10
     → 10 * value + digit < 10 ^ (count + 1)
-front-small value count digit small few =
-    let all : 10 ^ (count + 1) ≡ 10 ^ count * 10 ^ 1 = pow-add 10 count 1 in
-    omega (arith, all, small, few)
+front-small value count digit small few = grind (arith, common_steps)
 
 -- nine digits fit 32 bits
 pub front-fits : (value count digit : ℕ) → value < 10 ^ count → count < 9 → digit < 10
@@ -87,14 +80,7 @@ short-number : (word : List ℕ) (value : ℕ) → 0 < length word → length wo
     → list_all is_digit word ≡ true → value ≡ value_from 0 word → value < 2 ^ 32
     → number word ≡ Some value
 unfolding number
-short-number word value some few digits is small =
-    let fits : value_from 0 word < 4294967296 = omega (arith, is, small) in
-    rw (
-      le-leb 1 (length word) (omega arith),
-      le-leb (length word) 10 (omega arith),
-      digits,
-      lt-ltb (value_from 0 word) 4294967296 fits,
-    ) (ap (λ (n : ℕ). Some n) (sym is))
+short-number word value some few digits is small = grind (arith, nat_tests)
 
 -- digits to the end of a line are its first number, and its last word
 pub short-end : (bytes : List ℕ) (count value : ℕ) → 0 < count → count ≤ 9 → count ≡ length bytes
@@ -102,14 +88,14 @@ pub short-end : (bytes : List ℕ) (count value : ℕ) → 0 < count → count �
     → value < 2 ^ 32 → first_of number (words bytes) ≡ Some (value, [])
 unfolding words
 short-end bytes count value some few all digits is small =
-    let whole : take count bytes ≡ bytes = take_all count bytes (omega (arith, all)) in
-    let one : slice_split is_blank bytes ≡ bytes ∷ [] =
-    slice_split_none is_blank bytes (digits-plain bytes (rw whole at digits)) in
-    let read : number bytes ≡ Some value = short-number bytes value (omega (arith, all, some))
-    (omega (arith, all, few)) (rw whole at digits) (rw whole at is) small in
-    rw (one, read) refl
+    let whole : take count bytes ≡ bytes = take_all count bytes (omega arith) in
+    let plain = rw whole at digits in
+    rw (
+      slice_split_none is_blank bytes (digits-plain bytes plain),
+      short-number bytes value (omega arith) (omega arith) plain (rw whole at is) small,
+    ) refl
 
--- digits up to a blank are the first number of a line, and what stands behind the blank is left
+-- digits up to a blank are the first number of a line, and what stands after the blank is left
 pub short-blank : (bytes : List ℕ) (count value : ℕ) → 0 < count → count ≤ 9
     → count < length bytes → get_or bytes count 0 ≡ 32
     → list_all is_digit (take count bytes) ≡ true → value ≡ value_from 0 (take count bytes)
@@ -120,17 +106,16 @@ short-blank bytes count value some few within blank digits is small =
     let word : List ℕ = take count bytes in
     let rest : List ℕ = drop (count + 1) bytes in
     let next : suc count ≡ count + 1 = omega arith in
-    let behind : drop count bytes ≡ 32 ∷ rest = drop-cons bytes count 0 within
-    ∙ rw (blank, next) refl in
-    let joined : bytes ≡ word ++ 32 ∷ rest = sym (take-append-drop count bytes)
-    ∙ ap (λ (l : List ℕ). word ++ l) behind in
+    let joined : word ++ 32 ∷ rest ≡ bytes = rw (← blank, ← next, ← drop-cons bytes count 0 within)
+    (take-append-drop count bytes) in
     let size : length word ≡ count = length-take-le count bytes (omega arith) in
-    let parts : slice_split is_blank bytes ≡ word ∷ slice_split is_blank rest =
-    ap (λ (l : List ℕ). slice_split is_blank l) joined
-    ∙ slice_split_at is_blank word 32 rest (digits-plain word digits) refl in
-    let read : number word ≡ Some value = short-number word value (omega (arith, size, some))
-    (omega (arith, size, few)) digits is small in
-    rw (parts, read, take_rest bytes (count + 1)) refl
+    let parts = rw joined at (slice_split_at is_blank word 32 rest (digits-plain word digits) refl)
+    in
+    rw (
+      parts,
+      short-number word value (omega arith) (omega arith) digits is small,
+      take_rest bytes (count + 1),
+    ) refl
 
 -- where a number and what is left were found, the first word spells it and the others are left
 first-is : (told : Option ℕ) (ws after : List (List ℕ)) (x : ℕ)

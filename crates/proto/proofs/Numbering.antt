@@ -1,5 +1,5 @@
 -- The numbers of a line are read one after another.
-use Rattle.std.proofs.Common.{◌≡◌, ℕ, List, ◌∷◌, Option, Some, None, refl, sym, ap, ◌∙◌}
+use Rattle.std.proofs.Common.{◌≡◌, ℕ, List, ◌∷◌, Option, Some, None, refl, sym, ap, ◌∙◌, arith}
 use Rattle.std.specs.Prelude.{option_map}
 use Rattle.proto.specs.Numbers.{number, join_number, numbers, only_number}
 use Rattle.proto.specs.Words.{words}
@@ -12,9 +12,7 @@ before n others = option_map (λ ns. n ∷ ns) others
 -- a number before others that are joined is not the only one
 only-joined : (n : ℕ) (first : Option ℕ) (others : Option (List ℕ))
     → only_number (before n (join_number first others)) ≡ None
-only-joined n None others = refl
-only-joined n (Some next) None = refl
-only-joined n (Some next) (Some ns) = refl
+only-joined n first others = grind arith
 
 -- a number before the words of a line is not the only one
 pub only_number-more : (n : ℕ) (rest : List (List ℕ)) (bytes : List ℕ)
@@ -22,5 +20,4 @@ pub only_number-more : (n : ℕ) (rest : List (List ℕ)) (bytes : List ℕ)
 unfolding numbers
 only_number-more n rest bytes e =
     let some = words-some bytes in
-    sym (ap only_number e ∙ ap (λ (ws : List (List ℕ)). only_number (before n (numbers ws))) some.2
-    ∙ only-joined n (number some.0) (numbers some.1))
+    rw (e, some.2) (sym (only-joined n (number some.0) (numbers some.1)))

@@ -16,9 +16,7 @@ before cell others = option_map (λ cells. cell ∷ cells) others
 -- a point before others that are joined is not the only one
 only-joined : (cell : Cell) (first : Option Cell) (others : Option (List Cell))
     → only (before cell (join_point first others)) ≡ None
-only-joined cell None others = refl
-only-joined cell (Some next) None = refl
-only-joined cell (Some next) (Some cells) = refl
+only-joined cell first others = grind arith
 
 -- a point and another word are more than one point
 only-word : (cell : Cell) (word : List ℕ) (others : List (List ℕ))
@@ -31,45 +29,36 @@ only-word cell word (next ∷ others) = only-joined cell (point word next) (poin
 pub only-more : (cell : Cell) (rest : List (List ℕ)) (bytes : List ℕ)
     → points rest ≡ before cell (points (words bytes)) → None ≡ only (points rest)
 only-more cell rest bytes e =
-    let some = words-some bytes in
-    sym (ap only e ∙ ap (λ (ws : List (List ℕ)). only (before cell (points ws))) some.2
-    ∙ only-word cell some.0 some.1)
+    let some = words-some bytes in rw (e, some.2, only-word cell some.0 some.1) refl
 
 -- where what is left of a line doesn't start with a point, it is no list of points
 pub points-none : (rest : Option (Bor (List ℕ))) → is_some rest ≡ true
     → HasNoFirst (words_left rest) → points (words_left rest) ≡ None
 points-none None some first = absurd cc
 points-none (Some bytes) some (inr none) = none
-points-none (Some bytes) some (inl empty) =
-    absurd (let word = words-some bytes.now in let e = sym empty ∙ word.2 in cc)
+points-none (Some bytes) some (inl empty) = absurd (let word = (words-some bytes.now).2 in cc)
 
 -- adding a point, and then the others, adds the point before the others
 added-more : (cells : List Cell) (cell : Cell) (others : Option (List Cell))
     → option_map (λ more. cells ++ more) (before cell others)
     ≡ option_map (λ more. (cells ++ cell ∷ []) ++ more) others
-added-more cells cell None = refl
-added-more cells cell (Some more) =
-    ap (λ (all : List Cell). Some all) (sym (append_assoc cells (cell ∷ []) more))
+added-more cells cell others = grind (arith, append_assoc)
 
 -- no point is kept in front of all
 pub kept-none : (cells : List Cell) (all : Option (List Cell))
     → all ≡ option_map (λ more. take 0 cells ++ more) all
-kept-none cells None = refl
-kept-none cells (Some more) = refl
+kept-none cells all = grind arith
 
--- a point is kept behind those before it, and in front of the others
+-- a point is kept after those before it, and in front of the others
 pub kept-more : (before after : List Cell) (count : ℕ) (cell : Cell)
     (all others : Option (List Cell)) → all ≡ option_map (λ more. take count before ++ more)
     (option_map (λ cells. cell ∷ cells) others)
     → take (count + 1) after ≡ take count before ++ cell ∷ []
     → all ≡ option_map (λ more. take (count + 1) after ++ more) others
 kept-more before after count cell all others is kept =
-    is ∙ added-more (take count before) cell others
-    ∙ ap (λ (front : List Cell). option_map (λ more. front ++ more) others) (sym kept)
+    rw (kept, ← added-more (take count before) cell others) is
 
 -- the points counted, and one more, are fewer than the bytes of a line can be
 pub few-more : (count left more : ℕ) → (0 < count → count + left ≤ 2 ^ 64) → more + 2 ≤ left
     → left ≤ 2 ^ 64 → count + 1 < 2 ^ 64
-few-more zero left more few fewer small = omega arith
-few-more (suc count) left more few fewer small = let some : 0 < suc count = omega arith in
-    omega (arith, few some)
+few-more count left more few fewer small = grind arith

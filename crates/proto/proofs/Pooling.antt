@@ -67,24 +67,20 @@ AreRelated-onto : {A B : Type 0} (Relation : A → B → Type 0) (xs before_xs :
     AreRelated Relation xs ys → AreRelated Relation before_xs before_ys
     → AreRelated Relation (reverse_aux xs before_xs) (reverse_aux ys before_ys)
 AreRelated-onto Relation [] before_xs [] before_ys none others = others
-AreRelated-onto Relation [] before_xs (y ∷ ys) before_ys none others = elim none [ ]
-AreRelated-onto Relation (x ∷ xs) before_xs [] before_ys none others = elim none [ ]
 AreRelated-onto Relation (x ∷ xs) before_xs (y ∷ ys) before_ys (first, more) others =
     AreRelated-onto Relation xs (x ∷ before_xs) ys (y ∷ before_ys) more (first, others)
+AreRelated-onto Relation xs before_xs ys before_ys none others = elim none [ ]
 
 -- two lists of one length are related where the elements of each place are
 AreRelated-each : {A : Type 0} (Relation : A → A → Type 0) (xs ys : List A) → length ys ≡ length xs
     → AreEach Relation xs ys → AreRelated Relation xs ys
 AreRelated-each Relation [] [] as_many each = tt
-AreRelated-each Relation [] (y ∷ ys) as_many each =
-    absurd (let no : suc (length ys) ≡ 0 = as_many in omega arith)
-AreRelated-each Relation (x ∷ xs) [] as_many each =
-    absurd (let no : 0 ≡ suc (length xs) = as_many in omega arith)
 AreRelated-each Relation (x ∷ xs) (y ∷ ys) as_many each = (
   each 0 x (omega arith),
-  AreRelated-each Relation xs ys (let here : suc (length ys) ≡ suc (length xs) = as_many in
-      omega arith) (λ i d below. each (suc i) d (omega arith)),
+  AreRelated-each Relation xs ys (cc) (λ i d below. each (suc i) d
+      (omega arith)),
 )
+AreRelated-each Relation _ _ as_many each = absurd (omega (arith, as_many))
 
 -- two lists whose elements are related as options are related themselves
 AreRelated-some : {A : Type 0} (Relation : A → A → Type 0) (xs ys : List A)
@@ -92,8 +88,7 @@ AreRelated-some : {A : Type 0} (Relation : A → A → Type 0) (xs ys : List A)
 AreRelated-some Relation [] [] related = tt
 AreRelated-some Relation (x ∷ xs) (y ∷ ys) (first, others) =
     (first, AreRelated-some Relation xs ys others)
-AreRelated-some Relation [] (y ∷ ys) related = related
-AreRelated-some Relation (x ∷ xs) [] related = related
+AreRelated-some Relation _ _ related = related
 
 -- seats that were filled from the end, changed one by one, and emptied from the end have related
 -- sessions

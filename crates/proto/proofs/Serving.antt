@@ -26,7 +26,7 @@ use Rattle.proto.specs.Exchanges.{Exchange, IsExchange, IsLineAnswer, IsQueryAns
 use Rattle.proto.specs.Exchanges.{body_of, counts, with_pin}
 use Rattle.proto.specs.Served.{AreExchanges, HasHeard, HasMoved, HasSaid, IsCutOff, IsCutShort}
 use Rattle.proto.specs.Served.{IsHeard, IsLineStop, IsPartOfExchange, IsQuit, IsSaid, IsServed}
-use Rattle.proto.specs.Served.{IsShort, IsFarewell, IsTail, IsTooMuch, IsUnsaid, IsWritten}
+use Rattle.proto.specs.Served.{IsShort, IsFarewell, IsLeft, IsTail, IsTooMuch, IsUnsaid, IsWritten}
 use Rattle.proto.specs.Served.{bytes_of, text_of}
 use Rattle.metric.specs.Wire.{Wire}
 use Rattle.proto.specs.Wire.{HasNotWritten, HasRead, HasWritten}
@@ -36,7 +36,7 @@ use Rattle.proto.proofs.Wires.{nothing_read, read_on}
 -- exchanges, and more after them, are exchanges one after another
 exchanges_on : (store : StoreId) (xs ys : List Exchange) (a b c : CallerValue)
     → AreExchanges store xs a b → AreExchanges store ys b c → AreExchanges store (xs ++ ys) a c
-exchanges_on store [] ys a b c same rest = subst (λ v. AreExchanges store ys v c) same rest
+exchanges_on store [] ys a b c same rest = rw same at rest
 exchanges_on store (x ∷ xs) ys a b c (between, first, others) rest =
     (between, first, exchanges_on store xs ys between b c others rest)
 
@@ -46,8 +46,7 @@ joined : (f : Exchange → List ℕ) (xs ys : List Exchange) (rest whole more : 
     → whole ≡ flat_map f xs ++ [] → more ≡ flat_map f ys ++ rest
     → whole ++ more ≡ flat_map f (xs ++ ys) ++ rest
 joined f xs ys rest whole more e d =
-    rw (e, d, append-nil (flat_map f xs), flat_map-append f xs ys)
-    (sym (append_assoc (flat_map f xs) (flat_map f ys) rest))
+    simp (e, d, append-nil, flat_map-append, append_assoc)
 
 -- what was written in two parts, one after the other, is written as one
 written_behind : (end : Option End) (before between after : Option (List ℕ)) (a b unsaid : List ℕ)
@@ -55,75 +54,65 @@ written_behind : (end : Option End) (before between after : Option (List ℕ)) (
     → IsWritten end before (a ++ b) unsaid after
 written_behind (Some ends.WriteFailed) before between after a b unsaid one (middle, two, front) =
     (middle, Appends-more before between middle a b one two, front)
-written_behind None before between after a b unsaid one two =
-    Appends-more before between after a b one two
-written_behind (Some ends.Quit) before between after a b unsaid one two =
-    Appends-more before between after a b one two
-written_behind (Some ends.EndOfInput) before between after a b unsaid one two =
-    Appends-more before between after a b one two
-written_behind (Some ends.LineTooLong) before between after a b unsaid one two =
-    Appends-more before between after a b one two
-written_behind (Some ends.TooMuchData) before between after a b unsaid one two =
-    Appends-more before between after a b one two
-written_behind (Some ends.ReadFailed) before between after a b unsaid one two =
-    Appends-more before between after a b one two
-written_behind (Some ends.Memory) before between after a b unsaid one two =
+written_behind end before between after a b unsaid one two =
     Appends-more before between after a b one two
 
 -- an unsaid text stays one where more exchanges come before it
 unsaid_behind : (end : Option End) (xs ys : List Exchange) (tail last unsaid : List ℕ)
     → IsUnsaid end ys tail last unsaid → IsUnsaid end (xs ++ ys) tail last unsaid
 unsaid_behind (Some ends.WriteFailed) xs ys tail last unsaid (inl (before, x, all, none, is)) =
-    inl (xs ++ before, x, ap (λ zs. xs ++ zs) all ∙ sym (append_assoc xs before (x ∷ [])), none, is)
+    inl (xs ++ before, x, rw (all, append_assoc) refl, none, is)
 unsaid_behind (Some ends.WriteFailed) xs ys tail last unsaid (inr farewell) = inr farewell
-unsaid_behind None xs ys tail last unsaid none = none
-unsaid_behind (Some ends.Quit) xs ys tail last unsaid none = none
-unsaid_behind (Some ends.EndOfInput) xs ys tail last unsaid none = none
-unsaid_behind (Some ends.LineTooLong) xs ys tail last unsaid none = none
-unsaid_behind (Some ends.TooMuchData) xs ys tail last unsaid none = none
-unsaid_behind (Some ends.ReadFailed) xs ys tail last unsaid none = none
-unsaid_behind (Some ends.Memory) xs ys tail last unsaid none = none
+unsaid_behind end xs ys tail last unsaid none = none
 
 -- what a stream read and wrote, and then read and wrote more, it read and wrote together
 moved_on : (end : Option End) (old between new : Wire) (b1 t1 u1 b2 t2 u2 : List ℕ)
     → HasMoved None old b1 t1 u1 between → HasMoved end between b2 t2 u2 new
     → HasMoved end old (b1 ++ b2) (t1 ++ t2) u2 new
-moved_on end old between new b1 t1 u1 b2 t2 u2 first next =
+moved_on end old between new b1 t1 u1 b2 t2 u2 first next = record {
+  taken = Takes-behind _ _ _ _ _ first.taken next.taken;
+  reached = next.reached;
+  written = written_behind end _ _ _ t1 t2 u2 first.written next.written;
+  reads = omega arith;
+  writes = omega arith;
+}
+
+-- a stream was served where it has read these exchanges and a tail, and said what belongs to them
+served_by : (store : StoreId) (end : Option End) (w1 w2 : Wire) (xs : List Exchange)
+    (tail last bytes said unsaid : List ℕ) (a b c : CallerValue) → AreExchanges store xs a b
+    → IsLeft end b c → IsTail end tail last → bytes ≡ flat_map bytes_of xs ++ tail
+    → said ++ unsaid ≡ flat_map text_of xs ++ last → IsUnsaid end xs tail last unsaid
+    → HasMoved end w1 bytes said unsaid w2 → IsServed store end w1 a w2 c
+served_by store end w1 w2 xs tail last bytes said unsaid a b c run left ends is texts none moved =
     record {
-      taken = Takes-behind old.rest between.rest new.rest b1 b2 first.taken next.taken;
-      reached = next.reached;
-      written = written_behind end old.held between.held new.held t1 t2 u2 first.written
-          next.written;
-      reads = (let e = first.reads in let f = next.reads in omega arith);
-      writes = (let e = first.writes in let f = next.writes in omega arith);
+      bytes = bytes;
+      said = said;
+      unsaid = unsaid;
+      served = record {
+        exchanges = xs;
+        tail = tail;
+        last = last;
+        behind = b;
+        run = run;
+        left = left;
+        ends = ends;
+        bytes_are = is;
+        texts_are = texts;
+        unsaid_is = none;
+      };
+      moved = moved;
     }
 
 -- a stream on which nothing was done was served so far
 pub serves_nothing : (store : StoreId) (w : Wire) (a : CallerValue) → IsServed store None w a w a
-serves_nothing store w a = record {
-  bytes = [];
-  said = [];
-  unsaid = [];
-  served = record {
-    exchanges = [];
-    tail = [];
-    last = [];
-    behind = a;
-    run = refl;
-    left = refl;
-    ends = (refl, refl);
-    bytes_are = refl;
-    texts_are = refl;
-    unsaid_is = refl;
-  };
-  moved = record {
-    taken = Takes-nothing w.rest;
-    reached = tt;
-    written = Appends-nothing w.held;
-    reads = omega arith;
-    writes = omega arith;
-  };
-}
+serves_nothing store w a =
+    served_by store None w w [] [] [] [] [] [] a a a refl refl (refl, refl) refl refl refl record {
+      taken = Takes-nothing w.rest;
+      reached = tt;
+      written = Appends-nothing w.held;
+      reads = omega arith;
+      writes = omega arith;
+    }
 
 -- a stream that was served up to a place, and then from there on, was served in all
 pub serves_on : (store : StoreId) (end : Option End) (w1 w2 w3 : Wire) (a b c : CallerValue)
@@ -131,83 +120,33 @@ pub serves_on : (store : StoreId) (end : Option End) (w1 w2 w3 : Wire) (a b c : 
 serves_on store end w1 w2 w3 a b c first next =
     let s = first.served in
     let r = next.served in
-    let none = s.ends in
-    let whole : first.said ≡ flat_map text_of s.exchanges ++ s.last = sym (append-nil first.said)
-    ∙ (ap (λ u. first.said ++ u) (sym s.unsaid_is) ∙ s.texts_are) in
-    let at : AreExchanges store s.exchanges a b =
-    subst (λ v. AreExchanges store s.exchanges a v) (sym s.left) s.run in
-    record {
-      bytes = first.bytes ++ next.bytes;
-      said = first.said ++ next.said;
-      unsaid = next.unsaid;
-      served = record {
-        exchanges = s.exchanges ++ r.exchanges;
-        tail = r.tail;
-        last = r.last;
-        behind = r.behind;
-        run = exchanges_on store s.exchanges r.exchanges a b r.behind at r.run;
-        left = r.left;
-        ends = r.ends;
-        bytes_are = joined bytes_of s.exchanges r.exchanges r.tail first.bytes next.bytes
-            (s.bytes_are ∙ ap (λ t. flat_map bytes_of s.exchanges ++ t) none.0) r.bytes_are;
-        texts_are = append_assoc first.said next.said next.unsaid
-            ∙ joined text_of s.exchanges r.exchanges r.last first.said (next.said ++ next.unsaid)
-            (whole ∙ ap (λ t. flat_map text_of s.exchanges ++ t) none.1) r.texts_are;
-        unsaid_is = unsaid_behind end s.exchanges r.exchanges r.tail r.last next.unsaid r.unsaid_is;
-      };
-      moved = moved_on end w1 w2 w3 first.bytes first.said first.unsaid next.bytes next.said
-          next.unsaid first.moved next.moved;
-    }
-
--- a stream that ends after these bytes with a last text, said or unsaid, was served to its end
-ended : (store : StoreId) (end : End) (w1 w2 : Wire) (tail last said unsaid : List ℕ)
-    (a b : CallerValue) → b.seat ≡ a.seat → IsTail (Some end) tail last → said ++ unsaid ≡ last
-    → IsUnsaid (Some end) [] tail last unsaid
-    → HasMoved (Some end) w1 tail said unsaid w2 → IsServed store (Some end) w1 a w2 b
-ended store end w1 w2 tail last said unsaid a b same is whole how moved =
-    record {
-      bytes = tail;
-      said = said;
-      unsaid = unsaid;
-      served = record {
-        exchanges = [];
-        tail = tail;
-        last = last;
-        behind = a;
-        run = refl;
-        left = same;
-        ends = is;
-        bytes_are = refl;
-        texts_are = whole;
-        unsaid_is = how;
-      };
-      moved = moved;
-    }
+    let whole = rw (s.unsaid_is, append-nil first.said) at s.texts_are in
+    served_by store end w1 w3 (s.exchanges ++ r.exchanges) r.tail r.last (first.bytes ++ next.bytes)
+    (first.said ++ next.said) next.unsaid a r.behind c
+    (exchanges_on store s.exchanges r.exchanges a b r.behind (rw (← s.left) at s.run) r.run)
+    r.left r.ends
+    (joined bytes_of s.exchanges r.exchanges r.tail _ _ (rw s.ends.0 at s.bytes_are) r.bytes_are)
+    (rw append_assoc (joined text_of s.exchanges r.exchanges r.last _ (next.said ++ next.unsaid)
+    (rw s.ends.1 at whole) r.texts_are))
+    (unsaid_behind end s.exchanges r.exchanges r.tail r.last next.unsaid r.unsaid_is)
+    (moved_on end w1 w2 w3 _ _ _ _ _ _ first.moved next.moved)
 
 -- where bytes were read, and then a text's write failed, nothing is said, and the text is left
 -- unsaid
 unsaid_moved : (w1 w2 w3 : Wire) (bytes text : List ℕ) → HasRead 0 w1 bytes w2
     → HasNotWritten w2 text w3 → HasMoved (Some ends.WriteFailed) w1 bytes [] text w3
-unsaid_moved w1 w2 w3 bytes text read written =
-    record {
-      taken = subst (λ r. Takes w1.rest bytes r) (sym written.rest) read.taken;
-      reached = tt;
-      written = (
-        w1.held,
-        Appends-nothing w1.held,
-        subst (λ h. AppendsFront h text w3.held) read.held written.front,
-      );
-      reads = written.reads ∙ read.reads;
-      writes = (let e = written.writes in let f = read.writes in omega arith);
-    }
+unsaid_moved w1 w2 w3 bytes text read written = record {
+  taken = rw written.rest read.taken;
+  reached = tt;
+  written = (w1.held, Appends-nothing w1.held, rw read.held at written.front);
+  reads = written.reads ∙ read.reads;
+  writes = omega arith;
+}
 
 -- nothing is written where this many reads failed after the last bytes
 silent : (end : End) (faults : ℕ) (w1 w2 : Wire) (bytes : List ℕ) → HasRead faults w1 bytes w2
     → Appends w1.held [] w2.held × (w2.failed_writes ≡ w1.failed_writes + 0)
-silent end faults w1 w2 bytes read = (
-  subst (λ h. Appends w1.held [] h) (sym read.held) (Appends-nothing w1.held),
-  (let e = read.writes in omega arith),
-)
+silent end faults w1 w2 bytes read = (rw read.held (Appends-nothing w1.held), omega arith)
 
 -- where the input is cut off in an exchange, the stream ends, and the part of it that was read is
 -- the tail
@@ -215,24 +154,14 @@ cut_ended : (store : StoreId) (end : End) (w1 w2 : Wire) (bytes : List ℕ) (a :
     → IsPartOfExchange bytes → IsCutOff end w1 bytes w2 → IsServed store (Some end) w1 a w2 a
 cut_ended store end w1 w2 bytes a part (inl (is, read, out)) =
     let m = silent ends.EndOfInput 0 w1 w2 bytes read in
-    rw (is) (ended store ends.EndOfInput w1 w2 bytes [] [] [] a a refl
-    (part, refl) refl refl record {
-      taken = read.taken;
-      reached = out;
-      written = m.0;
-      reads = read.reads;
-      writes = m.1;
-    })
+    rw is (served_by store (Some ends.EndOfInput) w1 w2 [] bytes [] bytes [] [] a a a refl refl
+    (part, refl) refl refl refl
+    record { taken = read.taken; reached = out; written = m.0; reads = read.reads; writes = m.1 })
 cut_ended store end w1 w2 bytes a part (inr (is, read)) =
     let m = silent ends.ReadFailed 1 w1 w2 bytes read in
-    rw (is) (ended store ends.ReadFailed w1 w2 bytes [] [] [] a a refl
-    (part, refl) refl refl record {
-      taken = read.taken;
-      reached = tt;
-      written = m.0;
-      reads = read.reads;
-      writes = m.1;
-    })
+    rw is (served_by store (Some ends.ReadFailed) w1 w2 [] bytes [] bytes [] [] a a a refl refl
+    (part, refl) refl refl refl
+    record { taken = read.taken; reached = tt; written = m.0; reads = read.reads; writes = m.1 })
 
 -- where the input is cut off after more bytes, it is cut off after all of them
 cut_on : (end : End) (w1 w2 w3 : Wire) (a b : List ℕ) → HasRead 0 w1 a w2 → IsCutOff end w2 b w3
@@ -254,10 +183,10 @@ said_moved : (w1 w2 w3 : Wire) (bytes text : List ℕ) → HasRead 0 w1 bytes w2
     → Takes w1.rest bytes w3.rest × Appends w1.held text w3.held
     × (w3.failed_reads ≡ w1.failed_reads + 0) × (w3.failed_writes ≡ w1.failed_writes + 0)
 said_moved w1 w2 w3 bytes text read written = (
-  subst (λ r. Takes w1.rest bytes r) (sym written.rest) read.taken,
-  subst (λ h. Appends h text w3.held) read.held written.appended,
+  rw written.rest read.taken,
+  rw read.held at written.appended,
   written.reads ∙ read.reads,
-  (let e = written.writes in let f = read.writes in omega arith),
+  omega arith,
 )
 
 -- a last text ends the stream as planned, or by its failed write
@@ -270,11 +199,11 @@ farewell : (store : StoreId) (planned end : End) (w1 w2 w3 : Wire) (tail last : 
     → IsFarewell tail last → HasRead 0 w1 tail w2 → HasSaid planned end w2 last w3
     → IsServed store (Some end) w1 a w3 b
 farewell store planned end w1 w2 w3 tail last a b same is none moved text read (inl (e, written)) =
-    rw (e) (ended store planned w1 w3 tail last last [] a b same is (append-nil last) none
-    (moved (said_moved w1 w2 w3 tail last read written)))
+    rw e (served_by store (Some planned) w1 w3 [] tail last tail last [] a a b refl same is refl
+    (append-nil last) none (moved (said_moved w1 w2 w3 tail last read written)))
 farewell store planned end w1 w2 w3 tail last a b same is none moved text read (inr (e, written)) =
-    rw (e) (ended store ends.WriteFailed w1 w3 tail last [] last a b same (inr text) refl
-    (inr (text, refl)) (unsaid_moved w1 w2 w3 tail last read written))
+    rw e (served_by store (Some ends.WriteFailed) w1 w3 [] tail last tail [] last a a b refl same
+    (inr text) refl refl (inr (text, refl)) (unsaid_moved w1 w2 w3 tail last read written))
 
 -- a line that is too long ends the stream with its refusal
 pub too_long : (store : StoreId) (end : End) (w1 w2 w3 : Wire) (bytes : List ℕ) (a : CallerValue)
@@ -294,20 +223,14 @@ too_long store end w1 w2 w3 bytes a (inr (line, inr cut)) said =
 asks_points : (said : Result LineView Refusal) → IsOkAnd said SaysPoints → (query : QueryView)
     × (said ≡ Ok (saids.asked query)) × HasPoints query
 asks_points (Ok (saids.asked query)) points = (query, refl, points)
-asks_points (Ok (saids.told t)) points = absurd points
-asks_points (Ok (saids.stamp x y n)) points = absurd points
-asks_points (Ok saids.pin) points = absurd points
-asks_points (Ok saids.unpin) points = absurd points
-asks_points (Ok saids.dump) points = absurd points
-asks_points (Ok saids.quit) points = absurd points
-asks_points (Err refusal) points = absurd points
+asks_points _ points = absurd points
 
 -- what was heard counts as many bytes as the line
 heard_counts : (said heard : Result LineView Refusal) → IsHeard said heard
     → counts heard ≡ counts said
 heard_counts said heard (inl e) = ap counts e
-heard_counts said heard (inr (e, points)) = let (query, is, has) = asks_points said points in
-    ap counts e ∙ sym (ap counts is)
+heard_counts said heard (inr (e, points)) =
+    let (query, is, has) = asks_points said points in rw (e, is) refl
 
 -- a line that counts too many bytes ends the stream with its refusal
 pub too_much : (store : StoreId) (end : End) (w1 w2 w3 : Wire) (heard : Result LineView Refusal)
@@ -315,13 +238,11 @@ pub too_much : (store : StoreId) (end : End) (w1 w2 w3 : Wire) (heard : Result L
     → HasSaid ends.TooMuchData end w2 (reply_line (answers.Refused refusals.TooMuchData)) w3
     → IsServed store (Some end) w1 a w3 a
 too_much store end w1 w2 w3 heard a hears many said =
-    let much : IsTooMuch (hears.line ++ 10 ∷ []) =
-    record {
+    let much : IsTooMuch (hears.line ++ 10 ∷ []) = record {
       line = hears.line;
       line_is = hears.line_is;
       bytes_are = refl;
-      many = subst (λ n. 17100000 < n) (heard_counts (line_said hears.line) heard hears.heard_is)
-          many;
+      many = rw (heard_counts (line_said hears.line) heard hears.heard_is) at many;
     } in
     farewell store ends.TooMuchData end w1 w2 w3 _ _ a a refl (much, refl) refl
     (λ m. record { taken = m.0; reached = tt; written = m.1; reads = m.2; writes = m.3 })
@@ -330,9 +251,8 @@ too_much store end w1 w2 w3 heard a hears many said =
 -- where QUIT was heard, the line says QUIT
 heard_quit : (said heard : Result LineView Refusal) → IsHeard said heard → heard ≡ Ok saids.quit
     → said ≡ Ok saids.quit
-heard_quit said heard (inl e) quit = sym e ∙ quit
-heard_quit said heard (inr (e, points)) quit =
-    let no_quit : Err Memory ≡ Ok saids.quit = sym e ∙ quit in absurd (cc)
+heard_quit said heard (inl e) quit = cc
+heard_quit said heard (inr (e, points)) quit = absurd (cc)
 
 -- QUIT ends the stream with its reply, where the pin was left before
 pub quits : (store : StoreId) (end : End) (w1 w2 w3 : Wire) (a b : CallerValue) → b.seat ≡ a.seat
@@ -357,17 +277,15 @@ pub counted_cut : (store : StoreId) (end : End) (w1 w2 w3 : Wire) (heard : Resul
     → IsServed store (Some end) w1 a w3 a
 counted_cut store end w1 w2 w3 heard a hears most short =
     let all = heard_counts (line_said hears.line) heard hears.heard_is in
-    let part : IsShort (hears.line ++ (10 ∷ short.bytes)) =
-    record {
+    let part : IsShort (hears.line ++ (10 ∷ short.bytes)) = record {
       line = hears.line;
       line_is = hears.line_is;
-      most = subst (λ n. n ≤ 17100000) all most;
+      most = rw all at most;
       counted = short.bytes;
-      few = subst (λ n. length short.bytes < n) all short.few;
+      few = rw all at short.few;
       bytes_are = refl;
     } in
-    cut_ended store end w1 w3 _ a (inr part)
-    (subst (λ t. IsCutOff end w1 t w3) (append_assoc hears.line (10 ∷ []) short.bytes)
+    cut_ended store end w1 w3 _ a (inr part) (rw append_assoc at
     (cut_on end w1 w2 w3 (hears.line ++ 10 ∷ []) short.bytes hears.read short.cut))
 
 -- out of memory for the points of a query is answered as the query may be
@@ -386,13 +304,10 @@ points_refused store query (Some v) old answer new is points refused =
 heard_answer : (store : StoreId) (said heard : Result LineView Refusal) (bytes : List ℕ)
     (old : CallerValue) (answer : Answer) (new : CallerValue) → IsHeard said heard
     → IsLineAnswer store heard bytes old answer new → IsLineAnswer store said bytes old answer new
-heard_answer store said heard bytes old answer new (inl e) answered =
-    subst (λ h. IsLineAnswer store h bytes old answer new) e answered
+heard_answer store said heard bytes old answer new (inl e) answered = rw e at answered
 heard_answer store said heard bytes old answer new (inr (e, points)) answered =
     let (query, is, has) = asks_points said points in
-    subst (λ s. IsLineAnswer store s bytes old answer new) (sym is)
-    (points_refused store query old.pin old answer new refl has
-    (subst (λ h. IsLineAnswer store h bytes old answer new) e answered))
+    rw is (points_refused store query old.pin old answer new refl has (rw e at answered))
 
 -- a text is itself with nothing after it, twice
 one : (t : List ℕ) → t ≡ (t ++ []) ++ []
@@ -404,43 +319,13 @@ exchanged_by : (store : StoreId) (end : Option End) (w1 w2 w3 : Wire) (x : Excha
     → IsSaid end w2 (text_of x) w3 → IsServed store end w1 a w3 b
 exchanged_by store None w1 w2 w3 x a b is read written =
     let m = said_moved w1 w2 w3 (bytes_of x) (text_of x) read written in
-    record {
-      bytes = bytes_of x;
-      said = text_of x;
-      unsaid = [];
-      served = record {
-        exchanges = x ∷ [];
-        tail = [];
-        last = [];
-        behind = b;
-        run = (b, is, refl);
-        left = refl;
-        ends = (refl, refl);
-        bytes_are = one (bytes_of x);
-        texts_are = sym (append-nil (text_of x ++ []));
-        unsaid_is = refl;
-      };
-      moved = record { taken = m.0; reached = tt; written = m.1; reads = m.2; writes = m.3 };
-    }
+    served_by store None w1 w3 (x ∷ []) [] [] (bytes_of x) (text_of x) [] a b b (b, is, refl) refl
+    (refl, refl) (one (bytes_of x)) (sym (append-nil (text_of x ++ []))) refl
+    record { taken = m.0; reached = tt; written = m.1; reads = m.2; writes = m.3 }
 exchanged_by store (Some end) w1 w2 w3 x a b is read (failed, written) =
-    rw (failed) record {
-      bytes = bytes_of x;
-      said = [];
-      unsaid = text_of x;
-      served = record {
-        exchanges = x ∷ [];
-        tail = [];
-        last = [];
-        behind = b;
-        run = (b, is, refl);
-        left = refl;
-        ends = inl (refl, refl);
-        bytes_are = one (bytes_of x);
-        texts_are = one (text_of x);
-        unsaid_is = inl ([], x, refl, refl, refl);
-      };
-      moved = unsaid_moved w1 w2 w3 (bytes_of x) (text_of x) read written;
-    }
+    rw failed (served_by store (Some ends.WriteFailed) w1 w3 (x ∷ []) [] [] (bytes_of x) []
+    (text_of x) a b b (b, is, refl) refl (inl (refl, refl)) (one (bytes_of x)) (one (text_of x))
+    (inl ([], x, refl, refl, refl)) (unsaid_moved w1 w2 w3 (bytes_of x) (text_of x) read written))
 
 -- a line that was heard is served where its counted bytes were read, it was answered, and its
 -- answer was said
@@ -453,20 +338,18 @@ pub exchanged : (store : StoreId) (end : Option End) (w1 w2 w3 w4 : Wire)
     → IsSaid end w3 (reply_line answer ++ body) w4 → IsServed store end w1 a w4 b
 exchanged store end w1 w2 w3 w4 heard counted answer body a b hears as_many few read answered
     body_is said =
-    let x : Exchange = record { line = hears.line; counted = counted; answer = answer; body = body }
-    in
     let all = heard_counts (line_said hears.line) heard hears.heard_is in
-    exchanged_by store end w1 w3 w4 x a b
+    exchanged_by store end w1 w3 w4
+    record { line = hears.line; counted = counted; answer = answer; body = body } a b
     record {
       line = hears.line_is;
       counted = as_many ∙ all;
-      few = subst (λ n. n ≤ 17100000) all few;
+      few = rw all at few;
       answer = heard_answer store (line_said hears.line) heard counted a answer b hears.heard_is
           answered;
       body = body_is;
     }
-    (subst (λ t. HasRead 0 w1 t w3) (append_assoc hears.line (10 ∷ []) counted)
-    (read_on 0 w1 w2 w3 (hears.line ++ 10 ∷ []) counted hears.read read))
+    (rw append_assoc at (read_on 0 w1 w2 w3 (hears.line ++ 10 ∷ []) counted hears.read read))
     said
 
 -- nothing follows the reply line of a line that was heard and isn't DUMP
@@ -479,7 +362,7 @@ pub replied : (store : StoreId) (end : Option End) (w1 w2 w3 w4 : Wire)
 replied store end w1 w2 w3 w4 heard counted answer a b hears other as_many few read answered said =
     exchanged store end w1 w2 w3 w4 heard counted answer [] a b hears as_many few read answered
     (plain_body store heard counted a b answer other answered)
-    (subst (λ t. IsSaid end w3 t w4) (sym (append-nil (reply_line answer))) said)
+    (rw (append-nil (reply_line answer)) said)
 
 -- a line that was heard, isn't DUMP and counts no bytes is served where it was answered, and its
 -- answer was said
@@ -497,21 +380,5 @@ pub serves_left : (store : StoreId) (end : End) (w1 w2 : Wire) (a b c : CallerVa
     → c.seat ≡ b.seat → IsServed store (Some end) w1 a w2 b → IsServed store (Some end) w1 a w2 c
 serves_left store end w1 w2 a b c same served =
     let s = served.served in
-    record {
-      bytes = served.bytes;
-      said = served.said;
-      unsaid = served.unsaid;
-      served = record {
-        exchanges = s.exchanges;
-        tail = s.tail;
-        last = s.last;
-        behind = s.behind;
-        run = s.run;
-        left = same ∙ s.left;
-        ends = s.ends;
-        bytes_are = s.bytes_are;
-        texts_are = s.texts_are;
-        unsaid_is = s.unsaid_is;
-      };
-      moved = served.moved;
-    }
+    served_by store (Some end) w1 w2 s.exchanges s.tail s.last _ _ _ a s.behind c s.run
+    (same ∙ s.left) s.ends s.bytes_are s.texts_are s.unsaid_is served.moved

@@ -25,9 +25,7 @@ refusal_dumps refusal old new n refused = let e = refused.answer_is in cc
 query_dumps : (distance : ℕ → ℕ → ℕ) (cells : Cells) (edge : Edge) (query : QueryView) (n : ℕ)
     → IsAnswerBy distance cells edge query (answers.Dumped n) → ⊥
 query_dumps distance cells edge (queries.at metric cell) n answered = answered
-query_dumps distance cells edge (queries.rect metric x0 y0 x1 y1) n answered = answered
-query_dumps distance cells edge (queries.path metric points) n answered = answered
-query_dumps distance cells edge (queries.clear_of metric d points) n answered = answered
+query_dumps distance cells edge query n answered = answered
 
 -- an answer that is no dump where there is a pin is none without a pin either
 pinned_dumps : (pin : Option ℕ) (old new : CallerValue) (n : ℕ) (answered : ℕ → Type 0)
@@ -85,12 +83,6 @@ line_dumps store (Ok saids.quit) bytes old new n other answered = answered
 pub plain_body : (store : StoreId) (said : Result LineView Refusal) (bytes : List ℕ)
     (old new : CallerValue) (answer : Answer) → IsNoDump said
     → IsLineAnswer store said bytes old answer new → [] ≡ body_of store old answer
-plain_body store said bytes old new (answers.Near near) other answered = refl
-plain_body store said bytes old new (answers.Found found) other answered = refl
-plain_body store said bytes old new (answers.Clear found) other answered = refl
-plain_body store said bytes old new (answers.Done reply) other answered = refl
-plain_body store said bytes old new (answers.Version version) other answered = refl
 plain_body store said bytes old new (answers.Dumped n) other answered =
     absurd (line_dumps store said bytes old new n other answered)
-plain_body store said bytes old new answers.Bye other answered = refl
-plain_body store said bytes old new (answers.Refused refusal) other answered = refl
+plain_body store said bytes old new answer other answered = refl

@@ -10,6 +10,7 @@ use Rattle.std.proofs.lemmas.List.Elements.{All-cons, All-nil, All-head, All-tai
 use Rattle.std.proofs.lemmas.List.Splits.{slice_split_first, slice_split_none, slice_split_at}
 use Rattle.std.proofs.lemmas.List.Splits.{join_with_byte-slice_split}
 use Rattle.proto.specs.Words.{words, IsWord}
+use Rattle.std.proofs.lemmas.Bool.Decides.{nat_tests}
 use Rattle.pbm.proofs.Steps.{chosen}
 
 -- a byte is a blank
@@ -20,22 +21,11 @@ is_blank byte = eqb byte 32
 abbrev is_at : ℕ → ℕ → Bool
 is_at separator byte = eqb byte separator
 
--- a byte that doesn't split, before bytes that aren't split, makes them one part still
-whole-more : (separator byte : ℕ) (bytes : List ℕ) (b : Bool)
-    → (length bytes ≤ position_or_len (is_at separator) bytes
-    → slice_split (is_at separator) bytes ≡ bytes ∷ [])
-    → length bytes + 1 ≤ cond (not b) (1 + position_or_len (is_at separator) bytes) 0
-    → cond b ([] ∷ slice_split (is_at separator) bytes)
-    (onto_first byte (slice_split (is_at separator) bytes)) ≡ (byte ∷ bytes) ∷ []
-whole-more separator byte bytes true rest few = absurd (omega arith)
-whole-more separator byte bytes false rest few = rw (rest (omega arith)) refl
-
 -- bytes without a place to split are one part
 whole : (separator : ℕ) (bytes : List ℕ) → length bytes ≤ position_or_len (is_at separator) bytes
     → slice_split (is_at separator) bytes ≡ bytes ∷ []
 whole separator [] few = refl
-whole separator (byte ∷ bytes) few =
-    whole-more separator byte bytes (is_at separator byte) (whole separator bytes) (omega arith)
+whole separator (byte ∷ bytes) few = grind (arith, nat_tests, whole separator bytes)
 
 -- where a place to split is found, the first part ends there
 pub parts-first : (separator : ℕ) (bytes : List ℕ) (end : ℕ)
@@ -44,25 +34,17 @@ pub parts-first : (separator : ℕ) (bytes : List ℕ) (end : ℕ)
     ≡ take end bytes ∷ slice_split (λ byte. eqb byte separator)
     (take (length bytes - (end + 1)) (drop (end + 1) bytes))
 parts-first separator bytes end e =
-    elim (chosen (ltb (position_or_len (is_at separator) bytes) (length bytes))
-    (Some (position_or_len (is_at separator) bytes)) None (Some end) e) [
-      | inl found ↦
-          let at : position_or_len (is_at separator) bytes ≡ end = let same = found.1 in cc in
-          rw (take_rest bytes (end + 1), ← at)
-          (slice_split_first (is_at separator) bytes 0 (ltb-true _ _ found.0))
-      | inr none ↦ absurd (let no = none.1 in cc)
-    ]
+    rw (take_rest bytes (end + 1)) (grind (
+      arith,
+      nat_tests,
+      slice_split_first (is_at separator) bytes 0,
+    ))
 
 -- where no place to split is found, all of the bytes are one part
 pub parts-one : (separator : ℕ) (bytes : List ℕ)
     → position (λ byte. eqb byte separator) bytes ≡ None
     → slice_split (λ byte. eqb byte separator) bytes ≡ bytes ∷ []
-parts-one separator bytes e =
-    elim (chosen (ltb (position_or_len (is_at separator) bytes) (length bytes))
-    (Some (position_or_len (is_at separator) bytes)) None None e) [
-      | inl found ↦ absurd (let no = found.1 in cc)
-      | inr none ↦ whole separator bytes (ltb-false _ _ none.0)
-    ]
+parts-one separator bytes e = grind (arith, nat_tests, whole separator bytes)
 
 -- bytes that are split have a part
 pub parts-some : (separator : ℕ) (bytes : List ℕ) → (part : List ℕ) × (others : List (List ℕ))

@@ -1,6 +1,6 @@
 -- Bytes that are read from a wire one after another, and texts that are written.
 use Rattle.std.proofs.Common.{ℕ, List, [], ◌++◌, Result, Ok, Err, refl, sym, ap, subst, ◌∙◌, arith}
-use Rattle.std.proofs.Common.{append_assoc}
+use Rattle.std.proofs.Common.{append_assoc, rules}
 use Rattle.std.proofs.lemmas.List.{append-nil}
 use Rattle.metric.specs.Stream.{AppendsFront}
 use Rattle.metric.proofs.Appending.{Appends-more, AppendsFront-more}
@@ -19,35 +19,22 @@ nothing_read w =
 pub read_on : (faults : ℕ) (old between new : Wire) (a b : List ℕ) → HasRead 0 old a between
     → HasRead faults between b new → HasRead faults old (a ++ b) new
 read_on faults old between new a b first next =
-    record {
-      taken = Takes-behind old.rest between.rest new.rest a b first.taken next.taken;
-      held = next.held ∙ first.held;
-      reads = (let e = first.reads in let f = next.reads in omega arith);
-      writes = next.writes ∙ first.writes;
-    }
+    let taken = Takes-behind old.rest between.rest new.rest a b first.taken next.taken in
+    search (rules, arith)
 
 -- a text that was written, and one more after it, were written together
 pub written_on : (old between new : Wire) (a b : List ℕ) → HasWritten old a between
     → HasWritten between b new → HasWritten old (a ++ b) new
 written_on old between new a b first next =
-    record {
-      rest = next.rest ∙ first.rest;
-      appended = Appends-more old.held between.held new.held a b first.appended next.appended;
-      reads = next.reads ∙ first.reads;
-      writes = next.writes ∙ first.writes;
-    }
+    let appended = Appends-more _ _ _ a b first.appended next.appended in search (rules, arith)
 
 -- a text that was written, and a next one whose write failed, are a text whose write failed
 pub failed_on : (old between new : Wire) (a b : List ℕ) → HasWritten old a between
     → HasNotWritten between b new → HasNotWritten old (a ++ b) new
 failed_on old between new a b first next =
-    record {
-      rest = next.rest ∙ first.rest;
-      front = subst (λ t. AppendsFront old.held (a ++ t) new.held) (append-nil b)
-          (AppendsFront-more old.held between.held new.held a b [] first.appended next.front);
-      reads = next.reads ∙ first.reads;
-      writes = (let e = next.writes in let f = first.writes in omega arith);
-    }
+    let front = AppendsFront-more _ _ _ a b [] first.appended next.front in
+    let all = rw (append-nil b) at front in
+    search (rules, arith)
 
 -- where the write of a text failed, that of a longer text which starts with it failed too
 pub failed_first : (old new : Wire) (a b : List ℕ) → HasNotWritten old a new
@@ -76,9 +63,9 @@ put_on (Err fault) old between new a b first next = failed_on old between new a 
 pub put_last : (put : Result (Unit {0}) WriteFault) (old between new : Wire) (a : List ℕ)
     → HasWritten old a between → HasPut put between [] new → HasPut put old a new
 put_last put old between new a first next =
-    subst (λ t. HasPut put old t new) (append-nil a) (put_on put old between new a [] first next)
+    rw (← append-nil a) (put_on put old between new a [] first next)
 
 -- a text is put with nothing after it
 pub put_alone : (put : Result (Unit {0}) WriteFault) (old new : Wire) (a : List ℕ)
     → HasPut put old a new → HasPut put old (a ++ []) new
-put_alone put old new a is = subst (λ t. HasPut put old t new) (sym (append-nil a)) is
+put_alone put old new a is = rw (append-nil a) is

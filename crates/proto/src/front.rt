@@ -11,7 +11,7 @@ ghost use Rattle.proto.specs.Words.{bytes_left, words, words_left};
 use crate::number::read_number;
 use crate::split::next_word;
 
-/// The most digits that are read as they come. Any number of so many fits 32 bits.
+/// The most digits that are read as they come. Any number of that many fits 32 bits.
 const FEW_DIGITS: usize = 9;
 
 /// The value of the digits at the front of the bytes, and how many they are, at most nine.

@@ -139,7 +139,7 @@ fn is_short(rest: Option<&[u8]>) -> bool {
     }
 }
 
-/// These points, if a path may have so many.
+/// These points, if a path may have that many.
 fn kept_path(alloc: Global, cells: &[Cell]) -> Result<Vec<Cell>, Refusal>
     ensures cells { IfOk result (λ kept. path_of (Some cells.now) ≡ Ok kept.items) }
     ensures refusal { IfErr result (λ refusal. refusal ≢ Refusal.Memory

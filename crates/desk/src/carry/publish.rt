@@ -41,6 +41,7 @@ fn write_rows<Id: StoreName>(
 
 /// Stores the rows of the tile at a position if the draft has its own there. Returns how many tiles
 /// it stored: 0 or 1.
+#[tactic(auto, using(crate::proofs::PublishSteps::storing))]
 fn write_tile<Id: StoreName>(
     keeper: &mut KeeperSeat<Id>,
     plan: Plan,
@@ -70,6 +71,7 @@ fn write_tile<Id: StoreName>(
 
 /// Stores the rows of all of the draft's own tiles, by position, and returns how many tiles those
 /// are.
+#[tactic(auto, using(crate::proofs::PublishSteps::storing))]
 fn write_tiles<Id: StoreName>(
     keeper: &mut KeeperSeat<Id>,
     plan: Plan,
@@ -90,6 +92,7 @@ fn write_tiles<Id: StoreName>(
 }
 
 /// Stores the directory of the next version, after the rows of the draft's own tiles.
+#[tactic(auto, using(crate::proofs::PublishSteps::storing))]
 fn write_directory<Id: StoreName>(
     keeper: &mut KeeperSeat<Id>,
     plan: Plan,
@@ -113,6 +116,7 @@ fn write_directory<Id: StoreName>(
 }
 
 /// Carries out the current publish, up to its commit.
+#[tactic(auto, using(crate::proofs::CarryLemmas::has_task))]
 pub fn carry_publish<Id: StoreName>(
     keeper: &mut KeeperSeat<Id>,
     holding: &mut Holding,

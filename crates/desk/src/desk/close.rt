@@ -9,6 +9,7 @@ use shelf::{Closing, StoreEntry, StoreName};
 impl<Id: StoreName> Desk<Id> {
     /// Closes the desk, and frees all its blocks. Returns its keeper's seat, to which the readers'
     /// seats are to be given up, the place of the last checkpoint, and the entries it keeps.
+    #[tactic(auto, using(crate::proofs::HoldOpen::all_back))]
     pub fn close(self) -> (Closing<Id>, u32, Vec<StoreEntry>)
         ensures closing { result.0 ≡ record { log = self.log; readers = 0; made = 0 } }
         ensures base { result.1 ≡ base_place Id.store self.log }

@@ -15,6 +15,7 @@ use epoch::collect;
 use grid::Stroke;
 use map_core::{Kept, Reply};
 
+#[tactic(auto, using(crate::proofs::HoldLemmas::places_left))]
 impl Holding {
     /// Does a paint or a stamp that has been judged.
     pub fn draw(&mut self, stroke: Stroke) -> Reply

@@ -37,6 +37,7 @@ impl Holding {
     /// log (`LogFull`), no place left (`PlacesUsed`), no free slot (`VersionsFull`, a publish) or
     /// too few free blocks (`BlocksFull`, a paint or a stamp), in this order. It allocates no
     /// memory.
+    #[tactic(auto, using(crate::proofs::HoldDraw::judged_why))]
     pub fn judge<'a>(&self, command: &'a Command) -> Result<Judged<'a>, Refusal>
         requires { CanAnswer self.now }
         ensures judged { IfOk result (IsJudged self.now command.now) }

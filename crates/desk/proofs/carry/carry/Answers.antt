@@ -1,19 +1,7 @@
 -- A command is taken, worked and committed.
+use Rattle.desk.proofs.Names.{KeeperView, ap}
 use Rattle.desk.proofs.CarryLemmas.{accepted, carried, may_commit, slot_told, taken_in_hand}
 use Rattle.desk.proofs.carry.carry.Goals as goal
-use Rattle.shelf.specs.Roles.{KeeperView}
-use Rattle.std.proofs.Common.{ap}
-
-pub order-requires-clause-none : goal.order-requires-clause-none
-order-requires-clause-none g c = ap (λ (u : KeeperView). u.task) c.requires.able.keeper_is
-
-pub order-requires-clause-accepted : goal.order-requires-clause-accepted
-order-requires-clause-accepted g c =
-    accepted g.Id.StoreName.store _ _ _ _ c.requires.able c.requires.judged
-
-pub work-reply-requires-clause-in_hand : goal.work-reply-requires-clause-in_hand
-work-reply-requires-clause-in_hand g c =
-    taken_in_hand g.Id.StoreName.store c.args.keeper.now _ _ _ _ c.requires.able c.order.ensures
 
 pub commit-requires-clause-may : goal.commit-requires-clause-may
 commit-requires-clause-may g c =

@@ -1,9 +1,8 @@
 -- A bit of the mask is what the byte of its place is compared with.
-use Rattle.std.proofs.Common.{ℕ, ◌≤◌, ◌%◌, ◌^◌, nat_le, false, Bool, List, length, map, ap, cond}
-use Rattle.std.proofs.Common.{◌∙◌, arith, w8, replicate}
-use Rattle.std.specs.Int.{bit_at}
-use Rattle.std.proofs.lemmas.Simd.{bit_mask_l, mask_l-mod, tops_compared, zip2_splat_left}
-use Rattle.std.proofs.lemmas.List.{get_or-map, length-map}
+use Rattle.libclearmap.proofs.Names.{ℕ, ◌≤◌, ◌%◌, ◌^◌, nat_le, false, Bool, List, length, map, ap}
+use Rattle.libclearmap.proofs.Names.{cond, ◌∙◌, arith, w8, replicate, bit_at, bit_mask_l}
+use Rattle.libclearmap.proofs.Names.{mask_l-mod, tops_compared, zip2_splat_left, get_or-map}
+use Rattle.libclearmap.proofs.Names.{length-map}
 use lib.Lanes.{mask_l}
 use Rattle.libclearmap.proofs.byte_map.at_least.Goals as goal
 

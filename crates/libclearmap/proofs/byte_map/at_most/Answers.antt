@@ -1,8 +1,6 @@
 -- A bit of the mask is what the byte of its place is compared with.
-use Rattle.std.proofs.Common.{ℕ, nat_le, false, map, ap, cond, ◌∙◌, arith, w8}
-use Rattle.std.specs.Int.{bit_at}
-use Rattle.std.proofs.lemmas.Simd.{bitmask_splat, bit_mask_l}
-use Rattle.std.proofs.lemmas.List.{get_or-map}
+use Rattle.libclearmap.proofs.Names.{ℕ, nat_le, false, map, ap, cond, ◌∙◌, arith, w8, bit_at}
+use Rattle.libclearmap.proofs.Names.{bitmask_splat, bit_mask_l, get_or-map}
 use Rattle.libclearmap.proofs.byte_map.at_most.Goals as goal
 
 pub returns : goal.returns

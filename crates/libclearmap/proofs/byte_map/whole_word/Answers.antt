@@ -1,7 +1,6 @@
 -- Both tests at once.
-use Rattle.std.proofs.Common.{◌≡◌, ◌+◌, ◌<◌, ℕ, nat_le, cond, get_or, refl, ap, ◌∙◌, arith}
-use Rattle.std.specs.Int.Bits.{and_lt}
-use Rattle.std.proofs.lemmas.Simd.{get_or-chunk}
+use Rattle.libclearmap.proofs.Names.{◌≡◌, ◌+◌, ◌<◌, ℕ, nat_le, cond, get_or, refl, ap, ◌∙◌, arith}
+use Rattle.libclearmap.proofs.Names.{and_lt, get_or-chunk}
 use Rattle.libclearmap.proofs.LayoutLemmas.{word_of_tests}
 use Rattle.libclearmap.proofs.byte_map.whole_word.Goals as goal
 

@@ -1,7 +1,5 @@
 -- The bits so far are those of the bytes so far.
-use Rattle.std.proofs.Common.{◌≡◌, get_or}
-use Rattle.bits.specs.Tiles.{word_where}
-use Rattle.libclearmap.specs.Layouts.{is_obstacle_byte}
+use Rattle.libclearmap.proofs.Names.{◌≡◌, get_or, word_where, is_obstacle_byte}
 use Rattle.libclearmap.proofs.byte_map.word_of.Given as goal
 
 abbrev pub invariant-bytes : goal.invariant-bytes

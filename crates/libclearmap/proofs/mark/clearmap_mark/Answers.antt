@@ -1,10 +1,7 @@
 -- The marks are those of the blank tiles, so that each cell stays as it is.
-use Rattle.std.proofs.Common.{◌≡◌, ℕ, ◌+◌, ◌-◌, ◌*◌, ◌/◌, ◌%◌, ◌<◌, ◌≤◌, ◌==◌, ◌∙◌, get_or}
-use Rattle.std.proofs.Common.{inl, refl, ap, sym, arith}
-use Rattle.std.specs.Int.{bit_at}
-use Rattle.std.proofs.Math.Nat.{mul-le-mul_right}
-use Rattle.bits.proofs.CellsLemmas.{IsBitmap-cells_where}
-use Rattle.libclearmap.specs.Layouts.{IsBlankTile, bands_down, cells_of_bits}
+use Rattle.libclearmap.proofs.Names.{◌≡◌, ℕ, ◌+◌, ◌-◌, ◌*◌, ◌/◌, ◌%◌, ◌<◌, ◌≤◌, ◌==◌, ◌∙◌, get_or}
+use Rattle.libclearmap.proofs.Names.{inl, refl, ap, sym, arith, bit_at, mul-le-mul_right}
+use Rattle.libclearmap.proofs.Names.{IsBitmap-cells_where, IsBlankTile, bands_down, cells_of_bits}
 use Rattle.libclearmap.proofs.MarkLemmas.{blank_rows_tile, marks_placed}
 use Rattle.libclearmap.proofs.TileLemmas.{marked_same, obstacle_found}
 use Rattle.libclearmap.proofs.mark.clearmap_mark.Goals as goal

@@ -1,6 +1,5 @@
 -- The bands so far have a bit where all of their tiles have a mark.
-use Rattle.std.proofs.Common.{◌≡◌, ℕ, ◌<◌, get_or}
-use Rattle.std.specs.Int.{bit_at}
+use Rattle.libclearmap.proofs.Names.{◌≡◌, ℕ, ◌<◌, get_or, bit_at}
 use Rattle.libclearmap.proofs.marks.blank_bands.Given as goal
 
 abbrev pub invariant-bands : goal.invariant-bands

@@ -1,7 +1,5 @@
 -- The words are the map, and so they are where blank bands don't count.
-use Rattle.std.proofs.Common.{◌≡◌, arith}
-use Rattle.bits.specs.Words.{words_across}
-use Rattle.libclearmap.specs.Layouts.{cells_of_bytes}
+use Rattle.libclearmap.proofs.Names.{◌≡◌, arith, words_across, cells_of_bytes}
 use Rattle.libclearmap.proofs.CopyLemmas.{packed_bits}
 use Rattle.libclearmap.proofs.pack.clearmap_pack.Goals as goal
 

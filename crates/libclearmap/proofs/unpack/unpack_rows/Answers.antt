@@ -1,7 +1,6 @@
 -- One more row is written.
-use Rattle.std.proofs.Common.{◌≡◌, ◌+◌, ◌-◌, ◌*◌, ◌≤◌, ◌∙◌, ℕ, inr, refl, if◌then◌else◌, arith}
-use Rattle.std.proofs.Math.Nat.{mul-le-mul_right}
-use Rattle.bits.specs.Cells.{has}
+use Rattle.libclearmap.proofs.Names.{◌≡◌, ◌+◌, ◌-◌, ◌*◌, ◌≤◌, ◌∙◌, ℕ, inr, refl, if◌then◌else◌}
+use Rattle.libclearmap.proofs.Names.{arith, mul-le-mul_right, has}
 use Rattle.field.proofs.BandLemmas.{rows_more}
 use Rattle.libclearmap.proofs.unpack.unpack_rows.Goals as goal
 

@@ -1,30 +1,13 @@
 -- A current collect is worked: each call finds what it needs, and the log and the grid agree after
 -- them.
-use Rattle.std.proofs.Common.{ap, ◌∙◌}
-use Rattle.map_core.specs.declared.command.Command.TheVariants.{Collect}
-use Rattle.map_core.specs.declared.setting.Setting.{Setting}
+use Rattle.desk.proofs.Names.{ap, ◌∙◌, Collect, Setting}
 use Rattle.desk.proofs.CarryLemmas.{has_task}
 use Rattle.desk.proofs.HoldOpen.{can_answer}
 use Rattle.desk.proofs.ScanSteps.{collect_worked, few_versions, kept_computed, newest_kept}
 use Rattle.desk.proofs.carry.collect.carry_collect.Goals as goal
 
-pub scan_all-requires-clause-in_hand : goal.scan_all-requires-clause-in_hand
-scan_all-requires-clause-in_hand g c =
-    has_task g.Id.StoreName.store _ _ _ Collect c.requires.in_hand
-
-pub scan_all-requires-clause-few : goal.scan_all-requires-clause-few
-scan_all-requires-clause-few g c =
-    few_versions _ c.args.keeper.now _ _ c.requires.in_hand.told c.requires.judged
-
 pub collect-requires-clause-able : goal.collect-requires-clause-able
 collect-requires-clause-able g c = can_answer _ _ _ c.requires.in_hand.told
-
-pub collect-requires-clause-part : goal.collect-requires-clause-part
-collect-requires-clause-part g c = c.kept_after-kept.ensures.part
-
-pub collect-requires-clause-newest : goal.collect-requires-clause-newest
-collect-requires-clause-newest g c =
-    c.kept_after-kept.ensures.newest (newest_kept _ c.args.keeper.now _ c.requires.in_hand.told)
 
 pub returns-clause-kept : goal.returns-clause-kept
 returns-clause-kept g c =
@@ -44,7 +27,3 @@ returns-clause-worked g c =
     c.collect.ensures.done c.collect.ensures.kept
     (kept_computed z.base c.args.keeper.now _ _ seen _ told c.kept_after-kept.ensures.kept
     c.as_slice.ensures.value)
-
-pub returns-clause-keeps : goal.returns-clause-keeps
-returns-clause-keeps g c = λ is.
-    c.collect.ensures.kept ∙ rw c.as_slice.ensures.value at c.kept_after-kept.ensures.kept

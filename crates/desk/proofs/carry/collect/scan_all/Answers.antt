@@ -1,6 +1,5 @@
 -- Each round loads the next reader's word.
-use Rattle.std.proofs.Common.{◌<◌, length, ◌∙◌, arith}
-use Rattle.std.proofs.lemmas.List.{length-set}
+use Rattle.desk.proofs.Names.{◌<◌, length, ◌∙◌, arith, length-set}
 use Rattle.shelf.proofs.steps.WorkSteps.{next_scan, scan_more}
 use Rattle.desk.proofs.ScanSteps.{seen_long, scan_grows}
 use Rattle.desk.proofs.carry.collect.scan_all.Goals as goal

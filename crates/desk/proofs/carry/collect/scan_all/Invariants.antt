@@ -1,7 +1,5 @@
 -- As many readers' words are loaded as there were turns.
-use Rattle.std.proofs.Common.{◌≡◌, length, map, take}
-use Rattle.map_core.specs.Words.{pin_word}
-use Rattle.shelf.specs.Steps.{scanning}
+use Rattle.desk.proofs.Names.{◌≡◌, length, map, take, pin_word, scanning}
 use Rattle.desk.proofs.carry.collect.scan_all.Given as goal
 
 abbrev pub invariant-loop-reader : goal.invariant-loop-reader

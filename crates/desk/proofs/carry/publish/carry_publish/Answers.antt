@@ -1,16 +1,11 @@
 -- A current publish is worked: each call finds what it needs, and what is held is answered after
 -- them.
-use Rattle.std.proofs.Common.{refl}
-use Rattle.map_core.specs.declared.command.Command.TheVariants.{Publish}
+use Rattle.desk.proofs.Names.{refl, Publish}
 use Rattle.desk.proofs.CarryLemmas.{has_task}
 use Rattle.desk.proofs.HoldLemmas.{publish_room}
 use Rattle.desk.proofs.HoldOpen.{can_answer}
 use Rattle.desk.proofs.PublishSteps.{publish_worked}
 use Rattle.desk.proofs.carry.publish.carry_publish.Goals as goal
-
-pub write_tiles-stored-requires-clause-in_hand : goal.write_tiles-stored-requires-clause-in_hand
-write_tiles-stored-requires-clause-in_hand g c =
-    has_task g.Id.StoreName.store _ _ _ Publish c.requires.in_hand
 
 pub write_directory-requires-clause-slot : goal.write_directory-requires-clause-slot
 write_directory-requires-clause-slot g c =

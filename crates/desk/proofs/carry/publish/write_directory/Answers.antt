@@ -1,17 +1,7 @@
 -- Each word of the directory is the next word.
-use Rattle.std.proofs.Common.{◌<◌, ◌+◌, ◌*◌, ap, subst, ◌∙◌, arith}
-use Rattle.shelf.proofs.steps.WriteSteps.{next_position}
+use Rattle.desk.proofs.Names.{◌<◌, ◌+◌, ◌*◌, ap, subst, ◌∙◌, arith, next_position}
 use Rattle.desk.proofs.PublishSteps.{own_long, next_block, next_slot_is}
 use Rattle.desk.proofs.carry.publish.write_directory.Goals as goal
-
-pub block_at-block-requires : goal.block_at-block-requires
-block_at-block-requires g c =
-    omega (
-      arith,
-      own_long _ c.args.keeper.now _ c.requires.told,
-      c.requires.plan.tiles_is,
-      c.loop-position-test.true,
-    )
 
 pub write_word-requires : goal.write_word-requires
 write_word-requires g c =

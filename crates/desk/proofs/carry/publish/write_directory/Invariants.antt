@@ -1,6 +1,5 @@
 -- As many words of the directory are stored as there were turns.
-use Rattle.std.proofs.Common.{◌≡◌, ◌+◌, ◌*◌}
-use Rattle.shelf.specs.Steps.{writing}
+use Rattle.desk.proofs.Names.{◌≡◌, ◌+◌, ◌*◌, writing}
 use Rattle.desk.proofs.carry.publish.write_directory.Given as goal
 
 abbrev pub invariant-loop-position : goal.invariant-loop-position

@@ -1,7 +1,6 @@
 -- Each row is the next word.
-use Rattle.std.proofs.Common.{ap, ◌∙◌, refl, get_or, arith}
+use Rattle.desk.proofs.Names.{ap, ◌∙◌, refl, get_or, arith, next_row}
 use Rattle.bits.proofs.TileDrawLemmas.{tile_words-row}
-use Rattle.shelf.proofs.steps.WriteSteps.{next_row}
 use Rattle.desk.proofs.carry.publish.write_rows.Goals as goal
 
 pub write_word-requires : goal.write_word-requires

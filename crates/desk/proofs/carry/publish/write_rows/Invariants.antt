@@ -1,6 +1,5 @@
 -- As many rows of the tile are stored as there were turns.
-use Rattle.std.proofs.Common.{◌≡◌, ◌+◌, ◌*◌}
-use Rattle.shelf.specs.Steps.{writing}
+use Rattle.desk.proofs.Names.{◌≡◌, ◌+◌, ◌*◌, writing}
 use Rattle.desk.proofs.carry.publish.write_rows.Given as goal
 
 abbrev pub invariant-loop-row : goal.invariant-loop-row

@@ -1,11 +1,7 @@
 -- A tile that the draft has of its own is the next one.
-use Rattle.std.proofs.Common.{Some, ap, refl, sym, arith, ◌∙◌}
+use Rattle.desk.proofs.Names.{Some, ap, refl, sym, arith, ◌∙◌}
 use Rattle.desk.proofs.PublishSteps.{own_long, next_tile, one_more}
 use Rattle.desk.proofs.carry.publish.write_tile.Goals as goal
-
-pub own_tile-requires : goal.own_tile-requires
-own_tile-requires g c =
-    omega (arith, own_long _ c.args.keeper.now _ c.requires.told, c.requires.inside)
 
 pub write_rows-requires-clause-own : goal.write_rows-requires-clause-own
 write_rows-requires-clause-own g c =

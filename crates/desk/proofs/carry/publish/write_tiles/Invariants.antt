@@ -1,9 +1,5 @@
 -- The tiles of the positions so far are stored.
-use Rattle.std.proofs.Common.{◌≡◌, ◌*◌, length, take}
-use Rattle.map_core.specs.Blocks.{own_list}
-use Rattle.map_core.specs.Views.{blocks}
-use Rattle.shelf.specs.Roles.{entries}
-use Rattle.shelf.specs.Steps.{writing}
+use Rattle.desk.proofs.Names.{◌≡◌, ◌*◌, length, take, own_list, blocks, entries, writing}
 use Rattle.desk.proofs.carry.publish.write_tiles.Given as goal
 
 abbrev pub invariant-loop-position : goal.invariant-loop-position

@@ -1,9 +1,6 @@
 -- A command is refused, or committed with its answer.
-use Rattle.std.proofs.Common.{◌≡◌, List, [], ◌∷◌, ◌++◌, ap, ◌∙◌}
-use Rattle.shelf.specs.declared.store_entry.StoreEntry.{StoreEntry}
-use Rattle.shelf.specs.Roles.{KeeperView, ReaderView}
-use Rattle.desk.specs.Carries.{signed}
-use Rattle.desk.specs.Desks.{DeskView, entries_kept_after}
+use Rattle.desk.proofs.Names.{◌≡◌, List, [], ◌∷◌, ◌++◌, ap, ◌∙◌, StoreEntry, KeeperView, ReaderView}
+use Rattle.desk.proofs.Names.{signed, DeskView, entries_kept_after}
 use Rattle.desk.proofs.DeskLemmas.{IsDone, keeper_met, reader_met, can_carry, refused_is, log_after}
 use Rattle.desk.proofs.DeskLemmas.{desk_after, accepted_is, legal_after, applied_accepted}
 use Rattle.desk.proofs.DeskLemmas.{applied_refused}
@@ -12,16 +9,6 @@ use Rattle.desk.proofs.desk.Desk.apply.Goals as goal
 
 pub admit-requires : goal.admit-requires
 admit-requires g c = can_answer _ _ _ c.self.invariant.told
-
-pub carry-reply-requires-clause-able : goal.carry-reply-requires-clause-able
-carry-reply-requires-clause-able g c =
-    let z = g.Id.StoreName.store in
-    let d : DeskView = record {
-      log = c.self.inside.keeper.log;
-      scanned = c.self.inside.announced.items;
-    } in
-    can_carry z d _ _ c.self.invariant.told
-    (keeper_met z d _ _ _ _ c.self.invariant c.meet.ensures.keeper)
 
 pub invariant_of-self-2 : goal.invariant_of-self-2
 invariant_of-self-2 g c =

@@ -1,5 +1,5 @@
 -- A command is judged for free blocks, by its kind.
-use Rattle.std.proofs.lemmas.Result.{err_from_is_err_and}
+use Rattle.desk.proofs.Names.{err_from_is_err_and}
 use Rattle.desk.proofs.HoldDraw.{drawing_why}
 use Rattle.desk.proofs.holding.Holding.judge_blocks.Goals as goal
 

@@ -1,8 +1,6 @@
 -- What is held at the opening is what the empty log tells.
-use Rattle.std.proofs.Common.{sym, ap, ◌∙◌, length, arith}
+use Rattle.desk.proofs.Names.{sym, ap, ◌∙◌, length, arith, Home, bad_field-none}
 use Rattle.std.proofs.lemmas.List.FromFn.{length-range_with_len}
-use Rattle.arena.specs.Blocks.{Home}
-use Rattle.map_core.proofs.steps.OpenWorld.{bad_field-none}
 use Rattle.desk.proofs.HoldOpen.{told_new}
 use Rattle.desk.proofs.holding.Holding.of.Goals as goal
 

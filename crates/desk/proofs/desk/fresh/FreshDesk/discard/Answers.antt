@@ -2,8 +2,5 @@
 use Rattle.desk.proofs.HoldOpen.{all_back}
 use Rattle.desk.proofs.desk.fresh.FreshDesk.discard.Goals as goal
 
-pub end-requires-clause-home : goal.end-requires-clause-home
-end-requires-clause-home c = c.self.invariant.0.holds.home_is
-
 pub end-requires-clause-all : goal.end-requires-clause-all
 end-requires-clause-all c = all_back _ _ _ c.self.invariant.0
