@@ -73,6 +73,7 @@ runs scipy_dist.py 'python-scipy'
 runs bench.py 'program python-scipy' --program "$program" --sizes 40 --rounds 1
 runs workers.py 'program' --program "$program" --sizes 40 --rounds 1
 runs cycles.py 'program rustc' --side 64 --seconds 1 --rounds 1
+runs limits.py 'program rustc' --side 320 --requests 1600 --rounds 1
 runs serve 'program rustc redis-server' --requests 320 --check 320
 runs gateway.py 'program rustc python-numpy' --side 64 --requests 160 --rounds 1 --idle 20
 runs fleet.py 'program library redis-server python-numpy-redis' --followers 4 --rounds 1 --sides 320
