@@ -24,13 +24,12 @@ def blocks():
 
 
 def configured(folder):
-    """The configuration that the page's commands write, in this folder."""
+    """The configuration that the page's commands write, in this folder instead of `/etc/redis`."""
     (commands,) = (block for block in blocks() if "/etc/redis/clearmap.conf" in block)
-    lines = [line for line in commands.splitlines() if not re.match("apt-get|redis-server", line)]
-    path = pathlib.Path(folder, "clearmap.conf")
-    script = "\n".join(lines).replace("/etc/redis/clearmap.conf", str(path))
+    lines = [line for line in commands.splitlines() if not re.match("apt-get|systemctl", line)]
+    script = "\n".join(lines).replace("/etc/redis/", f"{folder}/")
     subprocess.run(["sh", "-ec", script], check=True)
-    return path
+    return pathlib.Path(folder, "redis.conf")
 
 
 class Users(Publishes):
