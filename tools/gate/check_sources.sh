@@ -1,8 +1,8 @@
 #!/bin/sh
 # Looks for what no contract sees: code that forgets what it should free, by whatever name it was
 # imported (tests may, to leave a session out), and code that reports out of memory though no
-# allocation was refused. Lines of over 100 columns, and words that have a plainer one, too, but for
-# the crates' words. First the tests of what judges sources and edits.
+# allocation was refused. Lines of over 100 columns, and words that have a plainer one, too. First
+# the tests of what judges sources and edits.
 set -u
 cd "$(dirname "$0")/../.." || exit 1
 export PYTHONDONTWRITEBYTECODE=1
@@ -18,6 +18,5 @@ if [ -n "$found" ]; then
 fi
 echo "no code forgets what it holds"
 tools/lint/check_lines.py || exit 1
-tools/lint/check_words.py README.md CHANGELOG.md CONTRIBUTING.md docs bench bin clients examples man \
-    packaging tools .ci Makefile clearmap || exit 1
+tools/lint/check_words.py || exit 1
 exec tools/lint/check_memory.py

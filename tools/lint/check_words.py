@@ -1,6 +1,6 @@
 #!/usr/bin/env python3
 """Lists what isn't plain English: in the pages, in the `--` lines of .antt files, in the `///`
-lines and the texts of .rt files, and in scripts. The gate runs it on all but the crates.
+lines and the texts of .rt files, and in scripts. The gate runs it.
 
     tools/lint/check_words.py [PATH ..]
 

@@ -1,4 +1,4 @@
-"""Refuses each request for memory of the tests of `want_tests` in turn, test by test, and counts
+"""Refuses each request for memory of the tests of `memory_tests` in turn, test by test, and counts
 for each call how many it met.
 
 A test reports on standard output where a call starts, and whether it ran out of memory (`memory:`)

@@ -1,5 +1,5 @@
 #!/usr/bin/env python3
-"""Refuses each request for memory in turn, of `want_tests` and of the built program.
+"""Refuses each request for memory in turn, of `memory_tests` and of the built program.
 
 A library that is compiled from refuse.c is put before the C library: it refuses the N-th request,
 for N from 1 until several runs met none. Of the program the N-th and all later ones are refused
@@ -14,7 +14,7 @@ is wrong; the status is 1 if there is one.
     tools/refuse/refuse_each_request.py [--only WORD] [--calls | --runs | --all]
 
 That takes a minute, and needs a C compiler, the built program and the built tests: `rt run --
---version` in crates/clearmap, `rt test` in crates/want_tests.
+--version` in crates/clearmap, `rt test` in crates/memory_tests.
 """
 import argparse
 import pathlib
@@ -27,7 +27,7 @@ from refusing import Refuser
 
 CRATES = pathlib.Path(__file__).resolve().parents[2] / "crates"
 PROGRAM = CRATES / "clearmap" / "out" / "clearmap"
-TESTS = CRATES / "want_tests" / "out" / "want_tests_tests"
+TESTS = CRATES / "memory_tests" / "out" / "memory_tests_tests"
 
 
 def main():
