@@ -10,6 +10,7 @@ mod FarSpots
 mod LineBands
 mod LineFirsts
 mod LineTiles
+mod NearestPieces
 mod NearestSearches
 mod PieceFirsts
 mod RectFirsts

@@ -76,13 +76,6 @@ pub IsFirstAmong-same : (distance : ℕ → ℕ → ℕ) (cells : Cells) (lines 
 IsFirstAmong-same distance cells lines IsRow IsNext end line back is =
     grind (arith, nat_tests, common_steps)
 
--- where no line is left, other rows say no more
-pub IsFirstAmong-left : (distance : ℕ → ℕ → ℕ) (cells : Cells) (lines : Lines)
-    (IsRow IsNext : ℕ → Type 0) (end line : ℕ) → line ≤ lines.first
-    → IsFirstAmong distance cells lines IsRow end line
-    → IsFirstAmong distance cells lines IsNext end line
-IsFirstAmong-left distance cells lines IsRow IsNext end line none is = omega arith
-
 -- a rectangle from the first line to the one before the end is that of these lines
 pub IsRectOf-rect : (lines : Lines) (end : ℕ) (rect : Rect) → lines.first < end
     → ((k x y : ℕ) → lines.first ≤ k → k ≤ end - 1 → IsOnLine lines.strip k x y → IsInRect rect x y)
@@ -152,12 +145,6 @@ IsSomeNear-rect distance Obstacle lines end least rect of is less =
     IsSomeNear-lower distance Obstacle lines.strip rect lines.limit lines.first (end - 1) least
     (λ x y cell. let (k, from, before, on_line) = of.only x y cell in
     (k, from, omega arith, on_line)) is less
-
--- where no line is left, there is none to look at
-pub IsFirstBefore-none : (distance : ℕ → ℕ → ℕ) (Obstacle : ℤ → ℤ → Type 0) (lines : Lines)
-    (end : ℕ) → lines.first ≤ end → end ≤ lines.first
-    → IsFirstBefore distance Obstacle lines end end
-IsFirstBefore-none distance Obstacle lines end order none = grind (arith, nat_tests, common_steps)
 
 -- where it isn't, none is
 pub IsFirstBefore-far : (distance : ℕ → ℕ → ℕ) (Obstacle : ℤ → ℤ → Type 0) (lines : Lines)

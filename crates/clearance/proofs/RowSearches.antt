@@ -18,10 +18,6 @@ pub AreUnmarked-none : (words : List ℕ) (start end : ℕ) → end ≤ start �
 AreUnmarked-none words start end empty =
     record { none = λ x from before marked. absurd (omega arith) }
 
--- past the words nothing is marked
-pub unmarked_past : (words : List ℕ) (x : ℕ) → 64 * length words ≤ x → IsMarked words x → ⊥
-unmarked_past words x past marked = grind (arith, nat_tests, common_steps)
-
 -- a mark lies in the widest row
 pub mark_within : (words : List ℕ) (x : ℕ) → length words ≤ 64 → IsMarked words x → x ≤ 4095
 mark_within words x few marked = grind (arith, nat_tests, common_steps)

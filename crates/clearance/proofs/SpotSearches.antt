@@ -10,7 +10,7 @@ use Rattle.clearance.specs.Nearest.{limit_with}
 use Rattle.clearance.specs.Rows.{IsFar}
 use Rattle.clearance.specs.Search.{column_gap, rect_distance, row_gap}
 use Rattle.clearance.specs.Spots.{AreLeftOf, AreParts, AreRightFrom, IsInWord, IsLastBit}
-use Rattle.clearance.specs.Spots.{IsMerged, IsSpotBelow, IsSpotIf, IsWithNext}
+use Rattle.clearance.specs.Spots.{IsMerged, IsSpotBelow, IsSpotIf}
 use Rattle.clearance.specs.declared.found.Found.{Found}
 use Rattle.clearance.proofs.Searches.{IsFar-greater}
 use Rattle.std.proofs.lemmas.Grind.{common_steps}
@@ -271,9 +271,3 @@ IsSpotBelow-wider distance One Other rect limit None there back first = λ a b o
     elim (back a b other) [ inl one ↦ first a b one | inr far ↦ far ]
 IsSpotBelow-wider distance One Other rect limit (Some best) there back first =
     grind (arith, nat_tests, common_steps)
-
--- a word without a bit has no obstacle
-pub IsWithNext-blank : (distance : ℕ → ℕ → ℕ) (rect : Rect) (tile y word limit : ℕ)
-    (best : Option Found) → word ≡ 0
-    → IsWithNext distance (IsInWord tile y word) rect limit best best
-IsWithNext-blank distance rect tile y word limit best none = grind (arith, nat_tests, common_steps)

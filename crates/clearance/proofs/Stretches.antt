@@ -1,39 +1,23 @@
 -- The least distance and the first near cell of a list of cells, from those of its two parts.
-use Rattle.std.proofs.Common.{◌≡◌, ℕ, ℤ, ◌+◌, ◌<◌, ◌≤◌, inl, inr, List, ◌++◌, length, Option}
-use Rattle.std.proofs.Common.{Some, None, true, false, sym, subst, ◌∙◌, arith, length-append}
+use Rattle.std.proofs.Common.{◌≡◌, ℕ, ℤ, ◌<◌, List, ◌++◌, length, Option}
+use Rattle.std.proofs.Common.{Some, None, true, false, arith, length-append}
 use Rattle.std.specs.Option.{is_some}
-use Rattle.std.proofs.lemmas.Bool.{cases_lt}
 use Rattle.std.proofs.lemmas.List.{get_or_append_left, get_or-append_right, get_or-append-add}
 use Rattle.metric.specs.declared.cell.Cell.{Cell}
 use Rattle.metric.specs.declared.near.Near.{Near}
 use Rattle.metric.specs.declared.rect.Rect.{Rect}
-use Rattle.metric.specs.Nearest.{spot_distance}
-use Rattle.clearance.specs.Rows.{IsFar}
 use Rattle.clearance.specs.Search.{IsInRect, IsLeastBelow}
-use Rattle.clearance.specs.Firsts.{origin, cell_of_list, distance_at, IsBoundOver, IsFirstOrNone}
-use Rattle.clearance.specs.Firsts.{IsLeastOver}
-use Rattle.clearance.proofs.Searches.{IsFar-lower}
+use Rattle.clearance.specs.Firsts.{cell_of_list, IsBoundOver, IsFirstOrNone}
 use Rattle.std.proofs.Common.{rules}
 use Rattle.std.proofs.lemmas.Grind.{common_steps}
 use Rattle.std.proofs.lemmas.Bool.Decides.{nat_tests}
 
 -- what holds of each cell of both parts of a list holds of each of its cells
-each-append : (P : Cell → Type 0) (front back : List Cell)
+pub each-append : (P : Cell → Type 0) (front back : List Cell)
     → ((i : ℕ) → i < length front → P (cell_of_list front i))
     → ((i : ℕ) → i < length back → P (cell_of_list back i))
     → (i : ℕ) → i < length (front ++ back) → P (cell_of_list (front ++ back) i)
 each-append P front back one other i within = grind (arith, nat_tests, common_steps)
-
--- a list of which no cell is in reach below the bound has the bound as the least
-pub IsLeastOver-bound : (distance : ℕ → ℕ → ℕ) (Obstacle : ℤ → ℤ → Type 0) (cells : List Cell)
-    (limit bound : ℕ) → IsBoundOver distance Obstacle cells bound → limit ≤ bound
-    → IsLeastOver distance Obstacle cells limit limit
-IsLeastOver-bound distance Obstacle cells limit bound is most = record {
-  within = omega arith;
-  far = λ i a b within obstacle. IsFar-lower (distance_at distance cells i a b) bound limit most
-      (is i a b within obstacle);
-  reached = λ less. absurd (omega arith);
-}
 
 -- a rectangle's least distance is a bound for a list whose cells all lie in it
 pub IsBoundOver-rect : (distance : ℕ → ℕ → ℕ) (Obstacle : ℤ → ℤ → Type 0) (cells : List Cell)
@@ -43,94 +27,6 @@ pub IsBoundOver-rect : (distance : ℕ → ℕ → ℕ) (Obstacle : ℤ → ℤ 
 IsBoundOver-rect distance Obstacle cells rect limit least inside low =
     λ i a b within obstacle. low.far (cell_of_list cells i).x (cell_of_list cells i).y a b
     (inside i within) obstacle
-
--- the least over the front, and then below it over the back, is the least over both
-pub IsLeastOver-front : (distance : ℕ → ℕ → ℕ) (Obstacle : ℤ → ℤ → Type 0) (front back : List Cell)
-    (limit middle least : ℕ)
-    → IsLeastOver distance Obstacle front limit middle
-    → IsLeastOver distance Obstacle back middle least
-    → IsLeastOver distance Obstacle (front ++ back) limit least
-IsLeastOver-front distance Obstacle front back limit middle least one other =
-    let low = one.within in
-    let lower = other.within in
-    let size = length-append front back in
-    record {
-      within = omega arith;
-      far = λ i a b within obstacle. each-append
-          (λ c. IsFar (spot_distance distance c.x c.y a b) least) front back
-          (λ k inside. IsFar-lower (distance_at distance front k a b) middle least lower
-          (one.far k a b inside obstacle))
-          (λ k inside. other.far k a b inside obstacle) i within;
-      reached = λ less. elim (cases_lt least middle) [
-        | inl lowered ↦
-            let (i, within, a, b, obstacle, dist) = other.reached lowered in
-            let inside : length front + i < length (front ++ back) = omega arith in (
-              length front + i,
-              inside,
-              a,
-              b,
-              obstacle,
-              subst (λ (c : Cell). spot_distance distance c.x c.y a b ≡ least)
-                  (sym (get_or-append-add front back i origin)) dist,
-            )
-        | inr same ↦
-            let (i, within, a, b, obstacle, dist) = one.reached (omega arith) in
-            let inside : i < length (front ++ back) = omega arith in
-            let equal : middle ≡ least = omega arith in (
-              i,
-              inside,
-              a,
-              b,
-              obstacle,
-              subst (λ (c : Cell). spot_distance distance c.x c.y a b ≡ least)
-                  (sym (get_or_append_left front back origin i within)) (dist ∙ equal),
-            )
-      ];
-    }
-
--- the least over the back, and then below it over the front, is the least over both
-pub IsLeastOver-back : (distance : ℕ → ℕ → ℕ) (Obstacle : ℤ → ℤ → Type 0) (front back : List Cell)
-    (limit middle least : ℕ)
-    → IsLeastOver distance Obstacle back limit middle
-    → IsLeastOver distance Obstacle front middle least
-    → IsLeastOver distance Obstacle (front ++ back) limit least
-IsLeastOver-back distance Obstacle front back limit middle least one other =
-    let low = one.within in
-    let lower = other.within in
-    let size = length-append front back in
-    record {
-      within = omega arith;
-      far = λ i a b within obstacle. each-append
-          (λ c. IsFar (spot_distance distance c.x c.y a b) least) front back
-          (λ k inside. other.far k a b inside obstacle)
-          (λ k inside. IsFar-lower (distance_at distance back k a b) middle least lower
-          (one.far k a b inside obstacle)) i within;
-      reached = λ less. elim (cases_lt least middle) [
-        | inl lowered ↦
-            let (i, within, a, b, obstacle, dist) = other.reached lowered in
-            let inside : i < length (front ++ back) = omega arith in (
-              i,
-              inside,
-              a,
-              b,
-              obstacle,
-              subst (λ (c : Cell). spot_distance distance c.x c.y a b ≡ least)
-                  (sym (get_or_append_left front back origin i within)) dist,
-            )
-        | inr same ↦
-            let (i, within, a, b, obstacle, dist) = one.reached (omega arith) in
-            let inside : length front + i < length (front ++ back) = omega arith in
-            let equal : middle ≡ least = omega arith in (
-              length front + i,
-              inside,
-              a,
-              b,
-              obstacle,
-              subst (λ (c : Cell). spot_distance distance c.x c.y a b ≡ least)
-                  (sym (get_or-append-add front back i origin)) (dist ∙ equal),
-            )
-      ];
-    }
 
 -- the first near cell of the front is the first of both
 IsFirstOrNone-front : (distance : ℕ → ℕ → ℕ) (Obstacle : ℤ → ℤ → Type 0) (front back : List Cell)

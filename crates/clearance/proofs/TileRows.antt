@@ -70,11 +70,6 @@ pub IsThinned-without : (distance : ℕ → ℕ → ℕ) (cells : Cells) (rect :
 IsThinned-without distance cells rect gap least bands left band bitmap far kept =
     grind (arith, nat_tests, common_steps, obstacle_within)
 
--- nothing is left out
-pub IsThinned-same : (distance : ℕ → ℕ → ℕ) (cells : Cells) (rect : Rect) (gap least bands : ℕ)
-    → IsThinned distance cells rect gap least bands bands
-IsThinned-same distance cells rect gap least bands = λ a b obstacle away marked. inl marked
-
 -- what is left after two bands are left out
 pub IsThinned-more : (distance : ℕ → ℕ → ℕ) (cells : Cells) (rect : Rect)
     (gap least bands middle left : ℕ) → IsThinned distance cells rect gap least bands middle

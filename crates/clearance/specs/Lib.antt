@@ -6,6 +6,7 @@ pub mod Lines
 pub mod Nearest
 pub mod Parts
 pub mod Paths
+pub mod Pieces
 pub mod Rows
 pub mod Search
 pub mod Segments

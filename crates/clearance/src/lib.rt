@@ -25,6 +25,7 @@ mod near_tile;
 mod nearest;
 mod part;
 mod path;
+mod piece;
 mod queries;
 mod row;
 mod rows;

@@ -1,7 +1,7 @@
--- The least over the path, and the first cell that reaches it.
+-- The first cell of the nearest piece is that of the path.
 use Rattle.bits.specs.Edges.{IsBlocked}
 use Rattle.clearance.specs.Paths.{cells_of_path}
-use Rattle.clearance.proofs.PieceFirsts.{IsLeastOver-none, IsLeastOf-over}
+use Rattle.clearance.proofs.NearestPieces.{IsBoundOver-none, IsLeastOf-piece}
 use Rattle.clearance.proofs.Refusals.{IsPath-from, IsWalk-path}
 use Rattle.clearance.proofs.Walks.{cells_of_path-start, length-cells_of_path}
 use Rattle.clearance.proofs.walk.least_of_path.Goals as goal
@@ -12,46 +12,33 @@ bound_along-bound-requires g c = record {
   bitmap = c.holds-inside.ensures.bitmap;
 }
 
-pub least_along-least-requires : goal.least_along-least-requires
-least_along-least-requires g c = rw (c.bound_along-bound.ensures.rows) (record {
+pub nearest_piece-found-requires : goal.nearest_piece-found-requires
+nearest_piece-found-requires g c = rw (c.bound_along-bound.ensures.rows) (record {
   walk = IsWalk-path (g.R.Rows.cells c.args.rows.now) c.args.points.now c.requires;
   bitmap = c.holds-inside.ensures.bitmap;
   bound = c.bound_along-bound.ensures.bound;
 })
 
-pub first_along-requires : goal.first_along-requires
-first_along-requires g c = rw (
-  c.least_along-least.ensures.rows,
-  c.bound_along-bound.ensures.rows,
-) (record {
-  walk = IsWalk-path (g.R.Rows.cells c.args.rows.now) c.args.points.now c.requires;
-  bitmap = c.holds-inside.ensures.bitmap;
-})
-
-pub returns-then-least-ge-NO_LIMIT-clause-found : goal.returns-then-least-ge-NO_LIMIT-clause-found
-returns-then-least-ge-NO_LIMIT-clause-found g c =
+pub returns-in_default-clause-found : goal.returns-in_default-clause-found
+returns-in_default-clause-found g c =
     let path = IsPath-from (g.R.Rows.cells c.args.rows.now) c.args.points.now c.requires in
-    let least = rw (
+    let far = rw (
       ← cells_of_path-start c.args.points.now path.some,
       c.bound_along-bound.ensures.rows,
-    ) at c.least_along-least.ensures.found in
-    IsLeastOver-none g.M.Metric.distance (IsBlocked (g.R.Rows.cells c.args.rows.now) c.args.edge)
-    (cells_of_path c.args.points.now) 4294967296 c.least_along-least.result
-    (length-cells_of_path c.args.points.now path.some)
-    least c.if-least-ge-NO_LIMIT.true
+    ) at c.in_default.ensures.found in
+    IsBoundOver-none g.M.Metric.distance (IsBlocked (g.R.Rows.cells c.args.rows.now) c.args.edge)
+    (cells_of_path c.args.points.now) (length-cells_of_path c.args.points.now path.some) far
 
 pub returns-clause-found : goal.returns-clause-found
 returns-clause-found g c =
     let path = IsPath-from (g.R.Rows.cells c.args.rows.now) c.args.points.now c.requires in
-    let least = rw (
+    let is = rw (
       ← cells_of_path-start c.args.points.now path.some,
       c.bound_along-bound.ensures.rows,
-    ) at c.least_along-least.ensures.found in
-    let first = rw (
-      ← cells_of_path-start c.args.points.now path.some,
-      c.least_along-least.ensures.rows,
+    ) at c.in-Some.ensures.found in
+    IsLeastOf-piece g.M.Metric.distance (IsBlocked (g.R.Rows.cells c.args.rows.now) c.args.edge)
+    (cells_of_path c.args.points.now) 4294967296 c.in-Some.piece c.first_of_piece.result is
+    (rw (
+      c.nearest_piece-found.ensures.rows,
       c.bound_along-bound.ensures.rows,
-    ) at c.first_along.ensures.found in
-    IsLeastOf-over g.M.Metric.distance (IsBlocked (g.R.Rows.cells c.args.rows.now) c.args.edge)
-    (cells_of_path c.args.points.now) 4294967296 c.least_along-least.result c.first_along.result
-    least c.if-least-ge-NO_LIMIT.false first
+    ) at c.first_of_piece.ensures.found)
