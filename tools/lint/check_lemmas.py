@@ -4,9 +4,9 @@ and what is `pub` without need. It isn't in the gate.
 
     tools/lint/check_lemmas.py [CRATE ..]
 
-A lemma is cited by its name: in its own file, or by a `use` line of another. One that nothing cites
-may still be taken by the search: check its crate from nothing, without its `out/`, before you drop
-it.
+A lemma is cited by its name: in its own file, by a `use` line of another, or by a function's
+attribute. One that nothing cites may still be taken by the search: check its crate from nothing,
+without its `out/`, before you drop it.
 """
 import collections
 import itertools
@@ -38,6 +38,9 @@ def citations(texts):
         for module, names in re.findall(r"use (Rattle[\w.]+?)(?:\.\{([^}]*)\})?(?: as \w+)?;?\n", text):
             for name in names.split(",") + [""]:
                 cited[module, name.split(" as ")[0].strip()].add(path)
+        for module, name in re.findall(r"crate::(proofs(?:::\w+)+)::(\w+)", text):
+            crate = path.split("/")[1]
+            cited[f"Rattle.{crate}." + module.replace("::", "."), name].add(path)
     return cited
 
 
