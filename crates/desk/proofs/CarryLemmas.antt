@@ -1,8 +1,8 @@
 -- A command that the keeper commits is carried out: the reply that is computed is the one that its
 -- log has.
-use Rattle.desk.proofs.Names.{◌≡◌, ℕ, ◌<◌, List, [], ◌∷◌, ◌++◌, get_or, refl, ap, subst, sym, ◌∙◌}
-use Rattle.desk.proofs.Names.{Some, None, Command, Paint, Stamp, Publish, Revert, Collect}
-use Rattle.desk.proofs.Names.{Checkpoint, Entry, Reply, Story, newest, Blocks, refused}
+use Rattle.desk.proofs.Names.{◌≡◌, ℕ, ◌<◌, [], ◌∷◌, ◌++◌, refl, ap, sym, ◌∙◌}
+use Rattle.desk.proofs.Names.{Some, None, Command}
+use Rattle.desk.proofs.Names.{Reply, Story, Blocks, refused}
 use Rattle.desk.proofs.Names.{steps_before, Base, slot_of, story, blocks, StoreId, readers_of, Task}
 use Rattle.desk.proofs.Names.{KeeperView, entries, with_command, committed, newest_slot, MayCommit}
 use Rattle.desk.proofs.Names.{entries-push, HasKept, the_reply, Holding, IsOneStep, Does, IsDraw}

@@ -1,15 +1,15 @@
 -- A desk's command: why it is refused, what the seat has then seen, and what the desk is then.
-use Rattle.desk.proofs.Names.{◌≡◌, ℕ, ◌+◌, ◌≤◌, ◌==◌, cond, Bool, true, false, if◌then◌else◌, List}
-use Rattle.desk.proofs.Names.{[], ◌∷◌, ◌++◌, length, drop, refl, ap, subst, sym, ◌∙◌, arith}
-use Rattle.desk.proofs.Names.{add-zero, ◌⊎◌, Option, Some, None, Ok, Err, PlacesUsed, Memory, Seen}
-use Rattle.desk.proofs.Names.{Paint, Stamp, Publish, Revert, Collect, Checkpoint, nat_tests, inl}
-use Rattle.desk.proofs.Names.{inr, Refusal, Command, Entry, Reply, Kept, members, kept_after}
-use Rattle.desk.proofs.Names.{announcements, Story, newest, takes_room, told, refused}
-use Rattle.desk.proofs.Names.{are_places_used, kept_told, Base, story, StoreEntry, StoreId}
+use Rattle.desk.proofs.Names.{◌≡◌, ℕ, ◌+◌, ◌==◌, cond, false, if◌then◌else◌, List}
+use Rattle.desk.proofs.Names.{[], ◌∷◌, ◌++◌, length, refl, ap, sym, ◌∙◌, arith}
+use Rattle.desk.proofs.Names.{add-zero, Option, Some, Ok, Err, PlacesUsed, Seen}
+use Rattle.desk.proofs.Names.{Collect, nat_tests, inl}
+use Rattle.desk.proofs.Names.{inr, Refusal, Command, Reply, kept_after}
+use Rattle.desk.proofs.Names.{Story, newest, takes_room, told, refused}
+use Rattle.desk.proofs.Names.{kept_told, Base, story, StoreEntry, StoreId}
 use Rattle.desk.proofs.Names.{readers_of, entries-push, length-entries, prefix-push}
 use Rattle.desk.proofs.Names.{slots_apart, IsLegal, drop-append-le, drop_all, length-append}
 use Rattle.desk.proofs.Names.{KeeperView, ReaderView, entries, resting, unmet_by, met, met_by}
-use Rattle.desk.proofs.Names.{Holding, IsToldByLog, Refuses, Does, CanCarry, IsCarried}
+use Rattle.desk.proofs.Names.{Holding, IsToldByLog, Refuses, CanCarry, IsCarried}
 use Rattle.desk.proofs.Names.{KeepsScanned, signed, DeskView, story_told, base_place, kept_part}
 use Rattle.desk.proofs.Names.{entries_kept_after, IsDesk, IsSteady, IsByScan, IsAccepted, IsWhy}
 use Rattle.desk.proofs.Names.{IsCommandRefused, IsApplied}

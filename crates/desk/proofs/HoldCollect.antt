@@ -1,13 +1,13 @@
 -- What is held after a collect.
-use Rattle.desk.proofs.Names.{◌≡◌, ℕ, ◌+◌, Bool, true, false, cond, List, [], ◌∷◌, ◌++◌, length}
-use Rattle.desk.proofs.Names.{map, get_or, refl, ap, subst, sym, ◌∙◌, arith, None, Contains, filter}
-use Rattle.desk.proofs.Names.{length-map, Home, Collect, Reply, Collected, Kept, members, IsIn}
+use Rattle.desk.proofs.Names.{◌≡◌, ℕ, ◌+◌, Bool, List, [], ◌∷◌}
+use Rattle.desk.proofs.Names.{map, refl, ap, ◌∙◌, arith, None, Contains, filter}
+use Rattle.desk.proofs.Names.{length-map, Collect, Reply, Collected, Kept, members, IsIn}
 use Rattle.desk.proofs.Names.{IsPartOfKept, least_kept, Story, newest, bitmap_of, kept, IsKept}
 use Rattle.desk.proofs.Names.{with_kept, inuse, IsAnswer, told, Blocks, directory_of, is_used}
 use Rattle.desk.proofs.Names.{moved, refused_by_ledger, IsSummary, Base, story, blocks, IsTidy}
-use Rattle.desk.proofs.Names.{freed_is, refused_next, ledger_collect, Tiled, OldPiece, Sweeps}
-use Rattle.desk.proofs.Names.{draft, bitmap_at, own_blocks, newest_blocks, retired_of}
-use Rattle.desk.proofs.Names.{retired_blocks, Holding, summary_of, Holds, IsToldByLog, Does, rules}
+use Rattle.desk.proofs.Names.{freed_is, refused_next, ledger_collect, OldPiece, Sweeps}
+use Rattle.desk.proofs.Names.{retired_of}
+use Rattle.desk.proofs.Names.{retired_blocks, Holding, summary_of, Holds, Does, rules}
 use Rattle.map_core.specs.declared.blocks.RetiredBlock.{RetiredBlock}
 use Rattle.map_core.proofs.logs.SummaryCollect.{summary_swept}
 use Rattle.map_core.proofs.invariants.TidyCollect.{IsChoice, kept_of}

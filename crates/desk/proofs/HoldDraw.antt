@@ -1,13 +1,13 @@
 -- What is held after a paint or a stamp, and after a revert.
-use Rattle.desk.proofs.Names.{◌≡◌, ℕ, ◌+◌, ◌-◌, Bool, true, false, if◌then◌else◌, List, [], ◌∷◌}
-use Rattle.desk.proofs.Names.{◌++◌, length, drop, map, replicate, refl, ap, subst, sym, ◌∙◌, arith}
-use Rattle.desk.proofs.Names.{Option, Some, None, is_some, nat_lt, length-map, Cells, Refusal}
-use Rattle.desk.proofs.Names.{OutOfRange, BlocksFull, Command, Paint, Stamp, Publish, Revert}
-use Rattle.desk.proofs.Names.{Collect, Checkpoint, Entry, Reply, Painted, Reverted, Checkpointed}
-use Rattle.desk.proofs.Names.{Ledger, Setting, IsDraw, Story, newest, bitmap_of, trues, new_ones}
-use Rattle.desk.proofs.Names.{inuse, needed, refused, refused_blocks, IsAnswer, told, after_draw}
-use Rattle.desk.proofs.Names.{Blocks, directory_of, own_after, moved, drawn_blocks}
-use Rattle.desk.proofs.Names.{refused_by_ledger, refused_draw_blocks, Summary, IsSummary, Base}
+use Rattle.desk.proofs.Names.{◌≡◌, ℕ, ◌+◌, true, false, List, []}
+use Rattle.desk.proofs.Names.{length, refl, ap, sym, ◌∙◌, arith}
+use Rattle.desk.proofs.Names.{Option, Some, None, length-map, Refusal}
+use Rattle.desk.proofs.Names.{Command, Revert}
+use Rattle.desk.proofs.Names.{Checkpoint, Entry, Reply, Painted, Reverted, Checkpointed}
+use Rattle.desk.proofs.Names.{Ledger, Setting, IsDraw, Story, newest, bitmap_of}
+use Rattle.desk.proofs.Names.{needed, refused, refused_blocks, IsAnswer, told, after_draw}
+use Rattle.desk.proofs.Names.{Blocks, directory_of, moved, drawn_blocks}
+use Rattle.desk.proofs.Names.{refused_by_ledger, refused_draw_blocks, Base}
 use Rattle.desk.proofs.Names.{story, blocks, IsTidy, refused_first, refused_next, refused_for_none}
 use Rattle.desk.proofs.Names.{inside_told, told_draw, ledger_draw, ledger_revert, ledger_checkpoint}
 use Rattle.desk.proofs.Names.{reply_is_answer, Draws, Reverts, draft, own_blocks, needed_by}
@@ -18,7 +18,7 @@ use Rattle.map_core.proofs.logs.SummaryDraw.{IsDrawnOn, moved_draw, summary_draw
 use Rattle.map_core.proofs.logs.SummaryDraw.{summary_checkpoint}
 use Rattle.map_core.proofs.invariants.TidyDraft.{free_is}
 use Rattle.desk.proofs.HoldLemmas.{tidy_told, told_more, holds_draft}
-use Rattle.map_core.specs.Drawing.{touched, differing, cells_changed, is_inside, draws as is_draw}
+use Rattle.map_core.specs.Drawing.{touched, is_inside, draws as is_draw}
 use Rattle.desk.specs.declared.holding.judged.Judged.TheVariants as kinds
 
 -- a paint or a stamp needs as many blocks by the grid as by the log

@@ -1,9 +1,9 @@
 -- What is held at the opening, what a command asks, and that all blocks come back at the end.
 use Rattle.desk.proofs.Names.{◌≡◌, ℕ, ◌+◌, ◌-◌, suc, List, [], ◌∷◌, ◌++◌, length, map, drop}
-use Rattle.desk.proofs.Names.{replicate, get_or, refl, ap, subst, sym, ◌∙◌, arith, Option, None}
+use Rattle.desk.proofs.Names.{replicate, ap, sym, ◌∙◌, arith, None}
 use Rattle.desk.proofs.Names.{length-map, length-replicate, get_or-replicate, Cells, IsBitmap}
-use Rattle.desk.proofs.Names.{Ledger, Setting, Entry, first_kept, opened, newest, bitmap_of, IsKept}
-use Rattle.desk.proofs.Names.{opened_blocks, directory_of, own_list, IsLedger, Base, tiles, story}
+use Rattle.desk.proofs.Names.{Setting, Entry, first_kept, opened, newest, bitmap_of, IsKept}
+use Rattle.desk.proofs.Names.{opened_blocks, directory_of, own_list, Base, tiles, story}
 use Rattle.desk.proofs.Names.{blocks, balanced, fits_ready, bad_field-none, draft, bitmap_at}
 use Rattle.desk.proofs.Names.{own_blocks, newest_blocks, retired_of, Holding, IsToldByLog}
 use Rattle.desk.proofs.Names.{CanAnswer, rules}

@@ -1,12 +1,11 @@
 -- What is held after a publish.
-use Rattle.desk.proofs.Names.{◌≡◌, ℕ, ◌+◌, List, ◌++◌, replicate, ap, sym, ◌∙◌, arith, Option, None}
+use Rattle.desk.proofs.Names.{◌≡◌, ℕ, ◌+◌, arith, None}
 use Rattle.desk.proofs.Names.{length-map, inl, inr, Publish, Reply, Published, first_free}
 use Rattle.desk.proofs.Names.{with_version, Story, bitmap_of, IsKept, IsAnswer, told, Blocks}
-use Rattle.desk.proofs.Names.{mapped, moved, refused_by_ledger, IsSummary, came_after, retired_by}
+use Rattle.desk.proofs.Names.{moved, refused_by_ledger, IsSummary}
 use Rattle.desk.proofs.Names.{Base, story, blocks, IsTidy, refused_next, ledger_publish, Seals}
-use Rattle.desk.proofs.Names.{bitmap_at, own_blocks, newest_blocks, retired_blocks, block_if}
+use Rattle.desk.proofs.Names.{bitmap_at, own_blocks, retired_blocks, block_if}
 use Rattle.desk.proofs.Names.{Holding, summary_of, Holds, Does, rules}
-use Rattle.arena.specs.Chain.{Pool}
 use Rattle.map_core.proofs.logs.SummaryPublish.{newest_published, slots_published, summary_publish}
 use Rattle.map_core.proofs.invariants.TidyPublish.{newest-publish, bitmap_of-publish, bitmap_of-new}
 use Rattle.map_core.proofs.invariants.TidyPublish.{directory_of-new, kept_published}

@@ -5,7 +5,6 @@ mod HoldDraw
 mod HoldLemmas
 mod HoldOpen
 mod HoldPublish
-mod OpenedLemmas
 mod PublishSteps
 mod ScanSteps
 mod Names

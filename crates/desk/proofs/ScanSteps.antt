@@ -1,8 +1,8 @@
 -- What a scan has seen so far, and what it keeps.
 use Rattle.desk.proofs.Names.{◌≡◌, ℕ, ◌+◌, ◌^◌, ◌<◌, ◌≤◌, List, [], ◌∷◌, ◌++◌, length, map, take}
-use Rattle.desk.proofs.Names.{set, ap, sym, subst, ◌∙◌, refl, arith, Option, None, map-append}
+use Rattle.desk.proofs.Names.{set, ◌∙◌, refl, arith, Option, None, map-append}
 use Rattle.desk.proofs.Names.{length-map, length-take, take_more_set, Command, Collect, Entry}
-use Rattle.desk.proofs.Names.{Reply, Kept, Seen, IsIn, kept_after, told, kept_told, Story, newest}
+use Rattle.desk.proofs.Names.{Reply, Kept, Seen, IsIn, kept_after, told, kept_told, newest}
 use Rattle.desk.proofs.Names.{IsKept, kept_scanned, steps_before, Base, pin_word, seen_in, story}
 use Rattle.desk.proofs.Names.{story-push, the_reply, StoreId, readers_of, KeeperView, entries}
 use Rattle.desk.proofs.Names.{scanning, Holding, IsToldByLog, Does, IsInHand, IsWorked}

@@ -1,8 +1,8 @@
 -- A bitmap once some of its rows are copied.
 use Rattle.libclearmap.proofs.Names.{◌≡◌, ℕ, ◌&&◌, ◌+◌, ◌*◌, ◌/◌, ◌%◌, ◌<◌, ◌≤◌, nat_lt}
-use Rattle.libclearmap.proofs.Names.{if◌then◌else◌, true, false, List, length, get_or, set, sym}
-use Rattle.libclearmap.proofs.Names.{◌∙◌, arith, bit_at, mul-le-mul_right, cases_eq, nat_tests}
-use Rattle.libclearmap.proofs.Names.{get_or-set_same, get_or-set_other, Cells, has, cells_where}
+use Rattle.libclearmap.proofs.Names.{if◌then◌else◌, true, false, List, get_or, sym}
+use Rattle.libclearmap.proofs.Names.{◌∙◌, arith, bit_at, mul-le-mul_right, nat_tests}
+use Rattle.libclearmap.proofs.Names.{Cells, has, cells_where}
 use Rattle.libclearmap.proofs.Names.{IsBitmap, IsObstacle, cells_stored, is_stored, words_across}
 use Rattle.libclearmap.proofs.Names.{is_bit, cells_where-same, cells_where-has, has-cells_where}
 use Rattle.libclearmap.proofs.Names.{has-cells_where_right, words_of_row, IsRowOf-words, is_counted}
@@ -33,27 +33,12 @@ pub rows_front-more : (cells : Cells) (y : ℕ) (words : List ℕ)
 rows_front-more cells y words read = cells_where-same _ _ _ _ (λ a b ha hb.
     grind (arith, nat_tests, read (a / 64), row_bit cells a y ha, has-cells_where))
 
--- a further word of a row is read
-pub words_more : (row words : List ℕ) (index word : ℕ) → index < length row → word
-    ≡ get_or words index 0 → ((k : ℕ) → k < index → get_or row k 0 ≡ get_or words k 0)
-    → (k : ℕ) → k < index + 1 → get_or (set row index word) k 0 ≡ get_or words k 0
-words_more row words index word within is before k below =
-    grind (arith, cases_eq k index, get_or-set_same, get_or-set_other, before k)
-
 -- a row is written by those words alone that it needs
 pub with_row-same : (cells : Cells) (y : ℕ) (words others : List ℕ)
     → ((k : ℕ) → k < words_across cells.width → get_or words k 0 ≡ get_or others k 0)
     → with_row cells y words ≡ with_row cells y others
 with_row-same cells y words others same = cells_where-same _ _ _ _
     (λ a b ha hb. grind (arith, same (a / 64)))
-
--- an item more is written of those that stand from a place on
-pub items_more : (start : ℕ) (all : List ℕ) (value : ℕ → ℕ) (index item : ℕ)
-    → start + index < length all → item ≡ value index
-    → ((k : ℕ) → k < index → get_or all (start + k) 0 ≡ value k)
-    → (k : ℕ) → k < index + 1 → get_or (set all (start + index) item) (start + k) 0 ≡ value k
-items_more start all value index item within is before k below =
-    grind (arith, cases_eq k index, get_or-set_same, get_or-set_other, before k)
 
 -- the bit of a cell tells what the cell is, where its word and its place are given
 pub row_bit_at : (cells : Cells) (x y index i : ℕ) → x < cells.width → i < 64 → x ≡ 64 * index + i

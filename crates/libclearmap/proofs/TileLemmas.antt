@@ -1,6 +1,6 @@
 -- The words of a map whose tiles have marks.
 use Rattle.libclearmap.proofs.Names.{◌≡◌, ◌≢◌, ℕ, ◌+◌, ◌*◌, ◌/◌, ◌^◌, ◌<◌, ◌==◌, ◌&&◌, true, false}
-use Rattle.libclearmap.proofs.Names.{if◌then◌else◌, List, get_or, refl, ◌∙◌, arith, w64, bit_at}
+use Rattle.libclearmap.proofs.Names.{if◌then◌else◌, List, get_or, ◌∙◌, arith, w64, bit_at}
 use Rattle.libclearmap.proofs.Names.{bit_not, bit_at_not, same_from_bits_below, word_where-lt}
 use Rattle.libclearmap.proofs.Names.{nat_tests, IsBanded, IsTiled, IsObstacle, IsSide, has}
 use Rattle.libclearmap.proofs.Names.{is_stored, words_across, IsBitmap-cells_where}
@@ -9,11 +9,6 @@ use Rattle.libclearmap.proofs.Names.{word_in_row, ClearmapBits, IsBlankTile, ban
 use Rattle.libclearmap.proofs.Names.{cells_of_bits, cells_of_rows, is_counted, is_marked, is_set}
 use Rattle.libclearmap.proofs.Names.{is_tile_counted}
 use Rattle.libclearmap.proofs.LayoutLemmas.{cell_bits, maps}
-
--- a map without marks of tiles is the map in its rows
-pub cells_of_bits-plain : (map : ClearmapBits) (words : List ℕ) → map.tiles ≡ 0
-    → cells_of_rows map words ≡ cells_of_bits map words
-cells_of_bits-plain map words plain = cells_where-same _ _ _ _ (λ x y hx hy. rw plain refl)
 
 -- a word of a row counts where its tile isn't known to be blank
 pub word_in_tiles : (map : ClearmapBits) (words : List ℕ) (y k own : ℕ) → map.tiles ≢ 0

@@ -1,6 +1,5 @@
 -- A command is taken, worked and committed.
-use Rattle.desk.proofs.Names.{KeeperView, ap}
-use Rattle.desk.proofs.CarryLemmas.{accepted, carried, may_commit, slot_told, taken_in_hand}
+use Rattle.desk.proofs.CarryLemmas.{carried, may_commit, slot_told, taken_in_hand}
 use Rattle.desk.proofs.carry.carry.Goals as goal
 
 pub commit-requires-clause-may : goal.commit-requires-clause-may

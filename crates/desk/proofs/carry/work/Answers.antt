@@ -1,6 +1,4 @@
 -- A current command of one step is worked once what it does is done.
-use Rattle.desk.proofs.Names.{refl}
-use Rattle.desk.proofs.CarryLemmas.{drawn_once, worked_at_once}
 use Rattle.desk.proofs.HoldOpen.{can_answer}
 use Rattle.desk.proofs.carry.work.Goals as goal
 

@@ -1,9 +1,8 @@
 -- A current collect is worked: each call finds what it needs, and the log and the grid agree after
 -- them.
-use Rattle.desk.proofs.Names.{ap, ◌∙◌, Collect, Setting}
-use Rattle.desk.proofs.CarryLemmas.{has_task}
+use Rattle.desk.proofs.Names.{ap, ◌∙◌, Setting}
 use Rattle.desk.proofs.HoldOpen.{can_answer}
-use Rattle.desk.proofs.ScanSteps.{collect_worked, few_versions, kept_computed, newest_kept}
+use Rattle.desk.proofs.ScanSteps.{collect_worked, kept_computed}
 use Rattle.desk.proofs.carry.collect.carry_collect.Goals as goal
 
 pub collect-requires-clause-able : goal.collect-requires-clause-able

@@ -1,7 +1,6 @@
 -- A current publish is worked: each call finds what it needs, and what is held is answered after
 -- them.
-use Rattle.desk.proofs.Names.{refl, Publish}
-use Rattle.desk.proofs.CarryLemmas.{has_task}
+use Rattle.desk.proofs.Names.{refl}
 use Rattle.desk.proofs.HoldLemmas.{publish_room}
 use Rattle.desk.proofs.HoldOpen.{can_answer}
 use Rattle.desk.proofs.PublishSteps.{publish_worked}

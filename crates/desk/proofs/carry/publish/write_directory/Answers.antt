@@ -1,6 +1,6 @@
 -- Each word of the directory is the next word.
-use Rattle.desk.proofs.Names.{◌<◌, ◌+◌, ◌*◌, ap, subst, ◌∙◌, arith, next_position}
-use Rattle.desk.proofs.PublishSteps.{own_long, next_block, next_slot_is}
+use Rattle.desk.proofs.Names.{◌<◌, ◌+◌, ◌*◌, ap, subst, ◌∙◌, next_position}
+use Rattle.desk.proofs.PublishSteps.{next_block, next_slot_is}
 use Rattle.desk.proofs.carry.publish.write_directory.Goals as goal
 
 pub write_word-requires : goal.write_word-requires

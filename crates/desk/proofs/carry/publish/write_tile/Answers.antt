@@ -1,6 +1,6 @@
 -- A tile that the draft has of its own is the next one.
-use Rattle.desk.proofs.Names.{Some, ap, refl, sym, arith, ◌∙◌}
-use Rattle.desk.proofs.PublishSteps.{own_long, next_tile, one_more}
+use Rattle.desk.proofs.Names.{Some, ap, refl, sym, ◌∙◌}
+use Rattle.desk.proofs.PublishSteps.{next_tile, one_more}
 use Rattle.desk.proofs.carry.publish.write_tile.Goals as goal
 
 pub write_rows-requires-clause-own : goal.write_rows-requires-clause-own

@@ -1,7 +1,7 @@
 -- A command is refused, or committed with its answer.
 use Rattle.desk.proofs.Names.{◌≡◌, List, [], ◌∷◌, ◌++◌, ap, ◌∙◌, StoreEntry, KeeperView, ReaderView}
 use Rattle.desk.proofs.Names.{signed, DeskView, entries_kept_after}
-use Rattle.desk.proofs.DeskLemmas.{IsDone, keeper_met, reader_met, can_carry, refused_is, log_after}
+use Rattle.desk.proofs.DeskLemmas.{IsDone, keeper_met, reader_met, refused_is, log_after}
 use Rattle.desk.proofs.DeskLemmas.{desk_after, accepted_is, legal_after, applied_accepted}
 use Rattle.desk.proofs.DeskLemmas.{applied_refused}
 use Rattle.desk.proofs.HoldOpen.{can_answer}

@@ -1,5 +1,5 @@
 -- A checkpoint is done.
-use Rattle.desk.proofs.Names.{refl, place_of_ledger}
+use Rattle.desk.proofs.Names.{refl}
 use Rattle.desk.proofs.HoldDraw.{checkpoint_done}
 use Rattle.desk.proofs.holding.Holding.checkpoint.Goals as goal
 

@@ -1,5 +1,4 @@
 -- A collect is done.
-use Rattle.desk.proofs.Names.{subst, sym, IsIn, place_of_ledger}
 use Rattle.desk.proofs.HoldCollect.{collect_done}
 use Rattle.desk.proofs.holding.Holding.collect.Goals as goal
 

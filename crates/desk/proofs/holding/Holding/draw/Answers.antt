@@ -1,5 +1,4 @@
 -- A paint or a stamp is done.
-use Rattle.desk.proofs.Names.{place_of_ledger}
 use Rattle.desk.proofs.HoldDraw.{draw_done}
 use Rattle.desk.proofs.holding.Holding.draw.Goals as goal
 

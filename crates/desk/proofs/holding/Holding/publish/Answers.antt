@@ -1,6 +1,5 @@
 -- A publish is done.
-use Rattle.desk.proofs.Names.{refl, arith, place_of_ledger}
-use Rattle.desk.proofs.HoldLemmas.{slot_of_ledger}
+use Rattle.desk.proofs.Names.{refl}
 use Rattle.desk.proofs.HoldPublish.{publish_done}
 use Rattle.desk.proofs.holding.Holding.publish.Goals as goal
 

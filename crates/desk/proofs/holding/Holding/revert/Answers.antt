@@ -1,5 +1,4 @@
 -- A revert is done.
-use Rattle.desk.proofs.Names.{place_of_ledger}
 use Rattle.desk.proofs.HoldDraw.{revert_done}
 use Rattle.desk.proofs.holding.Holding.revert.Goals as goal
 
