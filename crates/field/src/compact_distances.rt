@@ -18,13 +18,14 @@ use std::thread::Threads;
 /// The distances of the cells of a range of rows to their nearest obstacles, in strips: 2 bytes per
 /// cell in rows with no distance over 65,534, otherwise 4. Contracts see the strips.
 ///
-/// It has what a `DistanceTable` has in less memory; a row is read by copying it.
+/// It has what a `DistanceTable` has, in half the memory where rows are short; a row is read by
+/// copying it.
 #[derive(Debug, Drop)]
 pub struct CompactDistances {
     width: u16,
     y0: u16,
     y1: u16,
-    /// The rows of a strip; the last strip may have fewer.
+    /// The rows of a strip; the last strips may have fewer, or none.
     height: u16,
     strips: Vec<CompactStrip>,
 }

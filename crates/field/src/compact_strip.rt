@@ -41,8 +41,9 @@ impl CompactStrip {
         })
     }
 
-    /// Appends a row, the first of this many that are still to come. No memory is touched for them
-    /// before that. `halves` is a buffer for a row's halves. Fails only when out of memory.
+    /// Appends the first of this many rows that are still to come. The memory reserved for the rows
+    /// after it isn't touched. `halves` is a buffer for a row's halves. Fails only when out of
+    /// memory.
     pub fn push_row(&mut self, line: &[u32], halves: &mut [u16], rows: u16) -> Result<(), Refusal>
         requires lines { HasLines (length line.now) self.old }
         requires halves { length halves.old ≡ length line.now }
@@ -77,9 +78,9 @@ impl CompactStrip {
     }
 }
 
-/// Appends the high halves of a row's distances, unless they are zeros, and returns where a line of
-/// them starts. What the distances are kept as isn't over `most`. The row is the first of this many
-/// that are still to come.
+/// Appends the high halves of a row's distances, unless all are 0, and returns where its line of
+/// them starts. Nothing that the distances are kept as exceeds `most`. The row is the first of this
+/// many that are still to come.
 fn push_high(
     high: &mut Vec<u16>,
     line: &[u32],

@@ -6,8 +6,8 @@ ghost use Rattle.field.specs.Compact.{high_half, kept_as, low_half, number_of};
 /// The least number that needs a high half.
 pub const HALF: u32 = 1 << 16;
 
-/// Writes the low halves of a line's distances. Returns a number that what they are kept as isn't
-/// over, and which needs a high half only if one of these does.
+/// Writes the low halves of a line's distances. Returns a number that none of what they are kept as
+/// exceeds: below `HALF` exactly if no high half is other than 0.
 #[inline(never)]
 pub fn put_low(line: &[u32], low: &mut [u16]) -> u32
     requires { length low.old ≡ length line.now }

@@ -74,8 +74,8 @@ impl<Id: StoreName> Pinned<Id> {
         self.seat.made()
     }
 
-    /// Whether a query asks the version's bitmap, and has what isn't read yet of it read: half of
-    /// the bands have been, or eight words per tile.
+    /// Whether a query searches the whole version's bitmap, for which it first reads the bands not
+    /// read yet: half of the bands have been read, or eight words per tile.
     fn asks_bitmap(&self) -> bool {
         self.copy.is_enough()
     }

@@ -11,9 +11,9 @@ use crate::pinned::Looks;
 use bits::Bitmap;
 use metric::BAND_ROWS;
 
-/// A bitmap of the version's size that has the bands of 64 rows which have been read, and what
+/// A bitmap of the version's size with the bands of 64 rows that have been read, and how many words
 /// queries may still look at. Where bit k of `unread` is 1, the bitmap's rows 64 k to 64 k + 63
-/// have any cells and marks.
+/// haven't been read: their cells and marks mean nothing.
 #[derive(Drop)]
 pub struct VersionCopy {
     pub bitmap: Bitmap,
@@ -48,8 +48,8 @@ impl VersionCopy {
         }
     }
 
-    /// Whether the next query has the rest read: half of the bands have been, or as many words as
-    /// queries may read before.
+    /// Whether the next query reads all other bands first: half of the bands have been read, or
+    /// queries have read all words that they may.
     pub fn is_enough(&self) -> bool {
         let down = u32::from(self.bitmap.height()).div_ceil(64);
         self.unread.count_ones() <= down / 2 || self.looks.are_used_up()

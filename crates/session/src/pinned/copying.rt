@@ -16,8 +16,8 @@ use shelf::{ReaderSeat, StoreName};
 
 impl VersionCopy {
     /// Reads a word of row `y` of the held version: from its band's rows, if the band has been
-    /// read, or by a look at this word alone. A band of which many blank words were looked at is
-    /// read.
+    /// read, or by a look at this word alone. After many blank words one after another, in
+    /// whichever bands, the word's band is read.
     #[inline(always)]
     pub fn word<Id: StoreName>(
         &mut self,

@@ -7,8 +7,8 @@ use metric::{MOST_SIDE, MOST_TILES, WORD_CELLS};
 /// Words per tile of the map that queries read before the rest of the version is read.
 const WORDS: u16 = 8;
 
-/// Blank words in a row, per tile of a band, that queries look at before a band is read. Where
-/// more words have an obstacle queries end soon, and reading a tile takes longer.
+/// Consecutive blank words, per tile of a band, that queries look at before they read a band. A
+/// word with an obstacle ends most queries sooner than its tile could be read.
 const BLANKS: u32 = 4;
 
 /// The words that queries have read, and the blank ones that they may look at before the next with
@@ -41,8 +41,8 @@ impl Looks {
         self.most_words <= self.words
     }
 
-    /// How many blank words may be looked at after one with an obstacle: none once they are used
-    /// up, so that a long query reads bands.
+    /// How many blank words may be looked at after a word with an obstacle: none once queries have
+    /// read all words that they may, so that a long query reads bands.
     #[inline(always)]
     fn blanks_next(&self) -> u32 {
         if self.are_used_up() {
@@ -74,7 +74,8 @@ impl Looks {
         };
     }
 
-    /// Counts a look at this many words: how many are blank before the first that isn't.
+    /// Counts a look at this many words of a row, the first `blank` of them blank and the next, if
+    /// there is one, not.
     pub fn count_row(&mut self, words: u32, blank: u32) {
         self.words = self.words.wrapping_add(u64::from(blank));
         self.blanks = if blank < words {
@@ -84,7 +85,7 @@ impl Looks {
         };
     }
 
-    /// Counts a band that was read: fewer blank words are looked at before the next is.
+    /// Counts a band that was read: only one blank word per tile is looked at before the next is.
     pub fn count_band(&mut self) {
         self.blanks = self.blanks_next() / BLANKS;
     }
