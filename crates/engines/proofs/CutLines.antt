@@ -38,15 +38,15 @@ same_part : (before after one two : List ℕ) → after ≡ before ++ one → af
 same_part before after one two first second =
     append_cancel_left before one two (sym first ∙ second)
 
--- where some bytes were gathered, and then at most one more was taken, at most one more was
-pub few_behind : (so_far count : ℕ) (unread between left : Option (List ℕ))
-    (before middle : List ℕ) → so_far < count → Gathers unread before middle between
-    → PutsCount so_far before middle → TakesFew 1 between left → TakesFew count unread left
-few_behind so_far count unread between left before middle less one part next =
+-- where some bytes were gathered, and then few more were taken, all of them are few
+pub few_behind : (so_far more count : ℕ) (unread between left : Option (List ℕ))
+    (before middle : List ℕ) → so_far + more ≤ count → Gathers unread before middle between
+    → PutsCount so_far before middle → TakesFew more between left → TakesFew count unread left
+few_behind so_far more count unread between left before middle within one part next =
     let same = same_part before middle one.bytes part.part one.after_is part.after_is in
     let many : length one.bytes ≡ so_far = ap length same ∙ part.many in
     let few = next.few in
-    let all : length one.bytes + length next.bytes ≤ count = omega (arith, less, many, few) in
+    let all : length one.bytes + length next.bytes ≤ count = omega (arith, within, many, few) in
     record {
       bytes = one.bytes ++ next.bytes;
       few = subst (λ (n : ℕ). n ≤ count) (sym (length-append one.bytes next.bytes)) all;

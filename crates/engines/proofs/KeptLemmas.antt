@@ -26,15 +26,6 @@ use Rattle.engines.specs.dist.Tabled.{HasAllNumbers, IsBelowNone, IsTableOf}
 use Rattle.engines.specs.dist.Tabled.{some_near, some_nears}
 use Rattle.engines.proofs.MeasuredLines.{distance_text-near}
 
--- a measured number is at most the one that means none
-pub few_measured : (d : ℕ → ℕ → ℕ) (near : Option Near) (number : ℕ) → IsBelowNone d
-    → IsMeasured d near number → number ≤ 4294967295
-few_measured d None number below is = omega (arith, is)
-few_measured d (Some near) number below (is, far) =
-    let few = below far.columns far.rows far.few_columns far.few_rows in
-    let same = far.is in
-    omega (arith, few, same)
-
 -- what is written of a measured number is what is written of its nearest obstacle
 text_measured : (d : ℕ → ℕ → ℕ) (near : Option Near) (number : ℕ) → IsBelowNone d
     → IsMeasured d near number → distance_text number ≡ entry_text false near
@@ -151,21 +142,6 @@ IsTableOf-numbers d cells edge table some below far =
           (λ k. some_near (number_at table (k % width) (k / width))) 0 (height * width) k k None
           within (omega arith)))));
     }
-
--- the numbers of all rows of a table of distances are in 32 bits
-pub HasAllNumbers-far : (d : ℕ → ℕ → ℕ) (cells : Cells) (edge : Edge) (table : Distances)
-    → IsBelowNone d → table.width ≡ cells.width → table.y0 ≡ 0 → table.y1 ≡ cells.height
-    → ((x y : ℕ) → x < cells.width → y < cells.height
-    → IsFarAway d (IsBlocked cells edge) x y (number_at table x y))
-    → HasAllNumbers cells.width cells.height table
-HasAllNumbers-far d cells edge table below across from to far = record {
-  across = across;
-  from = from;
-  to = to;
-  few = λ x y column row.
-      let it = far x y column row in
-      few_measured d it.near (number_at table x y) below it.measured;
-}
 
 -- some spot at a distance in 32 bits is at it
 IsDistanceOf-some : (number : ℕ) → number ≤ 4294967295 → IsDistanceOf (some_near number) number

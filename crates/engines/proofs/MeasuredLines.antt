@@ -1,25 +1,11 @@
 -- The line of a row's distances is that of its nearest obstacles.
-use Rattle.std.proofs.Common.{◌≡◌, ℕ, ◌*◌, ◌≤◌, ◌==◌, suc, List, [], ◌∷◌, ◌++◌, map}
+use Rattle.std.proofs.Common.{◌≡◌, ℕ, ◌==◌, suc, List, [], ◌∷◌, ◌++◌, map}
 use Rattle.std.proofs.Common.{false, Option, Some, None, refl, ap, arith}
-use Rattle.std.proofs.Math.Nat.{mul-le-mul}
 use Rattle.std.specs.List.{join_with_byte, flat_map}
-use Rattle.metric.specs.Kind.{distance_of}
-use Rattle.metric.specs.declared.kind.MetricKind.{MetricKind}
-use Rattle.metric.specs.declared.kind.MetricKind.TheVariants.{Euclid2, City, Chess}
 use Rattle.metric.specs.declared.near.Near.{Near}
-use Rattle.engines.specs.dist.Tabled.{IsBelowNone}
 use Rattle.engines.specs.dist.Measured.{AreDistances, IsDistanceOf, distance_text, distances_line}
 use Rattle.engines.specs.dist.Table.{entry_text, row_line}
 use Rattle.engines.proofs.Lines.{join_with_byte-cons}
-
--- each metric's distances are below the number that stands for none
-pub below_none : (metric : MetricKind) → IsBelowNone (distance_of metric)
-below_none Euclid2 columns rows across down =
-    let squares : columns * columns ≤ 4097 * 4097 = mul-le-mul across across in
-    let others : rows * rows ≤ 4097 * 4097 = mul-le-mul down down in
-    omega (arith, squares, others)
-below_none City columns rows across down = omega arith
-below_none Chess columns rows across down = omega arith
 
 -- what is printed for a distance is what is printed for its nearest obstacle
 pub distance_text-near : (near : Option Near) (number : ℕ) → IsDistanceOf near number

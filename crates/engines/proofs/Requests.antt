@@ -58,15 +58,16 @@ ended_unended unread between left before middle after one part (same, all) = (
   GathersAll-both unread between left before middle after one all,
 )
 
--- where a byte is put after this many, one more byte is put
-pub PutsCount-more : (count : ℕ) (before middle after : List ℕ) (byte : ℕ)
-    → PutsCount count before middle → after ≡ middle ++ byte ∷ []
-    → PutsCount (count + 1) before after
-PutsCount-more count before middle after byte part is = record {
-  part = part.part ++ byte ∷ [];
-  many = length-append part.part (byte ∷ []) ∙ ap (λ n. n + 1) part.many;
-  after_is = is
-      ∙ (ap (λ t. t ++ byte ∷ []) part.after_is ∙ append_assoc before part.part (byte ∷ []));
+-- where bytes are put after others, as many are put as both are
+pub PutsCount-both : (count more : ℕ) (before middle after : List ℕ)
+    → PutsCount count before middle → PutsCount more middle after
+    → PutsCount (count + more) before after
+PutsCount-both count more before middle after one two = record {
+  part = one.part ++ two.part;
+  many = length-append one.part two.part
+      ∙ (ap (λ n. n + length two.part) one.many ∙ ap (λ n. count + n) two.many);
+  after_is = two.after_is
+      ∙ (ap (λ t. t ++ two.part) one.after_is ∙ append_assoc before one.part two.part);
 }
 
 -- where a stream ends before this many bytes, the buffer has fewer, and none is left

@@ -28,8 +28,8 @@ enum Kept<M: Metric> {
 }
 
 /// The nearest obstacles of all cells by one metric, or else their distances. Contracts see its
-/// size, whether it has obstacles, and these, in row-major order; of distances they see some spots
-/// at them.
+/// size, whether it has obstacles, and what each cell has, in row-major order: with distances
+/// alone, an obstacle this far away whose spot means nothing.
 #[derive(Drop)]
 pub struct Table<M: Metric> {
     width: u16,
@@ -159,9 +159,9 @@ impl<M: Metric + Sync> Table<M> {
         self.height
     }
 
-    /// Writes the line of row `y`, with obstacles if the table has them, and returns where it ends.
-    /// The other two are buffers: for the row's nearest obstacles if the table has them, and for
-    /// its distances if it has these alone.
+    /// Writes the line of row `y` to `text` from `at` on, with obstacles if the table has them, and
+    /// returns where it ends. `nears` and `distances` are buffers for a row, of which it uses the
+    /// one that holds what the table has; the other may be empty.
     pub fn put_line(
         &self,
         decimals: &Decimals,

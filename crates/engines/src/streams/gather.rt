@@ -1,7 +1,7 @@
 //! Reads a line, or a number of bytes, into a buffer.
 
-ghost use Rattle.std.specs.Prelude.{◌≡◌, ◌≢◌, ◌+◌, ◌++◌, ◌∷◌, [], ℕ, List, vec_len, IfOk, OnOk};
-ghost use Rattle.std.specs.Prelude.{OnErr, Err};
+ghost use Rattle.std.specs.Prelude.{◌≡◌, ◌≢◌, ◌+◌, ◌≤◌, ◌++◌, ◌∷◌, [], ℕ, List, IfOk, OnOk};
+ghost use Rattle.std.specs.Prelude.{OnErr, Err, length, vec_len};
 ghost use Rattle.metric.specs.Stream.{CanFail, Takes};
 ghost use Rattle.engines.specs.streams.Passing.{Gathers, GathersAll, PutsCount, PutsFewer};
 ghost use Rattle.engines.specs.streams.Passing.{PutsLine, PutsUnended, TakesAtMost, TakesFew};
@@ -9,7 +9,10 @@ ghost use Rattle.engines.specs.declared.streams.gather.PartStop.{PartStop};
 ghost use Rattle.engines.specs.declared.streams.gather.PartStop.TheVariants.{Ended, Failed};
 
 use metric::Source;
-use std::alloc::AllocFailed;
+use std::alloc::{AllocError, AllocFailed};
+
+/// The most bytes of one read.
+const BLOCK: usize = 4096;
 
 /// Why not everything was read.
 #[derive(Clone, Copy)]
@@ -29,6 +32,17 @@ impl From<AllocFailed<u8>> for PartStop {
     ghost from_gives = { λ _ stop. stop ≡ Memory };
 
     fn from(_refused: AllocFailed<u8>) -> PartStop {
+        PartStop::Memory
+    }
+}
+
+/// An allocation that was refused, of a value that the caller still has.
+impl From<AllocError> for PartStop {
+    ghost use Rattle.engines.specs.declared.streams.gather.PartStop.TheVariants.{Memory};
+
+    ghost from_gives = { λ _ stop. stop ≡ Memory };
+
+    fn from(_refused: AllocError) -> PartStop {
         PartStop::Memory
     }
 }
@@ -75,10 +89,51 @@ pub fn read_count<R: Source>(
     ensures ended { result ≡ Err Ended → PutsFewer count bytes.old.items bytes.new.items
         × GathersAll (R.rest reader.old) bytes.old.items bytes.new.items (R.rest reader.new) }
 {
-    'bytes: for _ in 0..count {
-        read_byte(reader, bytes)?;
+    if count == 0 {
+        return Ok(());
+    }
+    let mut block = [0; BLOCK];
+    let mut done = 0;
+    'turns: while done < count {
+        let most = (count - done).min(BLOCK as u32);
+        done += read_block(reader, bytes, &mut block[..most as usize])?;
     }
     Ok(())
+}
+
+/// Appends the next bytes to the buffer, at least one and at most as many as `block` has places,
+/// and returns how many.
+fn read_block<R: Source>(
+    reader: &mut R,
+    bytes: &mut Vec<u8>,
+    block: &mut [u8],
+) -> Result<u32, PartStop>
+    requires fails { CanFail (R.failed_reads reader.old) }
+    requires some { 1 ≤ length block.old }
+    requires few { length block.old ≤ 4096 }
+    ensures all { OnOk result (Gathers (R.rest reader.old) bytes.old.items bytes.new.items
+        (R.rest reader.new)) }
+    ensures taken { (taken : List ℕ) × Takes (R.rest reader.old) taken (R.rest reader.new) }
+    ensures counts { result ≢ Err Failed → R.failed_reads reader.new ≡ R.failed_reads reader.old }
+    ensures failed { result ≡ Err Failed
+        → R.failed_reads reader.new ≡ R.failed_reads reader.old + 1 }
+    ensures written { R.written reader.new ≡ R.written reader.old }
+    ensures some { IfOk result (λ count. 1 ≤ count) }
+    ensures few { IfOk result (λ count. count ≤ length block.old) }
+    ensures count { IfOk result (λ count. PutsCount count bytes.old.items bytes.new.items) }
+    ensures part { OnErr result
+        (TakesFew (length block.old) (R.rest reader.old) (R.rest reader.new)) }
+    ensures ended { result ≡ Err Ended → (bytes.new.items ≡ bytes.old.items)
+        × GathersAll (R.rest reader.old) bytes.old.items bytes.new.items (R.rest reader.new) }
+{
+    match reader.next_block(block) {
+        Ok(0) => Err(PartStop::Ended),
+        Ok(count) => {
+            bytes.extend_from_slice(&block[..count])?;
+            Ok(count as u32)
+        }
+        Err(_) => Err(PartStop::Failed),
+    }
 }
 
 /// Appends the next byte to the buffer.
