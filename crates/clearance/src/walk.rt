@@ -5,7 +5,7 @@ ghost use Rattle.std.specs.Prelude.{◌≡◌, IfSome, None};
 ghost use Rattle.bits.specs.Cells.{IsBitmap, IsInside};
 ghost use Rattle.bits.specs.Edges.{IsBlocked};
 ghost use Rattle.clearance.specs.Answers.{IsLeastOf};
-ghost use Rattle.clearance.specs.Firsts.{IsBoundOver, IsFirstOrNone, IsLeastOver};
+ghost use Rattle.clearance.specs.Firsts.{IsBoundOver, IsFirstOrNone};
 ghost use Rattle.clearance.specs.Paths.{cells_behind, cells_of_path, cells_up_to, path_refusal};
 ghost use Rattle.clearance.specs.Pieces.{IsPieceIn, IsPieceOrNone};
 ghost use Rattle.clearance.specs.Segments.{IsStraight, IsWalk};
@@ -163,36 +163,17 @@ fn near_piece<M: Metric, R: Rows>(
     ensures within { IfSome result (IsPieceIn (R.cells rows.old)) }
     ensures rows { rows.new ≡ rows.old }
 {
-    let least = least_of_piece::<M, R>(rows, edge, from, to, limit);
-    if least < limit {
-        Some(Piece { from, to, least })
-    } else {
-        None
-    }
-}
-
-/// The least of the limit and of the distances of the cells after a point, up to the next.
-fn least_of_piece<M: Metric, R: Rows>(
-    rows: &mut R,
-    edge: Edge,
-    from: Cell,
-    to: Cell,
-    limit: u64,
-) -> u64
-    requires straight { IsStraight from to }
-    requires from { IsInside (R.cells rows.old) from.x from.y }
-    requires to { IsInside (R.cells rows.old) to.x to.y }
-    requires bitmap { IsBitmap (R.cells rows.old) }
-    ensures found { IsLeastOver M.distance (IsBlocked (R.cells rows.old) edge)
-        (cells_up_to from to) limit result }
-    ensures rows { rows.new ≡ rows.old }
-{
     let cells = Strip {
         from,
         to,
         across: 1,
     };
-    least_below::<M, R>(rows, edge, cells.rect(1, count_cells(from, to)), limit)
+    let least = least_below::<M, R>(rows, edge, cells.rect(1, count_cells(from, to)), limit);
+    if least < limit {
+        Some(Piece { from, to, least })
+    } else {
+        None
+    }
 }
 
 /// The first of the cells after a point, up to the next, that has an obstacle at a distance below
