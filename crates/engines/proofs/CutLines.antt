@@ -123,7 +123,7 @@ TakesAtMost-line counts unread left part =
 
 -- where a line was gathered, and then no more bytes were taken than it counts, at most a line and
 -- the bytes that it counts were
-pub counted_behind : (counts : List ℕ → ℕ) (unread between left : Option (List ℕ))
+counted_behind : (counts : List ℕ → ℕ) (unread between left : Option (List ℕ))
     (before middle stripped : List ℕ) (count : ℕ) → before ≡ [] → PutsLine before middle
     → Gathers unread before middle between
     → ((front : List ℕ) → middle ≡ front ++ 10 ∷ [] → stripped ≡ strip_carriage_return front)

@@ -19,7 +19,7 @@ use Rattle.engines.specs.declared.ask.Stop.{Stop}
 use Rattle.engines.specs.declared.ask.Stop.TheVariants as stops
 
 -- where nothing was done, no exchange was
-pub Exchanges-nothing : (talk : Talk) → Exchanges talk talk
+Exchanges-nothing : (talk : Talk) → Exchanges talk talk
 Exchanges-nothing talk = record {
   exchanges = [];
   are = All-nil IsExchange;

@@ -5,5 +5,6 @@ pub mod Parts
 pub mod Putting
 pub mod Query
 pub mod Replied
+pub mod RowCells
 pub mod Table
 pub mod Tabled

@@ -2,7 +2,7 @@
 
 ghost use Rattle.std.specs.Prelude.{◌≡◌, ℕ, List, [], ◌∷◌, IfOk, IfErr, OnErr, MatchResult, true};
 ghost use Rattle.std.specs.Prelude.{false, map, option_and_then, Some, None, codes};
-ghost use Rattle.clap.specs.Words.{HasMatchesOf, app_of, first_of, first_value, found_of, kind_of};
+ghost use Rattle.clap.specs.Words.{HasMatchesOf, app_of, first_of, found_of, kind_of};
 ghost use Rattle.clap.specs.Words.{rows_of, rule_of, takes};
 ghost use Rattle.clap.specs.declared.builder.command.Command.TheViews.{out-Command};
 ghost use Rattle.clap.specs.declared.error.kind.ErrorKind.TheVariants.{OutOfMemory};
@@ -13,7 +13,7 @@ ghost use Rattle.engines.specs.words.CommandLine.{AreDistOptions, AreNoDistOptio
 ghost use Rattle.engines.specs.words.CommandLine.{AreTaken, default_options, dist_app, metric_rule};
 ghost use Rattle.engines.specs.words.CommandLine.{nearest_rule, program_app, query_rule, steps_app};
 ghost use Rattle.engines.specs.words.CommandLine.{texts_of};
-ghost use Rattle.engines.specs.words.ServeLine.{default_rule};
+ghost use Rattle.engines.specs.words.ServeLine.{default_rule, flag_text};
 
 pub mod arguments;
 pub mod refusing;
@@ -70,9 +70,9 @@ fn dist_options<'a>(flags: &ArgMatches<'a>) -> Result<DistOptions<'a>, Fault<'a>
 }
 
 /// The metric that `--metric` names.
+#[tactic(auto, using(crate::proofs::CommandLines::text_of_flag))]
 fn metric_given(flags: &ArgMatches<'_>) -> Option<MetricKind>
-    ensures { result ≡ option_and_then metric_named
-        (first_value (found_of flags.now) (codes "metric")) }
+    ensures { result ≡ option_and_then metric_named (flag_text flags.now (codes "metric")) }
 {
     flags
         .get_str("metric")

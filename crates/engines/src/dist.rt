@@ -18,6 +18,7 @@ mod put;
 mod quad;
 mod query;
 mod reply;
+mod row_cells;
 mod table;
 mod table_writer;
 

@@ -1,22 +1,14 @@
 -- The rows that workers print in parallel: this project's own rule.
-use Rattle.std.specs.Prelude.{◌≡◌, ℕ, ◌+◌, ◌-◌, ◌*◌, ◌<◌, ◌≤◌, All, List, Bool, true, false}
+use Rattle.std.specs.Prelude.{◌≡◌, ℕ, ◌+◌, ◌-◌, ◌*◌, ◌<◌, ◌≤◌, All, List, Bool}
 use Rattle.std.specs.Prelude.{length, min, slice_index_or, take, vec_capacity, vec_len}
 use Rattle.engines.specs.declared.dist.parts.WorkerLines.{WorkerLines}
+use Rattle.engines.specs.dist.RowCells.{IsRowRoom}
 use Rattle.engines.specs.dist.Table.{rows_text}
 use Rattle.engines.specs.dist.Tabled.{TableView}
 
--- a row of this width has room for this many obstacles, if they are printed
-abbrev pub IsRowRoom : Bool → ℕ → ℕ → Type 0
-IsRowRoom nearest width cells = nearest ≡ true → cells ≡ width
-
--- a line of this width has room for this many distances, if they alone are printed
-abbrev pub IsLineRoom : Bool → ℕ → ℕ → Type 0
-IsLineRoom nearest width cells = nearest ≡ false → cells ≡ width
-
 -- a worker's buffers for this many rows of this width have room for a row and all lines
 pub record IsShare (nearest : Bool) (width rows : ℕ) (part : WorkerLines) : Type 0 where
-  pub row : IsRowRoom nearest width (vec_len part.row)
-  pub distances : IsLineRoom nearest width (vec_len part.distances)
+  pub row : IsRowRoom nearest width part.row
   pub room : rows * (25 * width + 1) + 3 ≤ vec_capacity part.text
   pub end : part.end ≤ vec_len part.text
 

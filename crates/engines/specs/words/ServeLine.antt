@@ -2,7 +2,7 @@
 use Rattle.std.specs.Prelude.{◌≡◌, ℕ, ◌&&◌, nat_le, List, [], ◌∷◌, Option, Some, None, codes}
 use Rattle.std.specs.Prelude.{option_and_then, true, if◌then◌else◌}
 use Rattle.clap.specs.Words.{App, Row, Rule, first_of, new_app, new_rule, subcommand_rows_of}
-use Rattle.clap.specs.Words.{with_rule}
+use Rattle.clap.specs.Words.{found_of, rows_of, with_rule}
 use Rattle.clap.specs.declared.parser.matches.ArgMatches.{ArgMatches}
 use Rattle.metric.specs.Edge.{edge_named}
 use Rattle.proto.specs.Numbers.{number}
@@ -45,6 +45,10 @@ within least most n = if nat_le least n && nat_le n most then Some n else None
 -- the number that a flag's value gives, if it is a number of the protocol in this range
 abbrev pub in_range : ℕ → ℕ → Option (List ℕ) → Option ℕ
 in_range least most value = option_and_then (within least most) (option_and_then number value)
+
+-- the text that a flag has, as the words give it or by its default
+abbrev pub flag_text : ArgMatches → List ℕ → Option (List ℕ)
+flag_text flags name = first_of name (rows_of (found_of flags))
 
 -- the flags of `serve` are as the words give them, each with its default if it isn't given
 pub record AreServeOptions (rows : List Row) (options : ServeOptions) : Type 0 where

@@ -2,7 +2,7 @@
 
 ghost use Rattle.std.specs.Prelude.{◌≡◌, ◌≤◌, IfOk, IfErr, OnErr, MatchResult, true, false, Some};
 ghost use Rattle.std.specs.Prelude.{None, codes, option_and_then};
-ghost use Rattle.clap.specs.Words.{app_of, first_value, found_of, kind_of, rows_of, rule_of};
+ghost use Rattle.clap.specs.Words.{app_of, found_of, kind_of, rows_of, rule_of};
 ghost use Rattle.clap.specs.Matches.{subcommand_name_of};
 ghost use Rattle.clap.specs.declared.builder.command.Command.TheViews.{out-Command};
 ghost use Rattle.clap.specs.declared.error.kind.ErrorKind.TheVariants.{OutOfMemory};
@@ -11,8 +11,8 @@ ghost use Rattle.proto.specs.Numbers.{number};
 ghost use Rattle.engines.specs.declared.command_line.arguments.AskOptions.{AskOptions as TheAskOptions};
 ghost use Rattle.engines.specs.declared.command_line.arguments.ServeOptions.{ServeOptions as TheServeOptions};
 ghost use Rattle.engines.specs.words.ServeLine.{AreAskOptions, AreMatched, AreNoMatch};
-ghost use Rattle.engines.specs.words.ServeLine.{AreServeOptions, ask_app, default_rule, in_range};
-ghost use Rattle.engines.specs.words.ServeLine.{required_rule, serve_app, within};
+ghost use Rattle.engines.specs.words.ServeLine.{AreServeOptions, ask_app, default_rule, flag_text};
+ghost use Rattle.engines.specs.words.ServeLine.{in_range, required_rule, serve_app, within};
 
 use crate::command_line::arguments::{AskOptions, Fault, Options, ServeOptions};
 use clap::{Arg, ArgMatches, Command, Error};
@@ -68,9 +68,9 @@ fn serve_options<'a>(flags: &ArgMatches<'a>) -> Result<ServeOptions, Fault<'a>>
 /// The edge that `--edge` names.
 pub fn edge_given<'a>(flags: &ArgMatches<'a>) -> Result<Edge, Fault<'a>>
     ensures { MatchResult result
-        (λ edge. option_and_then edge_named (first_value (found_of flags.now) (codes "edge"))
+        (λ edge. option_and_then edge_named (flag_text flags.now (codes "edge"))
         ≡ Some edge) (λ _. option_and_then edge_named
-        (first_value (found_of flags.now) (codes "edge")) ≡ None) }
+        (flag_text flags.now (codes "edge")) ≡ None) }
 {
     match edge_of(flags) {
         Some(edge) => Ok(edge),
@@ -81,9 +81,10 @@ pub fn edge_given<'a>(flags: &ArgMatches<'a>) -> Result<Edge, Fault<'a>>
 }
 
 /// The edge of this name, if there is one.
+#[tactic(auto, using(crate::proofs::CommandLines::text_of_flag))]
 fn edge_of(flags: &ArgMatches<'_>) -> Option<Edge>
     ensures { result ≡ option_and_then edge_named
-        (first_value (found_of flags.now) (codes "edge")) }
+        (flag_text flags.now (codes "edge")) }
 {
     flags
         .get_str("edge")
@@ -104,8 +105,8 @@ fn ask_options(flags: &ArgMatches<'_>) -> Result<AskOptions, Fault<'static>>
 /// The port that `--port` gives, at least `least`.
 fn port_given(flags: &ArgMatches<'_>, least: u32) -> Result<u16, Fault<'static>>
     ensures { MatchResult result
-        (λ port. in_range least 65535 (first_value (found_of flags.now) (codes "port")) ≡ Some port)
-        (λ _. in_range least 65535 (first_value (found_of flags.now) (codes "port")) ≡ None) }
+        (λ port. in_range least 65535 (flag_text flags.now (codes "port")) ≡ Some port)
+        (λ _. in_range least 65535 (flag_text flags.now (codes "port")) ≡ None) }
 {
     let port = number_given(flags, "port", least, 65535)?;
     Ok(port as u16)
@@ -119,9 +120,9 @@ pub fn number_given(
     most: u32,
 ) -> Result<u32, Fault<'static>>
     ensures { MatchResult result
-        (λ n. (in_range least most (first_value (found_of flags.now) name.now) ≡ Some n)
+        (λ n. (in_range least most (flag_text flags.now name.now) ≡ Some n)
         × (n ≤ most))
-        (λ _. in_range least most (first_value (found_of flags.now) name.now) ≡ None) }
+        (λ _. in_range least most (flag_text flags.now name.now) ≡ None) }
 {
     match value_given(flags, name) {
         Some(number) if least <= number && number <= most => Ok(number),
@@ -130,8 +131,9 @@ pub fn number_given(
 }
 
 /// The number that a flag gives.
+#[tactic(auto, using(crate::proofs::CommandLines::text_of_flag))]
 fn value_given(flags: &ArgMatches<'_>, name: &str) -> Option<u32>
-    ensures { result ≡ option_and_then number (first_value (found_of flags.now) name.now) }
+    ensures { result ≡ option_and_then number (flag_text flags.now name.now) }
 {
     flags
         .get_str(name)

@@ -1,23 +1,22 @@
 //! The lines of a table's rows, written by workers in parallel.
 
-ghost use Rattle.std.specs.Prelude.{◌≡◌, ◌+◌, ◌-◌, ◌*◌, ◌<◌, ◌≤◌, ◌++◌, All, IfOk, length, take};
+ghost use Rattle.std.specs.Prelude.{◌≡◌, ◌+◌, ◌-◌, ◌*◌, ◌<◌, ◌≤◌, ◌++◌, All, IfOk, take};
 ghost use Rattle.std.specs.Prelude.{vec_capacity, vec_len};
 ghost use Rattle.std.specs.List.{slice_range};
-ghost use Rattle.engines.specs.dist.Parts.{IsLineRoom, IsRowRoom};
+ghost use Rattle.engines.specs.dist.RowCells.{IsRowRoom};
 ghost use Rattle.engines.specs.dist.Table.{row_line, rows_text};
 
 use crate::dist::line::{ENTRY_ROOM, SPARE_ROOM};
 use crate::dist::printer::Printer;
-use metric::{Metric, Near};
+use crate::dist::row_cells::RowCells;
+use metric::Metric;
 use std::alloc::{AllocError, Global};
 
 /// A worker's buffers: a row of the table, and the lines of its rows.
 #[derive(Drop)]
 pub struct WorkerLines {
-    /// The nearest obstacles of a row's cells; no cells if only distances are written.
-    pub row: Vec<Option<Near>>,
-    /// The distances of a row's cells; no cells if obstacles are written too.
-    pub distances: Vec<u32>,
+    /// Buffers for a row's cells.
+    pub row: RowCells,
     /// The lines, and what is left after them of earlier ones. Their capacity is allocated once,
     /// and only as much of it is touched as the lines take, with room for one more.
     pub text: Vec<u8>,
@@ -33,11 +32,9 @@ impl WorkerLines {
         requires { rows ≤ 4096 }
         ensures { IfOk result (IsShare nearest width rows) }
     {
-        let across = usize::from(width);
-        let line = ENTRY_ROOM * across + 1;
+        let line = ENTRY_ROOM * usize::from(width) + 1;
         Ok(WorkerLines {
-            row: vec![in alloc; None; if nearest { across } else { 0 }]?,
-            distances: vec![in alloc; 0; if nearest { 0 } else { across }]?,
+            row: RowCells::new(alloc, nearest, width)?,
             text: Vec::with_capacity(alloc, rows as usize * line + SPARE_ROOM)?,
             end: 0,
         })
@@ -55,8 +52,7 @@ impl WorkerLines {
         let height = u32::from(printer.table.height());
         let to = height.min(from + printer.rows) as u16;
         let from = height.min(from) as u16;
-        let (row, distances) = (self.row.as_mut_slice(), self.distances.as_mut_slice());
-        self.end = put_lines(printer, row, distances, from, to, &mut self.text);
+        self.end = put_lines(printer, &mut self.row, from, to, &mut self.text);
     }
 
     /// The lines written.
@@ -91,26 +87,24 @@ impl WorkerLines {
 /// end. The text has capacity for them.
 fn put_lines<M: Metric + Sync>(
     printer: &Printer<M>,
-    row: &mut [Option<Near>],
-    distances: &mut [u32],
+    row: &mut RowCells,
     from: u16,
     to: u16,
     text: &mut Vec<u8>,
 ) -> usize
     requires order { from ≤ to }
     requires within { to ≤ printer.now.table.height }
-    requires cells { IsRowRoom printer.now.nearest printer.now.table.width (length row.old) }
-    requires distances { IsLineRoom printer.now.nearest printer.now.table.width
-        (length distances.old) }
+    requires cells { IsRowRoom printer.now.nearest printer.now.table.width row.old }
     requires room { (to - from) * (25 * printer.now.table.width + 1) + 3 ≤ vec_capacity text.old }
     ensures text { take result text.new.items ≡ rows_text printer.now.nearest
         printer.now.table.width from (to - from) printer.now.table.nears }
     ensures end { result ≤ vec_len text.new }
+    ensures cells { IsRowRoom printer.now.nearest printer.now.table.width row.new }
     ensures room { vec_capacity text.old ≤ vec_capacity text.new }
 {
     let mut end = 0;
     'rows: for y in from..to {
-        end = put_next(printer, row, distances, y, text, end);
+        end = put_next(printer, row, y, text, end);
     }
     end
 }
@@ -119,16 +113,13 @@ fn put_lines<M: Metric + Sync>(
 /// The text has capacity for it.
 fn put_next<M: Metric + Sync>(
     printer: &Printer<M>,
-    row: &mut [Option<Near>],
-    distances: &mut [u32],
+    row: &mut RowCells,
     y: u16,
     text: &mut Vec<u8>,
     at: usize,
 ) -> usize
     requires row { y < printer.now.table.height }
-    requires cells { IsRowRoom printer.now.nearest printer.now.table.width (length row.old) }
-    requires distances { IsLineRoom printer.now.nearest printer.now.table.width
-        (length distances.old) }
+    requires cells { IsRowRoom printer.now.nearest printer.now.table.width row.old }
     requires front { at ≤ vec_len text.old }
     requires room { at + (25 * printer.now.table.width + 4) ≤ vec_capacity text.old }
     ensures line { take result text.new.items ≡ take at text.old.items
@@ -137,12 +128,13 @@ fn put_next<M: Metric + Sync>(
         (y * printer.now.table.width + printer.now.table.width)) }
     ensures end { result ≤ at + (25 * printer.now.table.width + 1) }
     ensures within { result ≤ vec_len text.new }
+    ensures cells { IsRowRoom printer.now.nearest printer.now.table.width row.new }
     ensures room { vec_capacity text.old ≤ vec_capacity text.new }
 {
     let width = usize::from(printer.table.width());
     lengthen(text, at + (ENTRY_ROOM * width + 1 + SPARE_ROOM));
     let (table, decimals) = (&printer.table, &printer.decimals);
-    table.put_line(decimals, y, row, distances, text.as_mut_slice(), at)
+    table.put_line(decimals, y, row, text.as_mut_slice(), at)
 }
 
 /// Lengthens a text to this many bytes, if it has fewer. It has capacity for them.

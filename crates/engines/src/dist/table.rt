@@ -5,15 +5,17 @@ ghost use Rattle.std.specs.Prelude.{◌≡◌, ◌+◌, ◌*◌, ◌<◌, ◌≤
 ghost use Rattle.std.specs.Prelude.{slice_range};
 ghost use Rattle.metric.specs.declared.refusal.Refusal.TheVariants.{Memory};
 ghost use Rattle.engines.specs.dist.Putting.{Puts};
+ghost use Rattle.engines.specs.dist.RowCells.{IsRowRoom};
 ghost use Rattle.engines.specs.dist.Table.{row_line};
 ghost use Rattle.engines.specs.dist.Tabled.{IsBelowNone, IsTableOf};
 
 use crate::dist::decimals::Decimals;
 use crate::dist::distances::put_distances;
 use crate::dist::line::put_row;
+use crate::dist::row_cells::RowCells;
 use bits::Bitmap;
 use field::{Batch, CompactDistances, ObstacleTable, Workers};
-use metric::{Edge, Gate, Metric, Near, Refusal};
+use metric::{Edge, Gate, Metric, Refusal};
 use std::alloc::Global;
 use std::marker::Model;
 use std::thread::Threads;
@@ -160,31 +162,31 @@ impl<M: Metric + Sync> Table<M> {
     }
 
     /// Writes the line of row `y` to `text` from `at` on, with obstacles if the table has them, and
-    /// returns where it ends. `nears` and `distances` are buffers for a row, of which it uses the
-    /// one that holds what the table has; the other may be empty.
+    /// returns where it ends. `row` is filled with the row's cells.
     pub fn put_line(
         &self,
         decimals: &Decimals,
         y: u16,
-        nears: &mut [Option<Near>],
-        distances: &mut [u32],
+        row: &mut RowCells,
         text: &mut [u8],
         at: usize,
     ) -> usize
         requires row { y < self.now.height }
-        requires nears { self.now.nearest ≡ true → length nears.old ≡ self.now.width }
-        requires distances { self.now.nearest ≡ false → length distances.old ≡ self.now.width }
+        requires cells { IsRowRoom self.now.nearest self.now.width row.old }
         requires room { at + (25 * self.now.width + 3) ≤ length text.old }
         ensures line { Puts text.old at (row_line self.now.nearest (slice_range self.now.nears
             (y * self.now.width) (y * self.now.width + self.now.width))) text.new result }
         ensures end { result ≤ at + (25 * self.now.width + 1) }
+        ensures cells { IsRowRoom self.now.nearest self.now.width row.new }
     {
         match &self.kept {
             Kept::Obstacles(table) => {
+                let nears = row.nears.as_mut_slice();
                 table.fill_row(y, nears);
                 put_row(decimals, text, at, nears)
             }
             Kept::Distances(table) => {
+                let distances = row.distances.as_mut_slice();
                 table.fill_row(y, distances);
                 put_distances(decimals, text, at, distances)
             }

@@ -26,10 +26,8 @@ returns-in_err-matches-clause-steps_taken c = λ name words.
 pub returns-in_err-dist_options-clause-taken : goal.returns-in_err-dist_options-clause-taken
 returns-in_err-dist_options-clause-taken c = λ name words.
     let rows = rows_of (found_of c.in-Some.flags.now) in
-    let defaults = dist_defaults name _ c.in_ok-matches.matches rows words
-    c.in_ok-matches.ensures.found c.in-Some.ensures.rows in
-    absurd (defaults_are_known rows defaults.0 defaults.3 defaults.4
-    c.in_err-dist_options.ensures.refused)
+    absurd (defaults_are_known rows (dist_defaults name _ c.in_ok-matches.matches rows words
+    c.in_ok-matches.ensures.found c.in-Some.ensures.rows) c.in_err-dist_options.ensures.refused)
 
 pub returns-in_err-dist_options-clause-steps_taken :
     goal.returns-in_err-dist_options-clause-steps_taken
@@ -40,10 +38,9 @@ returns-in_err-dist_options-clause-steps_taken c = λ name words.
 pub returns-in-Some-clause-taken : goal.returns-in-Some-clause-taken
 returns-in-Some-clause-taken c = λ name words.
     let rows = rows_of (found_of c.in-Some.flags.now) in
-    let defaults = dist_defaults name _ c.in_ok-matches.matches rows words
-    c.in_ok-matches.ensures.found c.in-Some.ensures.rows in
     ap Dist (default_options-read rows c.in_ok-dist_options.field-0
-    c.in_ok-dist_options.ensures.options defaults.0 defaults.1 defaults.2 defaults.3 defaults.4)
+    c.in_ok-dist_options.ensures.options (dist_defaults name _ c.in_ok-matches.matches rows words
+    c.in_ok-matches.ensures.found c.in-Some.ensures.rows))
 
 pub returns-in-Some-clause-steps_taken : goal.returns-in-Some-clause-steps_taken
 returns-in-Some-clause-steps_taken c = λ name words.

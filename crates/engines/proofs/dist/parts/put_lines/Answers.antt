@@ -17,7 +17,6 @@ rows-init g c =
       within = search rules;
       room = search rules;
       cells = c.requires.cells;
-      distances = c.requires.distances;
     }
 
 pub rows-preserved : goal.rows-preserved
@@ -42,6 +41,5 @@ rows-preserved g c =
       ) (omega (arith, c.rows.invariant.taken, c.put_next-end.ensures.end));
       within = c.put_next-end.ensures.within;
       room = omega (arith, c.rows.invariant.room, c.put_next-end.ensures.room);
-      cells = rw c.put_next-end.auto.row c.rows.invariant.cells;
-      distances = rw c.put_next-end.auto.distances c.rows.invariant.distances;
+      cells = c.put_next-end.ensures.cells;
     }

@@ -1,6 +1,6 @@
 -- The lines of the rows before y are written, and take no more than their share of the room.
-use Rattle.std.proofs.Common.{◌≡◌, ◌+◌, ◌-◌, ◌*◌, ◌≤◌, length, take, vec_capacity, vec_len}
-use Rattle.engines.specs.dist.Parts.{IsLineRoom, IsRowRoom}
+use Rattle.std.proofs.Common.{◌≡◌, ◌+◌, ◌-◌, ◌*◌, ◌≤◌, take, vec_capacity, vec_len}
+use Rattle.engines.specs.dist.RowCells.{IsRowRoom}
 use Rattle.engines.specs.dist.Table.{rows_text}
 use Rattle.engines.proofs.dist.parts.put_lines.Given as goal
 
@@ -12,6 +12,5 @@ invariant-rows g l = record {
   taken : l.end ≤ (l.y - l.from) * (25 * l.printer.table.width + 1);
   within : l.end ≤ vec_len l.text;
   room : vec_capacity l.fn.text ≤ vec_capacity l.text;
-  cells : IsRowRoom l.printer.nearest l.printer.table.width (length l.row);
-  distances : IsLineRoom l.printer.nearest l.printer.table.width (length l.distances);
+  cells : IsRowRoom l.printer.nearest l.printer.table.width l.row;
 }
