@@ -1,7 +1,7 @@
 /*
- * Times queries of the library over bits, of a raw PBM image, drawn as queries/twin_tail.rs draws
- * them: for each kind a line with the nanoseconds of a query, the least of five rounds, and a sum
- * of the answers.
+ * Times queries of the library over bits with marks of blank tiles, of a raw PBM image, drawn as
+ * queries/twin_tail.rs draws them: for each kind a line with the nanoseconds of a query, the least
+ * of five rounds, and a sum of the answers.
  *     library_queries IMAGE
  */
 #define _POSIX_C_SOURCE 199309L
@@ -118,10 +118,12 @@ static void read_map(FILE *image) {
             cells[(size_t)y * width + x] = (uint8_t)(byte >> 7 & 1);
         }
     clearmap_bytes layout = {width, height, width, 1, 1};
-    map.length = (size_t)(width + 63) / 64 * height;
+    size_t tiles = (size_t)(width + 63) / 64 * height;
+    map.length = tiles + (height + 63) / 64;
     map.words = malloc(map.length * sizeof *map.words);
     if (clearmap_pack(cells, (size_t)width * height, &layout, map.words, map.length, &map.layout))
         exit(3);
+    if (clearmap_mark(map.words, map.length, &map.layout, tiles)) exit(3);
     free(cells);
 }
 

@@ -1,5 +1,5 @@
 #!/usr/bin/env python3
-"""Measures the library's queries over bits next to the same loops in Rust.
+"""Measures the library's queries over bits, blank tiles marked, next to the same loops in Rust.
 
 `library_queries.c` asks by the calls of clearmap.h; its twin is that of `queries.py`, without the
 library's tests of arguments. Both draw the same queries, and the sums of their answers are
