@@ -74,11 +74,11 @@ for workers in 1 3 16; do
     clearmap dist --workers "$workers" < "$room/raw" | cmp -s - "$room/wanted"; expect "dist of the largest map by $workers workers" "${PIPESTATUS[*]}" '0 0'
 done
 
-# The maps of `0 1 4` and of `0/0/0 1/0/0 2/0/0 1/4/0 0/4/0` as the first rows of maps of 2^20
+# The maps of `0 1 4` and of `0/0/0 1/0/0 2/0/0 1/4/0 0/4/0` as the first rows of maps of 2^22
 # cells, which several threads share: one obstacle in the corner, and another four columns from it.
 python3 - "$room" << 'PYTHON'
 import sys
-room, side = sys.argv[1], 1024
+room, side = sys.argv[1], 2048
 measures = {
     "euclid2": lambda columns, rows: columns * columns + rows * rows,
     "city": lambda columns, rows: columns + rows,

@@ -88,9 +88,9 @@ def workers(numbers, answers):
 def threads(numbers, answers):
     least, most, default = numbers
     refused("dist", "--workers", least - 1, most + 1)
-    picture = image(1100, 1000)
+    picture = image(2100, 2000)
     one = ran(["dist", "--workers", str(least)], picture)
-    check("dist by one worker", (one[0], one[1].count("\n")), (0, 999))
+    check("dist by one worker", (one[0], one[1].count("\n")), (0, 1999))
     for words in (["--workers", str(most)], []):
         check(f"dist {words}", ran(["dist", *words], picture) == one, True)
 

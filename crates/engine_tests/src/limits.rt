@@ -115,11 +115,11 @@ fn one_worker_writes_what_several_do(rt: HostRuntime) -> Result<(), Fail> {
 
 #[test]
 fn a_failed_write_beside_threads_ends_the_run(rt: HostRuntime) -> Result<(), Fail> {
-    // In each of two turns four workers write 64 rows each, and then all is flushed. A failing
+    // In each of four turns four workers write 64 rows each, and then all is flushed. A failing
     // write leaves half of its lines, of which each has 8,192 bytes.
-    let mut image = Vec::from_slice(rt.alloc(), b"P4\n4096 512\n")?;
-    image.resize(image.len() + 512 * 512, 0)?;
-    for (call, rows) in [(1, 32), (2, 96), (5, 288), (8, 480), (9, 512)] {
+    let mut image = Vec::from_slice(rt.alloc(), b"P4\n4096 1024\n")?;
+    image.resize(image.len() + 1024 * 512, 0)?;
+    for (call, rows) in [(1, 32), (2, 96), (5, 288), (16, 992), (17, 1024)] {
         let options = DistOptions {
             metric: MetricKind::Euclid2,
             edge: Edge::Open,

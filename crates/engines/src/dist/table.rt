@@ -194,7 +194,7 @@ impl<M: Metric + Sync> Table<M> {
     }
 
     /// How many threads do the work of this many workers: as many if the table is large, one if it
-    /// has fewer than 2^20 cells.
+    /// has fewer than 2^22 cells.
     pub fn threads(&self, workers: usize) -> usize
         requires { 1 ≤ workers }
         ensures { 1 ≤ result }
@@ -216,7 +216,7 @@ impl<M: Metric + Sync> Table<M> {
         if self.threads(usize::from(workers)) == 1 {
             return FEW_ROWS;
         }
-        let cells = if nearest { LARGE } else { 2 * LARGE };
+        let cells = if nearest { BATCH / 2 } else { BATCH };
         let workers = u32::from(workers);
         let across = u32::from(self.width) * workers;
         let most = u32::from(self.height).div_ceil(workers);
@@ -227,9 +227,12 @@ impl<M: Metric + Sync> Table<M> {
 /// Rows a thread writes per batch when it is the only one, so that their lines stay in cache.
 const FEW_ROWS: u32 = 16;
 
+/// Cells whose lines all workers write per batch, about.
+const BATCH: u32 = 1 << 21;
+
 /// The fewest cells of a map whose rows several threads share. On a smaller map, starting threads,
 /// and waiting for the last one on a busy machine, takes longer than it saves.
-const LARGE: u32 = 1 << 20;
+const LARGE: u32 = 1 << 22;
 
 /// Whether a map of this size has enough cells for threads to share its rows.
 fn is_large(width: u16, height: u16) -> bool {
