@@ -119,7 +119,7 @@ fn a_failed_write_beside_threads_ends_the_run(rt: HostRuntime) -> Result<(), Fai
     // write leaves half of its lines, of which each has 8,192 bytes.
     let mut image = Vec::from_slice(rt.alloc(), b"P4\n4096 1024\n")?;
     image.resize(image.len() + 1024 * 512, 0)?;
-    for (call, rows) in [(1, 32), (2, 96), (5, 288), (16, 992), (17, 1024)] {
+    for (call, rows) in [(1, 32), (2, 96), (5, 288), (8, 480), (16, 992), (17, 1024)] {
         let options = DistOptions {
             metric: MetricKind::Euclid2,
             edge: Edge::Open,
