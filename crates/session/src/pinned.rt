@@ -33,7 +33,7 @@ pub struct Pinned<Id: StoreName> {
     pub(crate) seat: ReaderSeat<Id>,
     pub(crate) version: u32,
     pub(crate) slot: u32,
-    pub(crate) copy: VersionCopy,
+    pub(crate) copy: Box<VersionCopy>,
 }
 
 impl<Id: StoreName> Model for Pinned<Id> {
@@ -44,7 +44,7 @@ impl<Id: StoreName> Model for Pinned<Id> {
     ghost view = { λ p. record { seat = p.seat; version = p.version } };
 
     ghost invariant = { λ p. IsPin Id.store record { seat = p.seat; version = p.version } p.slot
-        p.copy.bitmap p.copy.unread };
+        p.copy.value.bitmap p.copy.value.unread };
 }
 
 impl<Id: StoreName> Pinned<Id> {
@@ -127,7 +127,7 @@ impl<Id: StoreName> Pinned<Id> {
             copy,
         } = self;
         seat.leave();
-        let room = Room::with(copy.bitmap);
+        let room = Room::with(copy);
         Session { seat, room }
     }
 }

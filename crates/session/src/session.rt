@@ -10,7 +10,7 @@ ghost use Rattle.session.specs.Sessions.{newest_of_session};
 
 mod commands;
 
-use crate::pinned::{Pinned, VersionCopy};
+use crate::pinned::Pinned;
 use crate::room::Room;
 use metric::Refusal;
 use shelf::{ReaderSeat, StoreName, Ticket};
@@ -80,11 +80,10 @@ impl<Id: StoreName> Session<Id> {
         ensures refused { IfErr result (λ back. (back.0 ≡ self) × (back.1 ≡ Memory)) }
     {
         let Session { mut seat, mut room } = self;
-        let bitmap = match room.take(alloc) {
-            Ok(bitmap) => bitmap,
+        let copy = match room.take(alloc) {
+            Ok(copy) => copy,
             Err(refusal) => return Err((Session { seat, room }, refusal)),
         };
-        let copy = VersionCopy::fresh(bitmap);
         seat.take();
         seat.announce();
         let now = seat.take();

@@ -36,6 +36,16 @@ impl VersionCopy {
         }
     }
 
+    /// Forgets which bands have been read and what queries have looked at.
+    pub fn renew(&mut self)
+        ensures bitmap { (self.new.bitmap ≡ self.old.bitmap) × IsBitmap self.old.bitmap }
+        ensures unread { (k : ℕ) → k < tiles_down self.old.bitmap.height
+            → bit_at self.new.unread k ≡ 1 }
+    {
+        self.looks.renew();
+        self.unread = first_bits(self.bitmap.height().div_ceil(BAND_ROWS));
+    }
+
     /// The whole version, if it has been read.
     pub fn whole(&self) -> Option<&Bitmap>
         ensures { IfSome result (λ bitmap. (bitmap.now ≡ self.now.bitmap)

@@ -36,6 +36,12 @@ impl Looks {
         }
     }
 
+    /// Forgets what was counted.
+    pub fn renew(&mut self) {
+        self.words = 0;
+        self.blanks = self.most_blanks;
+    }
+
     /// Whether queries have read all words that they may before the rest of the version is read.
     pub fn are_used_up(&self) -> bool {
         self.most_words <= self.words

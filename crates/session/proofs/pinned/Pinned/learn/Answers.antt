@@ -11,7 +11,7 @@ invariant_of-self g c =
     let is = seen_alone g.Id.StoreName.store.base it.seat c.learn.new.self
     (inr (it.version, c.self.invariant.copying.held)) c.learn.ensures.seat in
     pin_stays g.Id.StoreName.store record { seat = it.seat; version = it.version } c.learn.new.self
-    it.slot it.copy.bitmap _ c.self.invariant c.learn.ensures.began
+    it.slot it.copy.value.bitmap _ c.self.invariant c.learn.ensures.began
     (ap (λ (x : ReaderView). x.announced) is) (ap (λ (x : ReaderView). x.holds) is)
 
 pub returns-clause-bitmap : goal.returns-clause-bitmap
