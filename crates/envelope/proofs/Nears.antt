@@ -15,8 +15,8 @@ use Rattle.bits.specs.Cells.{Cells, IsBitmap, IsObstacle}
 use Rattle.bits.specs.Edges.{IsBlocked, IsMap, framed}
 use Rattle.bits.proofs.Framing.{edge_nearest, edge_none, framed_map, framed_size, spot_seen}
 use Rattle.column.specs.Columns.{IsNearestRow, IsRowAtMost, IsRowOfTable}
-use Rattle.envelope.specs.Rows.{AreRowAnswers, AreRowDistances, AreRowNears}
-use Rattle.envelope.specs.Columns.{AreEntries, AreNearColumns, AreSaid, IsAmong, IsBest}
+use Rattle.envelope.specs.Rows.{AreRowAnswers, AreRowDistances, AreRowNears, AreRowValues}
+use Rattle.envelope.specs.Columns.{AreEntries, AreSaid, IsAmong, IsBest}
 use Rattle.envelope.specs.Columns.{IsNearColumn, IsSaid, distance_from, gap_of, near_from}
 use Rattle.envelope.specs.Answer.{IsDistanceOf, Reading, Saying}
 use Rattle.envelope.specs.Scans.{IsToldBy}
@@ -157,16 +157,15 @@ near_of_column d cells edge x y entries (Some near) grows bitmap inside within r
     (nearest_of_best d (framed edge cells) (x + shift edge) (y + shift edge) column entries grows
     (framed_map edge cells bitmap) inside within row best))
 
--- answers that tell the obstacles of the nearest columns tell the nearest of all, in the whole row
-pub AreRowAnswers-columns : {T : Type 0} (told : Reading T) (nothing : T) (d : ℕ → ℕ → ℕ)
-    (cells : Cells) (edge : Edge) (y : ℕ) (entries : List ℕ) (answers : List T) → Grows d
-    → IsBitmap cells → y < cells.height
-    → IsRowOfTable (framed edge cells) (y + shift edge) entries
-    → AreNearColumns told nothing d entries (y + shift edge) edge answers
-    → AreRowAnswers told nothing d cells edge y cells.width answers
-AreRowAnswers-columns told nothing d cells edge y entries answers grows bitmap within row found =
+-- values that say what the obstacles of the nearest columns are say what the nearest of all are
+pub AreRowValues-said : {T : Type 0} (says : Saying T) (unset : T) (d : ℕ → ℕ → ℕ) (cells : Cells)
+    (edge : Edge) (y : ℕ) (entries : List ℕ) (values : List T) → Grows d → IsBitmap cells
+    → y < cells.height → IsRowOfTable (framed edge cells) (y + shift edge) entries
+    → AreSaid says unset d entries (y + shift edge) edge values
+    → AreRowValues says unset d cells edge y cells.width values
+AreRowValues-said says unset d cells edge y entries values grows bitmap within row said =
     let many = row.as_many in
-    let filled = found.as_many in
+    let filled = said.as_many in
     let size = framed_size edge cells in
     let wide = size.0 in
     let high = size.1 in
@@ -174,10 +173,49 @@ AreRowAnswers-columns told nothing d cells edge y entries answers grows bitmap w
     record {
       as_many = omega (arith, many, filled, wide);
       each = λ x below.
-          let inside : x < length answers = omega (arith, below, many, filled, wide) in
-          near_of_column d cells edge x y entries (told d x y (slice_index_or answers x nothing))
-          grows bitmap (omega (arith, below, wide)) (omega (arith, within, high)) row
-          (rw row_is at (found.each x inside));
+          let inside : x < length values = omega (arith, below, many, filled, wide) in
+          let it = said.each x inside in
+          record {
+            near = it.near;
+            near_is = near_of_column d cells edge x y entries it.near grows bitmap
+                (omega (arith, below, wide)) (omega (arith, within, high)) row it.near_is;
+            said = subst (λ (b : ℕ). says d x b (slice_index_or values x unset) it.near) row_is
+                it.said;
+          };
+    }
+
+-- values that say what an answer tells are answers
+pub AreRowAnswers-values : {T : Type 0} (told : Reading T) (nothing : T) (d : ℕ → ℕ → ℕ)
+    (cells : Cells) (edge : Edge) (y count : ℕ) (answers : List T)
+    → AreRowValues (λ distance x y answer near. told distance x y answer ≡ near) nothing d cells
+    edge y count answers
+    → AreRowAnswers told nothing d cells edge y count answers
+AreRowAnswers-values told nothing d cells edge y count answers values = record {
+  as_many = values.as_many;
+  each = λ x below.
+      let it = values.each x below in
+      subst (λ (near : Option Near). IsNear d (IsBlocked cells edge) x y near) (sym it.said)
+      it.near_is;
+}
+
+-- numbers that say how far the nearest obstacles are, are the distances of the row
+pub AreRowDistances-values : (unset : ℕ) (d : ℕ → ℕ → ℕ) (cells : Cells) (edge : Edge)
+    (y count : ℕ) (numbers : List ℕ)
+    → AreRowValues (λ distance x y number near. IsDistanceOf near number) unset d cells edge y count
+    numbers
+    → AreRowDistances d cells edge y count numbers
+AreRowDistances-values unset d cells edge y count numbers values =
+    let many = values.as_many in
+    record {
+      as_many = many;
+      each = λ x below.
+          let it = values.each x below in
+          record {
+            near = it.near;
+            near_is = it.near_is;
+            number_is =
+                rw (get_or_default_zero numbers x unset (omega (arith, below, many))) at it.said;
+          };
     }
 
 -- where all is kept, the answers are the nearest obstacles
@@ -223,47 +261,6 @@ said_kept says d entries edge y x near kept found top keeps =
     rw back at (near_column_seen d entries edge y (x + shift edge) near found (omega arith) top)
     in
     record { near = Some near; near_is = found; said = keeps d x (y - shift edge) seen }
-
--- values that say what an answer tells are answers
-pub AreNearColumns-said : {T : Type 0} (told : Reading T) (nothing : T) (d : ℕ → ℕ → ℕ)
-    (entries : List ℕ) (y : ℕ) (edge : Edge) (answers : List T)
-    → AreSaid (λ distance x y answer near. told distance x y answer ≡ near) nothing d entries y edge
-    answers
-    → AreNearColumns told nothing d entries y edge answers
-AreNearColumns-said told nothing d entries y edge answers said = record {
-  as_many = said.as_many;
-  each = λ x below.
-      let it = said.each x below in
-      subst (λ (near : Option Near). IsNearColumn d entries y edge (x + shift edge) near)
-      (sym it.said) it.near_is;
-}
-
--- numbers that say how far the nearest columns' obstacles are, are the distances of the row
-pub AreRowDistances-said : (unset : ℕ) (d : ℕ → ℕ → ℕ) (cells : Cells) (edge : Edge) (y : ℕ)
-    (entries numbers : List ℕ) → Grows d
-    → IsBitmap cells → y < cells.height
-    → IsRowOfTable (framed edge cells) (y + shift edge) entries
-    → AreSaid (λ distance x y number near. IsDistanceOf near number) unset d entries
-    (y + shift edge) edge numbers
-    → AreRowDistances d cells edge y cells.width numbers
-AreRowDistances-said unset d cells edge y entries numbers grows bitmap within row said =
-    let many = row.as_many in
-    let filled = said.as_many in
-    let size = framed_size edge cells in
-    let wide = size.0 in
-    let high = size.1 in
-    record {
-      as_many = omega (arith, many, filled, wide);
-      each = λ x below.
-          let inside : x < length numbers = omega (arith, below, many, filled, wide) in
-          let it = said.each x inside in
-          record {
-            near = it.near;
-            near_is = near_of_column d cells edge x y entries it.near grows bitmap
-                (omega (arith, below, wide)) (omega (arith, within, high)) row it.near_is;
-            number_is = rw (get_or_default_zero numbers x unset inside) at it.said;
-          };
-    }
 
 -- what a word tells is the nearest column's obstacle
 pub near_of_word : (d : ℕ → ℕ → ℕ) (entries : List ℕ) (edge : Edge) (y x word : ℕ) (near : Near)

@@ -9,7 +9,7 @@ use Rattle.metric.specs.Edge.{shift, spot_of}
 use Rattle.metric.specs.declared.edge.Edge.{Edge}
 use Rattle.metric.specs.declared.near.Near.{Near}
 use Rattle.metric.specs.Crossing.{at_column}
-use Rattle.envelope.specs.Answer.{Reading, Saying}
+use Rattle.envelope.specs.Answer.{Saying}
 
 -- a row of a table, seen from row y: each entry is a row of a map, or 65535 without an obstacle
 pub record AreEntries (entries : List ℕ) (y : ℕ) : Type 0 where
@@ -69,14 +69,6 @@ IsNearColumn distance entries y edge x None =
 IsNearColumn distance entries y edge x (Some near) =
     (column : ℕ) × IsBest distance (gap_of entries y) (IsAmong entries (length entries)) x column
     × (near ≡ near_from distance entries y edge column x)
-
--- the answers are the obstacles of the columns nearest to the cells of row y within the edge
-pub record AreNearColumns {T : Type 0} (told : Reading T) (nothing : T) (distance : ℕ → ℕ → ℕ)
-    (entries : List ℕ) (y : ℕ) (edge : Edge) (answers : List T) : Type 0 where
-  pub as_many : length answers + 2 * shift edge ≡ length entries
-  pub each : (x : ℕ) → x < length answers
-      → IsNearColumn distance entries y edge (x + shift edge)
-      (told distance x (y - shift edge) (slice_index_or answers x nothing))
 
 -- a cell's value says what the obstacle of the column nearest to it is
 pub record IsSaid {T : Type 0} (says : Saying T) (distance : ℕ → ℕ → ℕ) (entries : List ℕ) (y : ℕ)

@@ -9,7 +9,7 @@ use Rattle.metric.specs.Nearest.{IsNear}
 use Rattle.metric.specs.declared.edge.Edge.{Edge}
 use Rattle.bits.specs.Cells.{Cells}
 use Rattle.bits.specs.Edges.{IsBlocked}
-use Rattle.envelope.specs.Answer.{IsDistanceOf, Reading}
+use Rattle.envelope.specs.Answer.{IsDistanceOf, Reading, Saying}
 
 -- the nearest obstacles of the first cells of row y, from the left, or none
 pub record AreRowNears (distance : ℕ → ℕ → ℕ) (cells : Cells) (edge : Edge) (y count : ℕ)
@@ -38,3 +38,17 @@ pub record AreRowDistances (distance : ℕ → ℕ → ℕ) (cells : Cells) (edg
   pub as_many : length numbers ≡ count
   pub each : (x : ℕ) → x < count
       → IsAway distance (IsBlocked cells edge) x y (slice_index numbers x)
+
+-- the value says what the nearest obstacle of cell (x, y) is
+pub record SaysNear {T : Type 0} (says : Saying T) (distance : ℕ → ℕ → ℕ)
+    (Obstacle : ℤ → ℤ → Type 0) (x y : ℕ) (value : T) : Type 0 where
+  pub near : Option Near
+  pub near_is : IsNear distance Obstacle x y near
+  pub said : says distance x y value near
+
+-- the values say what the nearest obstacles of the first cells of row y are, from the left
+pub record AreRowValues {T : Type 0} (says : Saying T) (unset : T) (distance : ℕ → ℕ → ℕ)
+    (cells : Cells) (edge : Edge) (y count : ℕ) (values : List T) : Type 0 where
+  pub as_many : length values ≡ count
+  pub each : (x : ℕ) → x < count
+      → SaysNear says distance (IsBlocked cells edge) x y (slice_index_or values x unset)

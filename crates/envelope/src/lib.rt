@@ -15,6 +15,6 @@ mod scan;
 mod search;
 mod stack;
 
-pub use answer::CellAnswer;
+pub use answer::{CellAnswer, CellValue};
 pub use metric::Near;
-pub use stack::{Stack, distances_from, row, row_from};
+pub use stack::{Stack, distances_from, row, row_from, values_from};

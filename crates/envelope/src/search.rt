@@ -91,33 +91,11 @@ fn look_four_times<M: Metric, S: ReachSource>(
     requires found { AreBestNear M.distance M.joined parts.now at k eight.best eight.away }
     ensures { AreBestNear M.distance M.joined parts.now at (k + 4) result.best result.away }
 {
-    let next = look_twice::<M, S>(parts, reaches, at, k, sides, eight);
-    look_twice::<M, S>(parts, reaches, at, k + 2, sides.farther(k, 2), next)
-}
-
-/// Also the columns `k` and `k + 1` columns to either side of eight cells.
-#[inline(always)]
-fn look_twice<M: Metric, S: ReachSource>(
-    parts: &[u16],
-    reaches: &[u16],
-    at: usize,
-    k: u16,
-    sides: Sides,
-    eight: Eight,
-) -> Eight
-    requires laned { 0 < M.reach_of 1 }
-    requires small { AreSmall parts.now }
-    requires reaches { S.known M.reach_of reaches.now }
-    requires sides { AreSides k sides.left sides.right }
-    requires left { 128 ≤ at }
-    requires right { at + 136 ≤ length parts.now }
-    requires some { 1 ≤ k }
-    requires few { k ≤ 95 }
-    requires found { AreBestNear M.distance M.joined parts.now at k eight.best eight.away }
-    ensures { AreBestNear M.distance M.joined parts.now at (k + 2) result.best result.away }
-{
-    let next = look_aside::<M, S>(parts, reaches, at, k, sides, eight);
-    look_aside::<M, S>(parts, reaches, at, k + 1, sides.farther(k, 1), next)
+    let farther = sides.farther(k, 2);
+    let one = look_aside::<M, S>(parts, reaches, at, k, sides, eight);
+    let two = look_aside::<M, S>(parts, reaches, at, k + 1, sides.farther(k, 1), one);
+    let three = look_aside::<M, S>(parts, reaches, at, k + 2, farther, two);
+    look_aside::<M, S>(parts, reaches, at, k + 3, farther.farther(k + 2, 1), three)
 }
 
 /// Also the columns `k` columns to either side of eight cells. On the left a column wins if it

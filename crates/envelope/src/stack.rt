@@ -4,7 +4,7 @@ ghost use Rattle.std.specs.Prelude.{◌≡◌, ℕ, ◌+◌, ◌*◌, ◌<◌, �
 ghost use Rattle.bits.specs.Cells.{Cells, IsBitmap};
 ghost use Rattle.column.specs.Columns.{IsRowOfTable};
 ghost use Rattle.envelope.specs.Columns.{AreEntries, AreSaid};
-ghost use Rattle.envelope.specs.Rows.{AreRowAnswers, AreRowDistances, AreRowNears};
+ghost use Rattle.envelope.specs.Rows.{AreRowAnswers, AreRowDistances, AreRowNears, AreRowValues};
 ghost use Rattle.bits.specs.Edges.{framed};
 ghost use Rattle.metric.specs.Edge.{shift};
 ghost use Rattle.metric.specs.declared.refusal.Refusal.TheVariants.{Memory};
@@ -94,12 +94,36 @@ pub fn row<M: Metric>(table: &ColumnTable, y: u16, stack: &mut Stack, nears: &mu
     row_from::<M, Option<Near>>(table.row(y), y + edge.shift(), edge, stack, nears);
 }
 
-/// Fills a row with the answer for each cell of row `y`, from the left. `entries` is the row of a
+/// Fills a row with the value for each cell of row `y`, from the left. `entries` is the row of a
 /// table of the map: the nearest obstacles of the columns. With a wall, `y` and the entries count
 /// the frame.
 ///
 /// The row to fill has as many cells as there are entries, without those of the frame, and the
 /// stack is for at least as many entries. It allocates no memory.
+pub fn values_from<M: Metric, V: CellValue>(
+    entries: &[u16],
+    y: u16,
+    edge: Edge,
+    stack: &mut Stack,
+    values: &mut [V],
+)
+    requires entries { AreEntries entries.now y }
+    requires row { shift edge ≤ y }
+    requires stack { length entries.now ≤ stack.old }
+    requires width { length values.old + 2 * shift edge ≡ length entries.now }
+    ensures values { (cells : Cells) (row : ℕ) → IsBitmap cells → row < cells.height
+        → y ≡ row + shift edge
+        → IsRowOfTable (framed edge cells) y entries.now
+        → AreRowValues V.says V.unset M.distance cells edge row cells.width values.new }
+    ensures stack { stack.new ≡ stack.old }
+{
+    match edge {
+        Edge::Open => fill_row::<M, V, Open>(entries, y, stack, values),
+        Edge::Wall => fill_row::<M, V, Walled>(entries, y, stack, values),
+    }
+}
+
+/// As `values_from`, with answers.
 pub fn row_from<M: Metric, A: CellAnswer>(
     entries: &[u16],
     y: u16,
@@ -117,14 +141,11 @@ pub fn row_from<M: Metric, A: CellAnswer>(
         → AreRowAnswers A.told A.nothing M.distance cells edge row cells.width answers.new }
     ensures stack { stack.new ≡ stack.old }
 {
-    match edge {
-        Edge::Open => fill_row::<M, A, Open>(entries, y, stack, answers),
-        Edge::Wall => fill_row::<M, A, Walled>(entries, y, stack, answers),
-    }
+    values_from::<M, A>(entries, y, edge, stack, answers);
 }
 
-/// As `row_from`, but fills a row with the distances alone, which takes less time; `u32::MAX` where
-/// there is no obstacle.
+/// As `values_from`, with the distances alone, which takes less time; `u32::MAX` where there is no
+/// obstacle.
 pub fn distances_from<M: Metric>(
     entries: &[u16],
     y: u16,
@@ -142,10 +163,7 @@ pub fn distances_from<M: Metric>(
         → AreRowDistances M.distance cells edge row cells.width distances.new }
     ensures stack { stack.new ≡ stack.old }
 {
-    match edge {
-        Edge::Open => fill_row::<M, u32, Open>(entries, y, stack, distances),
-        Edge::Wall => fill_row::<M, u32, Walled>(entries, y, stack, distances),
-    }
+    values_from::<M, u32>(entries, y, edge, stack, distances);
 }
 
 /// Fills a row with the obstacle of the column nearest to each cell: by two scans if the distance
