@@ -13,7 +13,6 @@ use borrow.Rule.Slice.PartMut.{post_of, put_mid, take_put}
 use Rattle.metric.specs.declared.edge.Edge.{Edge}
 use Rattle.metric.specs.declared.near.Near.{Near}
 use Rattle.bits.specs.Cells.{Cells}
-use Rattle.envelope.specs.Answer.{Reading}
 use Rattle.field.specs.Bands.{AreAnswers, HasRoom, row_behind}
 use Rattle.field.specs.Rows.{AreNears}
 use Rattle.column.proofs.Places.{place_above}
@@ -101,37 +100,6 @@ rows_put {T} Is nothing width from y start wide before line ordered start_is wid
           ∙ get_or-drop end before (k - end) nothing))
     ]))
 
--- the answers of a band's rows and those of the rows after them, assembled, are the answers of all
--- these rows
-pub AreAnswers-join : {T : Type 0} (told : Reading T) (nothing : T) (distance : ℕ → ℕ → ℕ)
-    (cells : Cells) (edge : Edge) (from to end : ℕ) (own others : List T) → from ≤ to → to ≤ end
-    → AreAnswers told nothing distance cells edge from to own
-    → AreAnswers told nothing distance cells edge to end others
-    → AreAnswers told nothing distance cells edge from end (own ++ others)
-AreAnswers-join told nothing distance cells edge from to end own others ordered within above
-    behind = record {
-      as_many =
-          let both : end - from ≡ (to - from) + (end - to) = omega arith in
-          rw (length-append own others, above.as_many, behind.as_many, both) (omega arith);
-      filled = record {
-        each = λ x b column low high. elim (cases_lt b to) [
-          | inl before ↦
-              let place : (b - from) * cells.width + x < length own =
-              rw above.as_many (place_above (b - from) (to - from) cells.width x
-              (omega arith) column)
-              in
-              rw (get_or_append_left own others nothing ((b - from) * cells.width + x) place)
-              (above.filled.each x b column low before)
-          | inr beyond ↦
-              let rows : b - from ≡ (to - from) + (b - to) = omega arith in
-              let place : (b - from) * cells.width + x ≡ length own + ((b - to) * cells.width + x) =
-              rw (rows, above.as_many) (omega arith) in
-              rw (place, get_or-append-add own others ((b - to) * cells.width + x) nothing)
-              (behind.filled.each x b column beyond high)
-        ];
-      };
-    }
-
 -- where all of each answer is kept, the answers of some rows are the nearest obstacles of their
 -- cells
 pub AreNears-answers : (distance : ℕ → ℕ → ℕ) (cells : Cells) (edge : Edge) (y0 y1 : ℕ)
@@ -147,14 +115,24 @@ pub AreNears-join : (distance : ℕ → ℕ → ℕ) (cells : Cells) (edge : Edg
     (own others : List (Option Near)) → from ≤ to → to ≤ end
     → AreNears distance cells edge from to own → AreNears distance cells edge to end others
     → AreNears distance cells edge from end (own ++ others)
-AreNears-join distance cells edge from to end own others ordered within above behind =
-    AreNears-answers distance cells edge from end (own ++ others)
-    (AreAnswers-join (λ d x y near. near) None distance cells edge from to end own others ordered
-    within (answers_of above) (answers_of behind))
-  where
-    answers_of : {y0 y1 : ℕ} {nears : List (Option Near)} → AreNears distance cells edge y0 y1 nears
-        → AreAnswers (λ d x y near. near) None distance cells edge y0 y1 nears
-    answers_of found = record { as_many = found.as_many; filled = record { each = found.each } }
+AreNears-join distance cells edge from to end own others ordered within above behind = record {
+  as_many =
+      let both : end - from ≡ (to - from) + (end - to) = omega arith in
+      rw (length-append own others, above.as_many, behind.as_many, both) (omega arith);
+  each = λ x b column low high. elim (cases_lt b to) [
+    | inl before ↦
+        let place : (b - from) * cells.width + x < length own =
+        rw above.as_many (place_above (b - from) (to - from) cells.width x (omega arith) column) in
+        rw (get_or_append_left own others None ((b - from) * cells.width + x) place)
+        (above.each x b column low before)
+    | inr beyond ↦
+        let rows : b - from ≡ (to - from) + (b - to) = omega arith in
+        let place : (b - from) * cells.width + x ≡ length own + ((b - to) * cells.width + x) =
+        rw (rows, above.as_many) (omega arith) in
+        rw (place, get_or-append-add own others ((b - to) * cells.width + x) None)
+        (behind.each x b column beyond high)
+  ];
+}
 
 -- more bands end at no earlier row
 pub row_behind-grows : (y0 y1 count a b : ℕ) → 1 ≤ count → a ≤ b

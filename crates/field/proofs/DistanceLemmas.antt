@@ -1,9 +1,8 @@
 -- The distances of the nearest obstacles of rows, and that they are distances within a map.
-use Rattle.std.proofs.Common.{◌≡◌, ℕ, zero, suc, ◌+◌, ◌<◌, ◌≤◌, ◌∙◌, sym, inl, inr}
-use Rattle.std.proofs.Common.{ℤ, pos, negsuc, ◌≤ℤ◌}
-use Rattle.std.proofs.Common.{◌-◌, ◌*◌, ◌/◌, ◌%◌, List, ◌++◌, length, slice_index}
-use Rattle.std.proofs.Common.{Option, None, Some, arith, length-append}
-use Rattle.std.proofs.lemmas.List.{get_or_append_left, get_or-append-add, get_or_past}
+use Rattle.std.proofs.Common.{ℕ, zero, suc, ◌+◌, ◌-◌, ◌*◌, ◌/◌, ◌<◌, ◌≤◌, ◌∙◌, inl, inr}
+use Rattle.std.proofs.Common.{ℤ, pos, negsuc, ◌≤ℤ◌, List, [], Option, None, Some, slice_index_or}
+use Rattle.std.proofs.Common.{arith}
+use Rattle.std.proofs.lemmas.Grind.{get_or_default_zero}
 use Rattle.std.proofs.lemmas.Int.{ints}
 use Rattle.metric.specs.declared.edge.Edge.{Edge}
 use Rattle.metric.specs.declared.edge.Edge.TheVariants.{Open, Wall}
@@ -13,13 +12,13 @@ use Rattle.bits.specs.Cells.{Cells, IsBitmap}
 use Rattle.bits.specs.Edges.{IsBlack, IsBlocked, IsFrame}
 use Rattle.bits.proofs.CellsLemmas.{has-outside}
 use Rattle.envelope.specs.Answer.{IsDistanceOf}
-use Rattle.envelope.specs.Rows.{AreRowDistances}
+use Rattle.column.proofs.Places.{place_above}
 use Rattle.column.specs.declared.batch.Batch.{Batch}
-use Rattle.field.specs.Distances.{AreAllMeasured, AreStripsMeasured, HaveNumbers}
-use Rattle.field.specs.Distances.{IsFarAway, number_at}
-use Rattle.field.specs.Obstacles.{IsMeasured, rows_before, strip_row}
-use Rattle.field.proofs.BandLemmas.{rows_more}
-use Rattle.field.proofs.StripLemmas.{row_in_strip, strip_below, strip_starts}
+use Rattle.field.specs.Distances.{AreAllMeasured, AreMeasuredRows, HaveNumbers, IsFarAway}
+use Rattle.field.specs.Distances.{distances_in, number_at}
+use Rattle.field.specs.Obstacles.{IsMeasured}
+use Rattle.field.specs.Strips.{HoldRows, strip_row}
+use Rattle.field.proofs.StripLemmas.{AreStrips-held, row_held}
 
 -- a spot is no more columns and rows from a cell than two cells of a map with its frame can be
 abbrev pub IsNotFar : ℕ → ℕ → ℤ → ℤ → Type 0
@@ -83,93 +82,49 @@ IsMeasured-near d cells edge x y number (Some near) bitmap inside within found i
       },
     )
 
--- the distances of a row are those of its cells
-pub IsFarAway-row : (d : ℕ → ℕ → ℕ) (cells : Cells) (edge : Edge) (y : ℕ) (numbers : List ℕ)
-    → IsBitmap cells → y < cells.height → AreRowDistances d cells edge y cells.width numbers
-    → (x : ℕ) → x < cells.width
-    → IsFarAway d (IsBlocked cells edge) x y (slice_index numbers x)
-IsFarAway-row d cells edge y numbers bitmap within row x inside =
-    let it = row.each x inside in
-    record {
-      near = it.near;
-      near_is = it.near_is;
-      measured = IsMeasured-near d cells edge x y (slice_index numbers x) it.near bitmap inside
-          within it.near_is it.number_is;
-    }
-
--- the distances of some rows, with those of the next row after them, are those of one more row
-pub AreAllMeasured-more : (d : ℕ → ℕ → ℕ) (cells : Cells) (edge : Edge) (y0 y : ℕ)
-    (rows row : List ℕ) → y0 ≤ y → length row ≡ cells.width
-    → AreAllMeasured d cells edge y0 y rows
-    → ((x : ℕ) → x < cells.width → IsFarAway d (IsBlocked cells edge) x y (slice_index row x))
-    → AreAllMeasured d cells edge y0 (y + 1) (rows ++ row)
-AreAllMeasured-more d cells edge y0 y rows row ordered long before here =
-    let width = cells.width in
-    let many = before.as_many in
-    let next : y + 1 - y0 ≡ y - y0 + 1 = omega (arith, ordered) in
-    let all = length-append rows row in
-    let whole : length (rows ++ row) ≡ (y - y0) * width + width = omega (arith, all, many, long) in
-    record {
-      as_many = rw next (omega (arith, whole));
-      rows = record {
-        each = rows_more (IsFarAway d (IsBlocked cells edge)) 0 width y0 y rows (rows ++ row)
-            ordered before.rows.each
-            (λ x inside. rw (← many, get_or-append-add rows row x 0) (here x inside))
-            (λ k aside. elim aside [
-              | inl low ↦ get_or_append_left rows row 0 k (rw many low)
-              | inr high ↦ get_or_past (rows ++ row) k 0 (omega (arith, whole, high))
-                  ∙ sym (get_or_past rows k 0 (omega (arith, many, high)))
-            ]);
-      };
-    }
+-- numbers that say how far the nearest obstacles of rows are, are their distances
+pub AreMeasuredRows-values : (d : ℕ → ℕ → ℕ) (cells : Cells) (edge : Edge) (from to : ℕ)
+    (numbers : List ℕ) → IsBitmap cells → to ≤ cells.height
+    → AreAllMeasured d cells edge from to numbers
+    → AreMeasuredRows d cells edge from to numbers
+AreMeasuredRows-values d cells edge from to numbers bitmap within values = record {
+  each = λ x y column low high.
+      let many = values.as_many in
+      let place = place_above (y - from) (to - from) cells.width x (omega (arith, low, high)) column
+      in
+      let it = values.each x y column low high in
+      rw (← get_or_default_zero numbers ((y - from) * cells.width + x) 4294967295
+      (omega (arith, many, place)))
+      (record {
+        near = it.near;
+        near_is = it.near_is;
+        measured = IsMeasured-near d cells edge x y
+            (slice_index_or numbers ((y - from) * cells.width + x) 4294967295) it.near bitmap column
+            (omega (arith, high, within)) it.near_is it.said;
+      });
+}
 
 -- where each strip has the distances of its rows, the table has those of all rows
 pub number_at-strips : (d : ℕ → ℕ → ℕ) (batch : Batch) (height : ℕ) (strips : List (List ℕ))
-    → 1 ≤ height → batch.y1 - batch.y0 ≤ length strips * height
-    → AreStripsMeasured d batch height strips
+    → HoldRows AreAllMeasured d batch height strips
     → (x y : ℕ) → x < batch.bitmap.now.width → batch.y0 ≤ y → y < batch.y1
     → IsFarAway d (IsBlocked batch.bitmap.now batch.edge) x y
-    (number_at (record {
-      width = batch.bitmap.now.width;
-      y0 = batch.y0;
-      y1 = batch.y1;
-      height = height;
-      strips = strips;
-    }) x y)
-number_at-strips d batch height strips some enough found x y column from to =
-    let rows = batch.y1 - batch.y0 in
+    (number_at (distances_in batch.bitmap.now.width batch.y0 batch.y1 height strips) x y)
+number_at-strips d batch height strips held x y column from to =
     let row : ℕ = y - batch.y0 in
-    let below : row < rows = omega (arith, from, to) in
-    let starts = strip_starts height rows row some below in
-    let parts = row_in_strip height row in
-    let strip = found.each (row / height)
-    (strip_below height rows (length strips) row some enough below) in
-    let rest : y - strip_row batch height (row / height) ≡ row % height =
-    rw starts.0 (omega (arith, parts, from)) in
-    rw (← rest)
-    (strip.rows.each x y column (rw starts.0 (omega (arith, parts, from)))
-    (omega (arith, starts.0, starts.1, parts, from)))
+    let here = row_held d batch height strips [] held y from to in
+    rw (← here.place)
+    ((AreMeasuredRows-values d batch.bitmap.now batch.edge (strip_row batch height (row / height))
+    (strip_row batch height (row / height + 1)) (slice_index_or strips (row / height) []) held.bitmap
+    (omega (arith, batch.within, batch.order)) here.held).each x y column here.from here.to)
 
 -- strips with the distances of their rows have the numbers of all rows
 pub HaveNumbers-strips : (d : ℕ → ℕ → ℕ) (batch : Batch) (height : ℕ) (strips : List (List ℕ))
-    → batch.bitmap.now.width ≤ 4096 → 1 ≤ height
-    → batch.y1 - batch.y0 ≤ length strips * height
-    → AreStripsMeasured d batch height strips
-    → HaveNumbers (record {
-      width = batch.bitmap.now.width;
-      y0 = batch.y0;
-      y1 = batch.y1;
-      height = height;
-      strips = strips;
-    })
-HaveNumbers-strips d batch height strips across some enough found = record {
-  across = across;
+    → HoldRows AreAllMeasured d batch height strips
+    → HaveNumbers (distances_in batch.bitmap.now.width batch.y0 batch.y1 height strips)
+HaveNumbers-strips d batch height strips held = record {
+  across = held.bitmap.width_is.few;
   order = batch.order;
-  some = some;
-  enough = enough;
-  each = λ strip below.
-      let rows : strip_row batch height (strip + 1) - strip_row batch height strip
-      ≡ rows_before (batch.y1 - batch.y0) height (strip + 1)
-      - rows_before (batch.y1 - batch.y0) height strip = omega arith in
-      rw (← rows) (found.each strip below).as_many;
+  placed = AreStrips-held AreAllMeasured d batch height strips (λ from to kept held. held.as_many)
+      held;
 }

@@ -5,7 +5,8 @@ use Rattle.metric.specs.declared.edge.Edge.{Edge}
 use Rattle.bits.specs.Cells.{Cells}
 use Rattle.bits.specs.Edges.{IsBlocked}
 use Rattle.column.specs.declared.batch.Batch.{Batch}
-use Rattle.envelope.specs.Answer.{Reading}
+use Rattle.envelope.specs.Answer.{Reading, Saying}
+use Rattle.envelope.specs.Rows.{SaysNear}
 
 -- a computation is shared by one to sixteen workers
 pub record IsWorkers (count : ℕ) : Type 0 where
@@ -45,3 +46,11 @@ pub record AreAnswers {T : Type 0} (told : Reading T) (nothing : T) (distance : 
     (cells : Cells) (edge : Edge) (from to : ℕ) (answers : List T) : Type 0 where
   pub as_many : length answers ≡ (to - from) * cells.width
   pub filled : AreFilled told nothing distance cells edge from to answers
+
+-- the values say what the nearest obstacles of all cells of rows `from` to `to - 1` are
+pub record AreValues {T : Type 0} (says : Saying T) (unset : T) (distance : ℕ → ℕ → ℕ)
+    (cells : Cells) (edge : Edge) (from to : ℕ) (values : List T) : Type 0 where
+  pub as_many : length values ≡ (to - from) * cells.width
+  pub each : (x y : ℕ) → x < cells.width → from ≤ y → y < to
+      → SaysNear says distance (IsBlocked cells edge) x y
+      (slice_index_or values ((y - from) * cells.width + x) unset)

@@ -3,8 +3,9 @@
 use Rattle.std.specs.Prelude.{◌≡◌, ℕ, ◌+◌, ◌*◌, ◌/◌, ◌%◌, ◌<◌, ◌≤◌, List, length, map}
 use Rattle.std.specs.Prelude.{slice_index, slice_index_or}
 use Rattle.std.specs.List.{range_with_len}
-use Rattle.column.specs.declared.batch.Batch.{Batch}
-use Rattle.field.specs.Distances.{IsStripMeasured}
+use Rattle.metric.specs.declared.edge.Edge.{Edge}
+use Rattle.bits.specs.Cells.{Cells}
+use Rattle.field.specs.Distances.{AreAllMeasured}
 use Rattle.field.specs.declared.compact_strip.CompactStrip.{CompactStrip}
 
 -- a distance is kept as the number after it, the largest 32-bit number, which means none, as 0
@@ -63,18 +64,11 @@ pub record HasHighLine (line old new : List ℕ) (start : ℕ) : Type 0 where
   pub each : (x : ℕ) → x < length line
       → slice_index new (start + x) ≡ high_half (slice_index line x)
 
--- the strip has the distances of the rows of one strip of a batch
-pub record IsStripKept (distance : ℕ → ℕ → ℕ) (batch : Batch) (height strip : ℕ)
-    (kept : CompactStrip) : Type 0 where
-  pub lines : HasLines batch.bitmap.now.width kept
-  pub measured : IsStripMeasured distance batch height strip
-      (numbers_in batch.bitmap.now.width kept)
-
--- each strip has the distances of its rows
-pub record AreStripsKept (distance : ℕ → ℕ → ℕ) (batch : Batch) (height : ℕ)
-    (strips : List CompactStrip) : Type 0 where
-  pub each : (strip : ℕ) (other : CompactStrip) → strip < length strips
-      → IsStripKept distance batch height strip (slice_index_or strips strip other)
+-- a strip keeps the distances of rows `from` to `to - 1` of a map with its edge
+pub record KeepsDistances (distance : ℕ → ℕ → ℕ) (cells : Cells) (edge : Edge) (from to : ℕ)
+    (strip : CompactStrip) : Type 0 where
+  pub lines : HasLines cells.width strip
+  pub measured : AreAllMeasured distance cells edge from to (numbers_in cells.width strip)
 
 -- each strip has the lines of its rows
 pub record AreCompact (width : ℕ) (strips : List CompactStrip) : Type 0 where

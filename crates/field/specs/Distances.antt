@@ -1,14 +1,16 @@
 -- The distances of the nearest obstacles of a range of rows, without their positions: this
 -- project's own rule.
-use Rattle.std.specs.Prelude.{◌≡◌, ℕ, ℤ, ◌+◌, ◌-◌, ◌*◌, ◌/◌, ◌%◌, ◌<◌, ◌≤◌, List, [], length}
+use Rattle.std.specs.Prelude.{ℕ, ℤ, ◌+◌, ◌-◌, ◌*◌, ◌/◌, ◌%◌, ◌<◌, ◌≤◌, List, []}
 use Rattle.std.specs.Prelude.{Option, slice_index, slice_index_or}
 use Rattle.metric.specs.declared.near.Near.{Near}
 use Rattle.metric.specs.declared.edge.Edge.{Edge}
 use Rattle.metric.specs.Nearest.{IsNear}
 use Rattle.bits.specs.Cells.{Cells}
 use Rattle.bits.specs.Edges.{IsBlocked}
-use Rattle.column.specs.declared.batch.Batch.{Batch}
-use Rattle.field.specs.Obstacles.{IsMeasured, rows_before, strip_row}
+use Rattle.envelope.specs.Answer.{IsDistanceOf}
+use Rattle.field.specs.Bands.{AreValues}
+use Rattle.field.specs.Obstacles.{IsMeasured}
+use Rattle.field.specs.Strips.{AreStrips}
 
 -- the number is the distance of the nearest obstacle of cell (x, y)
 pub record IsFarAway (distance : ℕ → ℕ → ℕ) (Obstacle : ℤ → ℤ → Type 0) (x y number : ℕ) : Type 0
@@ -25,10 +27,9 @@ pub record AreMeasuredRows (distance : ℕ → ℕ → ℕ) (cells : Cells) (edg
       (slice_index numbers ((y - from) * cells.width + x))
 
 -- the numbers are the distances of all cells of rows `from` to `to - 1`, in row-major order
-pub record AreAllMeasured (distance : ℕ → ℕ → ℕ) (cells : Cells) (edge : Edge) (from to : ℕ)
-    (numbers : List ℕ) : Type 0 where
-  pub as_many : length numbers ≡ (to - from) * cells.width
-  pub rows : AreMeasuredRows distance cells edge from to numbers
+abbrev pub AreAllMeasured : (ℕ → ℕ → ℕ) → Cells → Edge → ℕ → ℕ → List ℕ → Type 0
+AreAllMeasured =
+    AreValues (λ distance x y number near. IsDistanceOf near number) 4294967295
 
 -- a table of distances has rows y0 to y1 - 1 in strips of equal height, except the last
 pub record Distances : Type 0 where
@@ -37,6 +38,11 @@ pub record Distances : Type 0 where
   pub y1 : ℕ
   pub height : ℕ
   pub strips : List (List ℕ)
+
+-- rows y0 to y1 - 1 in strips of this height
+abbrev pub distances_in : ℕ → ℕ → ℕ → ℕ → List (List ℕ) → Distances
+distances_in width y0 y1 height strips =
+    record { width = width; y0 = y0; y1 = y1; height = height; strips = strips }
 
 -- the number that a table of distances has for cell (x, y)
 abbrev pub number_at : Distances → ℕ → ℕ → ℕ
@@ -48,21 +54,4 @@ number_at table x y =
 pub record HaveNumbers (table : Distances) : Type 0 where
   pub across : table.width ≤ 4096
   pub order : table.y0 ≤ table.y1
-  pub some : 1 ≤ table.height
-  pub enough : table.y1 - table.y0 ≤ length table.strips * table.height
-  pub each : (strip : ℕ) → strip < length table.strips
-      → length (slice_index_or table.strips strip [])
-      ≡ (rows_before (table.y1 - table.y0) table.height (strip + 1)
-      - rows_before (table.y1 - table.y0) table.height strip) * table.width
-
--- the numbers are the distances of the rows of one strip of a batch
-abbrev pub IsStripMeasured : (ℕ → ℕ → ℕ) → Batch → ℕ → ℕ → List ℕ → Type 0
-IsStripMeasured distance batch height strip numbers =
-    AreAllMeasured distance batch.bitmap.now batch.edge (strip_row batch height strip)
-    (strip_row batch height (strip + 1)) numbers
-
--- each strip has the distances of its rows
-pub record AreStripsMeasured (distance : ℕ → ℕ → ℕ) (batch : Batch) (height : ℕ)
-    (strips : List (List ℕ)) : Type 0 where
-  pub each : (strip : ℕ) → strip < length strips
-      → IsStripMeasured distance batch height strip (slice_index_or strips strip [])
+  pub placed : AreStrips table.width table.height (table.y1 - table.y0) table.strips

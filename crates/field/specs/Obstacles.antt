@@ -1,14 +1,13 @@
 -- A table that keeps only the position of each cell's nearest obstacle, from which the distance
 -- follows: this project's own rule.
 use Rattle.std.specs.Prelude.{◌≡◌, ℕ, ℤ, pos, negsuc, ◌<ℤ◌, ◌≤ℤ◌, int_lt, ◌+◌, ◌-◌, ◌*◌, ◌/◌, ◌%◌}
-use Rattle.std.specs.Prelude.{◌<◌, ◌≤◌, [], List, length, map, min, slice_index_or, Option, Some}
+use Rattle.std.specs.Prelude.{◌<◌, ◌≤◌, [], List, length, map, slice_index_or, Option, Some}
 use Rattle.std.specs.Prelude.{None, if◌then◌else◌}
 use Rattle.std.specs.List.{range_with_len}
 use Rattle.metric.specs.declared.spot.Spot.{Spot}
 use Rattle.metric.specs.declared.near.Near.{Near}
 use Rattle.metric.specs.Nearest.{spot_distance}
-use Rattle.column.specs.declared.batch.Batch.{Batch}
-use Rattle.field.specs.Bands.{AreAnswers}
+use Rattle.field.specs.Strips.{AreStrips}
 
 -- the spot of this column and row; none if the column is the mark for none
 abbrev pub spot_kept : ℤ → ℤ → Option Spot
@@ -39,10 +38,6 @@ pub record AreRows (table : Obstacles) : Type 0 where
   pub within : table.y1 ≤ 4096
   pub as_many : length table.cells ≡ (table.y1 - table.y0) * table.width
 
--- how many of some rows come before a strip, in strips of equal height except the last
-abbrev pub rows_before : ℕ → ℕ → ℕ → ℕ
-rows_before rows height strip = min rows (strip * height)
-
 -- the cell at this index, in row-major order, in strips of this height with rows of this width
 abbrev pub cell_in : ℕ → ℕ → List (List (Option Spot)) → ℕ → Option Spot
 cell_in width height strips place =
@@ -53,14 +48,6 @@ cell_in width height strips place =
 abbrev pub cells_in : ℕ → ℕ → ℕ → List (List (Option Spot)) → List (Option Spot)
 cells_in width height rows strips =
     map (cell_in width height strips) (range_with_len 0 (rows * width))
-
--- the strips of this height hold this many rows of this width
-pub record AreStrips (width height rows : ℕ) (strips : List (List (Option Spot))) : Type 0 where
-  pub some : 1 ≤ height
-  pub enough : rows ≤ length strips * height
-  pub each : (strip : ℕ) → strip < length strips
-      → length (slice_index_or strips strip [])
-      ≡ (rows_before rows height (strip + 1) - rows_before rows height strip) * width
 
 -- rows y0 to y1 - 1 in strips of this height
 abbrev pub in_strips : ℕ → ℕ → ℕ → ℕ → List (List (Option Spot)) → Obstacles
@@ -73,22 +60,6 @@ pub record HaveRows (width y0 y1 height : ℕ) (strips : List (List (Option Spot
   pub order : y0 ≤ y1
   pub within : y1 ≤ 4096
   pub placed : AreStrips width height (y1 - y0) strips
-
--- the first row of a strip, if the rows of a batch are in strips of this height
-abbrev pub strip_row : Batch → ℕ → ℕ → ℕ
-strip_row batch height strip = batch.y0 + rows_before (batch.y1 - batch.y0) height strip
-
--- the cells are the nearest obstacles of the rows of one strip of a batch
-abbrev pub IsStripAnswer : (ℕ → ℕ → ℕ) → Batch → ℕ → ℕ → List (Option Spot) → Type 0
-IsStripAnswer distance batch height strip cells =
-    AreAnswers seen_from None distance batch.bitmap.now batch.edge (strip_row batch height strip)
-    (strip_row batch height (strip + 1)) cells
-
--- each strip has the nearest obstacles of its rows
-pub record AreStripAnswers (distance : ℕ → ℕ → ℕ) (batch : Batch) (height : ℕ)
-    (strips : List (List (Option Spot))) : Type 0 where
-  pub each : (strip : ℕ) → strip < length strips
-      → IsStripAnswer distance batch height strip (slice_index_or strips strip [])
 
 -- the nearest obstacles in a table, in row-major order, by this distance
 abbrev pub nears_told : (ℕ → ℕ → ℕ) → Obstacles → List (Option Near)

@@ -7,7 +7,7 @@ ghost use Rattle.field.specs.Distances.{IsFarAway, number_at};
 ghost use Rattle.metric.specs.declared.refusal.Refusal.TheVariants.{Memory};
 
 use crate::compact_strip::CompactStrip;
-use crate::strips::{Strips, compact_strips};
+use crate::strips::Strips;
 use crate::workers::Workers;
 use column::Batch;
 use metric::{Gate, Metric, Refusal};
@@ -22,36 +22,22 @@ use std::thread::Threads;
 /// copying it.
 #[derive(Debug, Drop)]
 pub struct CompactDistances {
-    width: u16,
-    y0: u16,
-    y1: u16,
-    /// The rows of a strip; the last strips may have fewer, or none.
-    height: u16,
-    strips: Vec<CompactStrip>,
+    strips: Strips<CompactStrip>,
 }
 
 impl Model for CompactDistances {
     ghost use Rattle.std.specs.Prelude.{map};
     ghost use Rattle.field.specs.Compact.{AreCompact, numbers_in};
-    ghost use Rattle.field.specs.Distances.{Distances, HaveNumbers};
+    ghost use Rattle.field.specs.Distances.{Distances, HaveNumbers, distances_in};
 
     ghost Value = { Distances };
 
-    ghost view = { λ t. record {
-      width = t.width;
-      y0 = t.y0;
-      y1 = t.y1;
-      height = t.height;
-      strips = map (numbers_in t.width) t.strips.items;
-    } };
+    ghost view = { λ t. distances_in t.strips.width t.strips.y0 t.strips.y1 t.strips.height
+        (map (numbers_in t.strips.width) t.strips.all.items) };
 
-    ghost invariant = { λ t. HaveNumbers (record {
-      width = t.width;
-      y0 = t.y0;
-      y1 = t.y1;
-      height = t.height;
-      strips = map (numbers_in t.width) t.strips.items;
-    }) × AreCompact t.width t.strips.items };
+    ghost invariant = { λ t. HaveNumbers (distances_in t.strips.width t.strips.y0 t.strips.y1
+        t.strips.height (map (numbers_in t.strips.width) t.strips.all.items))
+        × AreCompact t.strips.width t.strips.all.items };
 }
 
 impl CompactDistances {
@@ -76,31 +62,22 @@ impl CompactDistances {
             (number_at table x y)) }
         ensures memory { IfErr result (λ refusal. refusal ≡ Memory) }
     {
-        let (y0, y1, count) = (batch.y0, batch.y1, workers.count);
-        let height = (y1 - y0).div_ceil(u16::from(count)).max(1);
-        let shared = Strips { batch, height };
-        let strips = compact_strips::<M, G, R>(rt, alloc, &shared, count, gate)?;
-        Ok(CompactDistances {
-            width: batch.bitmap.width(),
-            y0,
-            y1,
-            height,
-            strips,
-        })
+        let strips = Strips::of::<M, G, R>(rt, alloc, batch, workers, gate)?;
+        Ok(CompactDistances { strips })
     }
 
     /// The number of cells of a row.
     pub fn width(&self) -> u16
         ensures { result ≡ self.now.width }
     {
-        self.width
+        self.strips.width
     }
 
     /// Whether this is one of its rows.
     pub fn has_row(&self, y: u16) -> bool
         ensures { (result ≡ true) ↔ ((self.now.y0 ≤ y) × (y < self.now.y1)) }
     {
-        self.y0 <= y && y < self.y1
+        self.strips.y0 <= y && y < self.strips.y1
     }
 
     /// Fills a line with the distances of the cells of row `y`, from the left; `u32::MAX` where
@@ -113,8 +90,7 @@ impl CompactDistances {
         ensures each { (x : ℕ) → x < self.now.width
             → slice_index distances.new x ≡ number_at self.now x y }
     {
-        let row = y - self.y0;
-        let strip = &self.strips[usize::from(row / self.height)];
-        strip.fill_row(usize::from(row % self.height), distances);
+        let (strip, row) = self.strips.strip_of(y);
+        strip.fill_row(row, distances);
     }
 }

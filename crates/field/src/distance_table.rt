@@ -6,7 +6,7 @@ ghost use Rattle.bits.specs.Edges.{IsBlocked};
 ghost use Rattle.field.specs.Distances.{IsFarAway, number_at};
 ghost use Rattle.metric.specs.declared.refusal.Refusal.TheVariants.{Memory};
 
-use crate::strips::{Strips, measure_strips};
+use crate::strips::Strips;
 use crate::workers::Workers;
 use column::Batch;
 use metric::{Gate, Metric, Refusal};
@@ -20,35 +20,20 @@ use std::thread::Threads;
 /// It takes less time to make than an `ObstacleTable`, from whose obstacles distances follow.
 #[derive(Debug, Drop)]
 pub struct DistanceTable {
-    width: u16,
-    y0: u16,
-    y1: u16,
-    /// The rows of a strip; the last strip may have fewer.
-    height: u16,
-    strips: Vec<Vec<u32>>,
+    strips: Strips<Vec<u32>>,
 }
 
 impl Model for DistanceTable {
     ghost use Rattle.std.specs.Prelude.{map};
-    ghost use Rattle.field.specs.Distances.{Distances, HaveNumbers};
+    ghost use Rattle.field.specs.Distances.{Distances, HaveNumbers, distances_in};
 
     ghost Value = { Distances };
 
-    ghost view = { λ t. record {
-      width = t.width;
-      y0 = t.y0;
-      y1 = t.y1;
-      height = t.height;
-      strips = map (λ strip. strip.items) t.strips.items;
-    } };
+    ghost view = { λ t. distances_in t.strips.width t.strips.y0 t.strips.y1 t.strips.height
+        (map (λ strip. strip.items) t.strips.all.items) };
 
-    ghost invariant = { λ t. HaveNumbers (record {
-      width = t.width;
-      y0 = t.y0;
-      y1 = t.y1;
-      height = t.height;
-      strips = map (λ strip. strip.items) t.strips.items;
-    }) };
+    ghost invariant = { λ t. HaveNumbers (distances_in t.strips.width t.strips.y0 t.strips.y1
+        t.strips.height (map (λ strip. strip.items) t.strips.all.items)) };
 }
 
 impl DistanceTable {
@@ -73,31 +58,22 @@ impl DistanceTable {
             (number_at table x y)) }
         ensures memory { IfErr result (λ refusal. refusal ≡ Memory) }
     {
-        let (y0, y1, count) = (batch.y0, batch.y1, workers.count);
-        let height = (y1 - y0).div_ceil(u16::from(count)).max(1);
-        let shared = Strips { batch, height };
-        let strips = measure_strips::<M, G, R>(rt, alloc, &shared, count, gate)?;
-        Ok(DistanceTable {
-            width: batch.bitmap.width(),
-            y0,
-            y1,
-            height,
-            strips,
-        })
+        let strips = Strips::of::<M, G, R>(rt, alloc, batch, workers, gate)?;
+        Ok(DistanceTable { strips })
     }
 
     /// The number of cells of a row.
     pub fn width(&self) -> u16
         ensures { result ≡ self.now.width }
     {
-        self.width
+        self.strips.width
     }
 
     /// Whether this is one of its rows.
     pub fn has_row(&self, y: u16) -> bool
         ensures { (result ≡ true) ↔ ((self.now.y0 ≤ y) × (y < self.now.y1)) }
     {
-        self.y0 <= y && y < self.y1
+        self.strips.y0 <= y && y < self.strips.y1
     }
 
     /// The distances of the cells of row `y`, from the left; `u32::MAX` where there is no obstacle.
@@ -108,10 +84,6 @@ impl DistanceTable {
         ensures each { (x : ℕ) → x < self.now.width
             → slice_index result.now x ≡ number_at self.now x y }
     {
-        let width = usize::from(self.width);
-        let row = y - self.y0;
-        let strip = &self.strips[usize::from(row / self.height)];
-        let start = usize::from(row % self.height) * width;
-        &strip[start..start + width]
+        self.strips.line(y)
     }
 }

@@ -1,13 +1,15 @@
-//! The answers of all cells of a range of rows, written to the caller's memory.
+//! The answers of all cells of a range of rows, or the distances alone, written to the caller's
+//! memory.
 
 ghost use Rattle.std.specs.Prelude.{◌≡◌, ◌+◌, IfErr, OnOk};
 ghost use Rattle.metric.specs.declared.refusal.Refusal.TheVariants.{Memory};
-ghost use Rattle.field.specs.Bands.{AreAnswers, HasRoom};
-ghost use Rattle.field.specs.Phases.{IsNextLine};
+ghost use Rattle.bits.specs.Cells.{IsBitmap};
+ghost use Rattle.field.specs.Bands.{AreAnswers, AreValues, HasRoom};
+ghost use Rattle.field.specs.Distances.{AreMeasuredRows};
 
 use crate::phases::Phases;
 use column::Batch;
-use envelope::CellAnswer;
+use envelope::{CellAnswer, CellValue};
 use metric::{Metric, Refusal};
 use std::alloc::Global;
 
@@ -25,21 +27,45 @@ pub fn fill<M: Metric, A: CellAnswer>(
     ensures memory { IfErr result (λ refusal. refusal ≡ Memory) }
     ensures kept { IfErr result (λ _. answers.new ≡ answers.old) }
 {
-    let mut phases = Phases::of(alloc, batch)?;
-    fill_rows::<M, A>(batch, &mut phases, answers);
-    Ok(())
+    fill_values::<M, A>(alloc, batch, answers)
 }
 
-/// Fills the rows of the batch in order.
-fn fill_rows<M: Metric, A: CellAnswer>(batch: &Batch<'_>, phases: &mut Phases, answers: &mut [A])
-    requires room { HasRoom batch.now.bitmap.now batch.now.y0 batch.now.y1 answers.old }
-    requires phases { IsNextLine batch.now phases.old batch.now.y0 }
-    ensures { AreAnswers A.told A.nothing M.distance batch.now.bitmap.now batch.now.edge
-        batch.now.y0 batch.now.y1 answers.new }
+/// Fills `distances` with those of the cells of a batch to their nearest obstacles, in
+/// row-major order; `u32::MAX` where there is no obstacle.
+///
+/// Fails only when out of memory, before it writes anything.
+pub fn measure<M: Metric>(
+    alloc: Global,
+    batch: &Batch<'_>,
+    distances: &mut [u32],
+) -> Result<(), Refusal>
+    requires room { HasRoom batch.now.bitmap.now batch.now.y0 batch.now.y1 distances.old }
+    ensures rows { OnOk result (AreMeasuredRows M.distance batch.now.bitmap.now batch.now.edge
+        batch.now.y0 batch.now.y1 distances.new) }
+    ensures memory { IfErr result (λ refusal. refusal ≡ Memory) }
+    ensures kept { IfErr result (λ _. distances.new ≡ distances.old) }
+{
+    fill_values::<M, u32>(alloc, batch, distances)
+}
+
+/// Fills the rows of the batch in order. Fails only when out of memory, before it writes anything.
+fn fill_values<M: Metric, V: CellValue>(
+    alloc: Global,
+    batch: &Batch<'_>,
+    values: &mut [V],
+) -> Result<(), Refusal>
+    requires room { HasRoom batch.now.bitmap.now batch.now.y0 batch.now.y1 values.old }
+    ensures rows { OnOk result (AreValues V.says V.unset M.distance batch.now.bitmap.now
+        batch.now.edge batch.now.y0 batch.now.y1 values.new) }
+    ensures memory { IfErr result (λ refusal. refusal ≡ Memory) }
+    ensures kept { IfErr result (λ _. values.new ≡ values.old) }
+    ensures bitmap { IsBitmap batch.now.bitmap.now }
 {
     let width = batch.width();
+    let mut phases = Phases::of(alloc, batch)?;
     'rows: for y in batch.y0..batch.y1 {
         let start = usize::from(y - batch.y0) * width;
-        phases.fill_line::<M, A>(batch, y, &mut answers[start..start + width]);
+        phases.fill_line::<M, V>(batch, y, &mut values[start..start + width]);
     }
+    Ok(())
 }

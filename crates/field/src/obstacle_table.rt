@@ -8,7 +8,7 @@ ghost use Rattle.field.specs.Rows.{AreNears};
 ghost use Rattle.metric.specs.declared.refusal.Refusal.TheVariants.{Memory};
 
 use crate::obstacle_cell::ObstacleCell;
-use crate::strips::{Strips, work_strips};
+use crate::strips::Strips;
 use crate::workers::Workers;
 use column::Batch;
 use metric::{Gate, Metric, Near, Refusal};
@@ -20,12 +20,7 @@ use std::thread::Threads;
 /// see these obstacles, in row-major order.
 #[derive(Debug, Drop)]
 pub struct ObstacleTable<M> {
-    width: u16,
-    y0: u16,
-    y1: u16,
-    /// The rows of a strip; the last strip may have fewer.
-    height: u16,
-    strips: Vec<Vec<ObstacleCell>>,
+    strips: Strips<Vec<ObstacleCell>>,
     by: PhantomData<M>,
 }
 
@@ -35,11 +30,11 @@ impl<M> Model for ObstacleTable<M> {
 
     ghost Value = { Obstacles };
 
-    ghost view = { λ t. in_strips t.width t.y0 t.y1 t.height
-        (map (λ strip. strip.items) t.strips.items) };
+    ghost view = { λ t. in_strips t.strips.width t.strips.y0 t.strips.y1 t.strips.height
+        (map (λ strip. strip.items) t.strips.all.items) };
 
-    ghost invariant = { λ t. HaveRows t.width t.y0 t.y1 t.height
-        (map (λ strip. strip.items) t.strips.items) };
+    ghost invariant = { λ t. HaveRows t.strips.width t.strips.y0 t.strips.y1 t.strips.height
+        (map (λ strip. strip.items) t.strips.all.items) };
 }
 
 impl<M: Metric + Sync> ObstacleTable<M> {
@@ -62,15 +57,8 @@ impl<M: Metric + Sync> ObstacleTable<M> {
             batch.now.edge batch.now.y0 batch.now.y1 (nears_told M.distance table)) }
         ensures memory { IfErr result (λ refusal. refusal ≡ Memory) }
     {
-        let (y0, y1, count) = (batch.y0, batch.y1, workers.count);
-        let height = (y1 - y0).div_ceil(u16::from(count)).max(1);
-        let shared = Strips { batch, height };
-        let strips = work_strips::<M, G, R>(rt, alloc, &shared, count, gate)?;
+        let strips = Strips::of::<M, G, R>(rt, alloc, batch, workers, gate)?;
         Ok(ObstacleTable {
-            width: batch.bitmap.width(),
-            y0,
-            y1,
-            height,
             strips,
             by: PhantomData,
         })
@@ -80,14 +68,14 @@ impl<M: Metric + Sync> ObstacleTable<M> {
     pub fn width(&self) -> u16
         ensures { result ≡ self.now.width }
     {
-        self.width
+        self.strips.width
     }
 
     /// Whether this is one of its rows.
     pub fn has_row(&self, y: u16) -> bool
         ensures { (result ≡ true) ↔ ((self.now.y0 ≤ y) × (y < self.now.y1)) }
     {
-        self.y0 <= y && y < self.y1
+        self.strips.y0 <= y && y < self.strips.y1
     }
 
     /// The nearest obstacle of cell (`x`, `y`); `None` where there is no obstacle.
@@ -98,7 +86,7 @@ impl<M: Metric + Sync> ObstacleTable<M> {
         ensures { result ≡ slice_index_or (nears_told M.distance self.now)
             ((y - self.now.y0) * self.now.width + x) None }
     {
-        near_from::<M>(x, y, self.line(y - self.y0)[usize::from(x)])
+        near_from::<M>(x, y, self.strips.line(y)[usize::from(x)])
     }
 
     /// Fills a line with the nearest obstacles of the cells of row `y`, from the left.
@@ -110,7 +98,7 @@ impl<M: Metric + Sync> ObstacleTable<M> {
             ((y - self.now.y0) * self.now.width)
             ((y - self.now.y0) * self.now.width + self.now.width) }
     {
-        fill_line::<M>(y, self.line(y - self.y0), nears);
+        fill_line::<M>(y, self.strips.line(y), nears);
     }
 
     /// Fills a line with the distances of the cells of row `y` to their nearest obstacles, from the
@@ -123,20 +111,7 @@ impl<M: Metric + Sync> ObstacleTable<M> {
             (slice_range (nears_told M.distance self.now) ((y - self.now.y0) * self.now.width)
             ((y - self.now.y0) * self.now.width + self.now.width)) distances.new }
     {
-        measure_line::<M>(y, self.line(y - self.y0), distances);
-    }
-
-    /// The cells of row number `row`, counted from the first one.
-    fn line(&self, row: u16) -> &[ObstacleCell]
-        requires row { row < self.now.y1 - self.now.y0 }
-        ensures len { length result.now ≡ self.now.width }
-        ensures line { result.now ≡ slice_range self.now.cells (row * self.now.width)
-            (row * self.now.width + self.now.width) }
-    {
-        let width = usize::from(self.width);
-        let strip = &self.strips[usize::from(row / self.height)];
-        let start = usize::from(row % self.height) * width;
-        &strip[start..start + width]
+        measure_line::<M>(y, self.strips.line(y), distances);
     }
 }
 

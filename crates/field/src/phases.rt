@@ -2,10 +2,10 @@
 
 ghost use Rattle.std.specs.Prelude.{◌≡◌, ◌<◌, ◌+◌, IfErr, IfOk, length};
 ghost use Rattle.metric.specs.declared.refusal.Refusal.TheVariants.{Memory};
-ghost use Rattle.envelope.specs.Rows.{AreRowAnswers, AreRowDistances};
+ghost use Rattle.envelope.specs.Rows.{AreRowValues};
 
 use column::{Batch, Columns};
-use envelope::{CellAnswer, Stack, distances_from, row_from};
+use envelope::{CellValue, Stack, values_from};
 use metric::{Metric, Refusal};
 use std::alloc::Global;
 
@@ -29,38 +29,18 @@ impl Phases {
         Ok(Phases { columns, stack })
     }
 
-    /// Fills a line with the answers of row `y`, which is the next row.
-    pub fn fill_line<M: Metric, A: CellAnswer>(&mut self, batch: &Batch<'_>, y: u16, line: &mut [A])
+    /// Fills a line with the values of row `y`, which is the next row.
+    pub fn fill_line<M: Metric, V: CellValue>(&mut self, batch: &Batch<'_>, y: u16, line: &mut [V])
         requires ready { IsNextLine batch.now self.old y }
         requires row { y < batch.now.y1 }
         requires line { length line.old ≡ batch.now.bitmap.now.width }
-        ensures line { AreRowAnswers A.told A.nothing M.distance batch.now.bitmap.now
+        ensures line { AreRowValues V.says V.unset M.distance batch.now.bitmap.now
             batch.now.edge y batch.now.bitmap.now.width line.new }
-        ensures ready { IsNextLine batch.now self.new (y + 1) }
-    {
-        self.columns.look(batch, y);
-        let framed = y + batch.edge.shift();
-        row_from::<M, A>(
-            &self.columns.entries,
-            framed,
-            batch.edge,
-            &mut self.stack,
-            line,
-        );
-    }
-
-    /// Fills a line with the distances alone of the cells of row `y`, which is the next row.
-    pub fn measure_line<M: Metric>(&mut self, batch: &Batch<'_>, y: u16, line: &mut [u32])
-        requires ready { IsNextLine batch.now self.old y }
-        requires row { y < batch.now.y1 }
-        requires line { length line.old ≡ batch.now.bitmap.now.width }
-        ensures line { AreRowDistances M.distance batch.now.bitmap.now batch.now.edge y
-            batch.now.bitmap.now.width line.new }
         ensures ready { IsNextLine batch.now self.new (y + 1) }
     {
         let Phases { columns, stack } = self;
         columns.look(batch, y);
         let edge = batch.edge;
-        distances_from::<M>(&columns.entries, y + edge.shift(), edge, stack, line);
+        values_from::<M, V>(&columns.entries, y + edge.shift(), edge, stack, line);
     }
 }

@@ -1,155 +1,128 @@
-//! The nearest obstacles of a range of rows in strips of equal height, each computed by a thread of
-//! its own into memory of its own.
+//! What is kept of a range of rows in strips of equal height, each computed by a thread of its own
+//! into memory of its own.
 
-ghost use Rattle.std.specs.Prelude.{◌≡◌, ◌+◌, ◌-◌, ◌<◌, ◌≤◌, All, IfErr, IfOk, None, Ok, map};
-ghost use Rattle.std.specs.Prelude.{vec_len};
-ghost use Rattle.field.specs.Bands.{IsWorkers};
-ghost use Rattle.field.specs.Compact.{AreStripsKept, IsStripKept};
-ghost use Rattle.field.specs.Distances.{AreStripsMeasured, IsStripMeasured};
-ghost use Rattle.field.specs.Obstacles.{AreStripAnswers, IsStripAnswer, strip_row};
+ghost use Rattle.std.specs.Prelude.{◌≡◌, ℕ, ◌+◌, ◌-◌, ◌/◌, ◌%◌, ◌<◌, ◌≤◌, All, IfErr, IfOk, Ok};
+ghost use Rattle.std.specs.Prelude.{length, map, slice_index_or, vec_len};
+ghost use Rattle.metric.specs.declared.edge.Edge.{Edge};
 ghost use Rattle.metric.specs.declared.refusal.Refusal.TheVariants.{Memory};
+ghost use Rattle.bits.specs.Cells.{Cells};
+ghost use Rattle.field.specs.Bands.{AreValues, IsWorkers};
+ghost use Rattle.field.specs.Strips.{AreStrips, AreStripsOf, HoldRows, IsStripOf, line_in};
+ghost use Rattle.field.specs.Strips.{strip_row};
 
-use crate::compact_rows::compact_distances;
-use crate::compact_strip::CompactStrip;
-use crate::distance_rows::distances;
-use crate::obstacle_cell::ObstacleCell;
-use crate::table::answers;
+use crate::table::values;
+use crate::workers::Workers;
 use column::Batch;
+use envelope::CellValue;
 use metric::{Gate, Metric, Refusal};
 use std::alloc::Global;
 use std::thread::{Threads, map_indices};
 
-/// The rows of a batch in strips of equal height; the last one may have fewer rows, or none.
-#[derive(Drop)]
-pub struct Strips<'a> {
-    pub batch: &'a Batch<'a>,
+/// What is kept of the rows of one strip.
+pub trait Strip: Drop + Send + Sized {
+    /// This is kept of rows `from` to `to - 1` of a map with its edge, by a metric's distance.
+    ghost holds: { (ℕ → ℕ → ℕ) → Cells → Edge → ℕ → ℕ → Self → Type 0 };
+
+    /// What is kept of the rows of a batch. Fails only when out of memory.
+    fn of<M: Metric>(alloc: Global, batch: &Batch<'_>) -> Result<Self, Refusal>
+        ensures rows { IfOk result (holds M.distance batch.now.bitmap.now batch.now.edge
+            batch.now.y0 batch.now.y1) }
+        ensures memory { IfErr result (λ refusal. refusal ≡ Memory) };
+}
+
+/// The values of all cells.
+impl<V: CellValue + Send> Strip for Vec<V> {
+    ghost holds = { λ distance cells edge from to strip.
+        AreValues V.says V.unset distance cells edge from to strip.items };
+
+    fn of<M: Metric>(alloc: Global, batch: &Batch<'_>) -> Result<Self, Refusal> {
+        values::<M, V>(alloc, batch)
+    }
+}
+
+/// What is kept of rows `y0` to `y1 - 1` of this width.
+#[derive(Debug, Drop)]
+pub struct Strips<S> {
+    pub width: u16,
+    pub y0: u16,
+    pub y1: u16,
+    /// The rows of a strip; the last strips may have fewer, or none.
     pub height: u16,
-    ghost some: { 1 ≤ height },
+    pub all: Vec<S>,
 }
 
-/// Computes the first `count` strips, each in a thread of its own where one can be started. Fails
-/// only when out of memory.
-pub fn work_strips<M: Metric + Sync, G: Gate + Sync, R: Threads + Sync>(
-    rt: &R,
-    alloc: Global,
-    strips: &Strips<'_>,
-    count: u8,
-    gate: &G,
-) -> Result<Vec<Vec<ObstacleCell>>, Refusal>
-    requires count { IsWorkers count }
-    ensures count { IfOk result (λ cells. vec_len cells ≡ count) }
-    ensures each { IfOk result (λ cells. AreStripAnswers M.distance strips.now.batch.now
-        strips.now.height (map (λ strip. strip.items) cells.items)) }
-    ensures memory { IfErr result (λ refusal. refusal ≡ Memory) }
-{
-    let work = |strip: usize| -> Result<Vec<ObstacleCell>, Refusal>
-        requires { strip < 16 }
-        ensures rows { IfOk result (λ cells. IsStripAnswer M.distance strips.entry.now.batch.now
-            strips.entry.now.height strip cells.items) }
+impl<S: Strip> Strips<S> {
+    /// What is kept of the rows of a batch, one strip per worker, as `work_strips` has them. Fails
+    /// only when out of memory.
+    pub fn of<M: Metric + Sync, G: Gate + Sync, R: Threads + Sync>(
+        rt: &R,
+        alloc: Global,
+        batch: &Batch<'_>,
+        workers: Workers,
+        gate: &G,
+    ) -> Result<Self, Refusal>
+        ensures width { IfOk result (λ strips. strips.width ≡ batch.now.bitmap.now.width) }
+        ensures from { IfOk result (λ strips. strips.y0 ≡ batch.now.y0) }
+        ensures to { IfOk result (λ strips. strips.y1 ≡ batch.now.y1) }
+        ensures rows { IfOk result (λ strips. HoldRows S.holds M.distance batch.now strips.height
+            strips.all.items) }
         ensures memory { IfErr result (λ refusal. refusal ≡ Memory) }
-    { work_strip::<M, G>(alloc, strips, gate, strip as u8) };
-    let found = map_indices(rt, alloc, usize::from(count), &work)?;
-    gather(alloc, found)
+    {
+        let (y0, y1, count) = (batch.y0, batch.y1, workers.count);
+        let height = (y1 - y0).div_ceil(u16::from(count)).max(1);
+        let parts = Parts { batch, height };
+        let all = work_strips::<M, G, R, S>(rt, alloc, &parts, count, gate)?;
+        Ok(Strips {
+            width: batch.bitmap.width(),
+            y0,
+            y1,
+            height,
+            all,
+        })
+    }
 }
 
-/// As `work_strips`, the distances alone.
-pub fn measure_strips<M: Metric + Sync, G: Gate + Sync, R: Threads + Sync>(
-    rt: &R,
-    alloc: Global,
-    strips: &Strips<'_>,
-    count: u8,
-    gate: &G,
-) -> Result<Vec<Vec<u32>>, Refusal>
-    requires count { IsWorkers count }
-    ensures count { IfOk result (λ numbers. vec_len numbers ≡ count) }
-    ensures each { IfOk result (λ numbers. AreStripsMeasured M.distance strips.now.batch.now
-        strips.now.height (map (λ strip. strip.items) numbers.items)) }
-    ensures memory { IfErr result (λ refusal. refusal ≡ Memory) }
-{
-    let work = |strip: usize| -> Result<Vec<u32>, Refusal>
-        requires { strip < 16 }
-        ensures rows { IfOk result (λ numbers. IsStripMeasured M.distance
-            strips.entry.now.batch.now strips.entry.now.height strip numbers.items) }
-        ensures memory { IfErr result (λ refusal. refusal ≡ Memory) }
-    { measure_strip::<M, G>(alloc, strips, gate, strip as u8) };
-    let found = map_indices(rt, alloc, usize::from(count), &work)?;
-    gather(alloc, found)
+impl<S> Strips<S> {
+    /// The strip that has row `y`, and the row's number in it, counted from 0.
+    pub fn strip_of(&self, y: u16) -> (&S, usize)
+        requires from { self.now.y0 ≤ y }
+        requires some { 1 ≤ self.now.height }
+        requires inside { (y - self.now.y0) / self.now.height < length self.now.all.items }
+        ensures strip { result.0.now ≡ slice_index_or self.now.all.items
+            ((y - self.now.y0) / self.now.height) result.0.now }
+        ensures row { result.1 ≡ (y - self.now.y0) % self.now.height }
+    {
+        let row = y - self.y0;
+        let strip = &self.all[usize::from(row / self.height)];
+        (strip, usize::from(row % self.height))
+    }
 }
 
-/// As `measure_strips`, in two bytes per distance where they are short.
-pub fn compact_strips<M: Metric + Sync, G: Gate + Sync, R: Threads + Sync>(
-    rt: &R,
-    alloc: Global,
-    strips: &Strips<'_>,
-    count: u8,
-    gate: &G,
-) -> Result<Vec<CompactStrip>, Refusal>
-    requires count { IsWorkers count }
-    ensures count { IfOk result (λ kept. vec_len kept ≡ count) }
-    ensures each { IfOk result (λ kept. AreStripsKept M.distance strips.now.batch.now
-        strips.now.height kept.items) }
-    ensures memory { IfErr result (λ refusal. refusal ≡ Memory) }
-{
-    let work = |strip: usize| -> Result<CompactStrip, Refusal>
-        requires { strip < 16 }
-        ensures rows { IfOk result (λ kept. IsStripKept M.distance strips.entry.now.batch.now
-            strips.entry.now.height strip kept) }
-        ensures memory { IfErr result (λ refusal. refusal ≡ Memory) }
-    { compact_strip::<M, G>(alloc, strips, gate, strip as u8) };
-    let found = map_indices(rt, alloc, usize::from(count), &work)?;
-    gather(alloc, found)
+impl<V: Copy> Strips<Vec<V>> {
+    /// What is kept of the cells of row `y`.
+    pub fn line(&self, y: u16) -> &[V]
+        requires from { self.now.y0 ≤ y }
+        requires to { y < self.now.y1 }
+        requires strips { AreStrips self.now.width self.now.height (self.now.y1 - self.now.y0)
+            (map (λ strip. strip.items) self.now.all.items) }
+        ensures len { length result.now ≡ self.now.width }
+        ensures line { result.now ≡ line_in self.now.width self.now.height
+            (map (λ strip. strip.items) self.now.all.items) (y - self.now.y0) }
+    {
+        let width = usize::from(self.width);
+        let (strip, row) = self.strip_of(y);
+        &strip[row * width..row * width + width]
+    }
 }
 
-/// Enters the gate, and computes the distances of one strip, counted from 0.
-fn measure_strip<M: Metric, G: Gate>(
-    alloc: Global,
-    strips: &Strips<'_>,
-    gate: &G,
-    strip: u8,
-) -> Result<Vec<u32>, Refusal>
-    requires strip { strip < 16 }
-    ensures rows { IfOk result (λ numbers. IsStripMeasured M.distance strips.now.batch.now
-        strips.now.height strip numbers.items) }
-    ensures memory { IfErr result (λ refusal. refusal ≡ Memory) }
-{
-    gate.enter(strip + 1);
-    distances::<M>(alloc, &strips.rows_of(strip))
+/// The rows of a batch in strips of equal height; the last strips may have fewer, or none.
+#[derive(Drop)]
+struct Parts<'a> {
+    batch: &'a Batch<'a>,
+    height: u16,
 }
 
-/// Enters the gate, and computes the distances of one strip, counted from 0, in two bytes each
-/// where they are short.
-fn compact_strip<M: Metric, G: Gate>(
-    alloc: Global,
-    strips: &Strips<'_>,
-    gate: &G,
-    strip: u8,
-) -> Result<CompactStrip, Refusal>
-    requires strip { strip < 16 }
-    ensures rows { IfOk result (λ kept. IsStripKept M.distance strips.now.batch.now
-        strips.now.height strip kept) }
-    ensures memory { IfErr result (λ refusal. refusal ≡ Memory) }
-{
-    gate.enter(strip + 1);
-    compact_distances::<M>(alloc, &strips.rows_of(strip))
-}
-
-/// Enters the gate, and computes the rows of one strip, counted from 0.
-fn work_strip<M: Metric, G: Gate>(
-    alloc: Global,
-    strips: &Strips<'_>,
-    gate: &G,
-    strip: u8,
-) -> Result<Vec<ObstacleCell>, Refusal>
-    requires strip { strip < 16 }
-    ensures rows { IfOk result (λ cells. IsStripAnswer M.distance strips.now.batch.now
-        strips.now.height strip cells.items) }
-    ensures memory { IfErr result (λ refusal. refusal ≡ Memory) }
-{
-    gate.enter(strip + 1);
-    answers::<M, ObstacleCell>(alloc, &strips.rows_of(strip))
-}
-
-impl<'a> Strips<'a> {
+impl<'a> Parts<'a> {
     /// The rows of a strip, counted from 0.
     fn rows_of(&self, strip: u8) -> Batch<'a>
         requires { strip < 16 }
@@ -158,12 +131,8 @@ impl<'a> Strips<'a> {
         ensures from { result.y0 ≡ strip_row self.now.batch.now self.now.height strip }
         ensures to { result.y1 ≡ strip_row self.now.batch.now self.now.height (strip + 1) }
     {
-        Batch {
-            bitmap: self.batch.bitmap,
-            edge: self.batch.edge,
-            y0: self.first_row(strip),
-            y1: self.first_row(strip + 1),
-        }
+        let (y0, y1) = (self.first_row(strip), self.first_row(strip + 1));
+        Batch::new(self.batch.bitmap, self.batch.edge, y0, y1)
     }
 
     /// The first row of a strip, counted from 0; the row after the last one if the strip has none.
@@ -176,6 +145,47 @@ impl<'a> Strips<'a> {
         let above = rows.min(u32::from(strip) * u32::from(self.height));
         self.batch.y0 + above as u16
     }
+}
+
+/// Computes the first `count` strips, each in a thread of its own where one can be started. Fails
+/// only when out of memory.
+fn work_strips<M: Metric + Sync, G: Gate + Sync, R: Threads + Sync, S: Strip>(
+    rt: &R,
+    alloc: Global,
+    parts: &Parts<'_>,
+    count: u8,
+    gate: &G,
+) -> Result<Vec<S>, Refusal>
+    requires count { IsWorkers count }
+    ensures count { IfOk result (λ strips. vec_len strips ≡ count) }
+    ensures each { IfOk result (λ strips. AreStripsOf S.holds M.distance parts.now.batch.now
+        parts.now.height strips.items) }
+    ensures memory { IfErr result (λ refusal. refusal ≡ Memory) }
+{
+    let work = |strip: usize| -> Result<S, Refusal>
+        requires { strip < 16 }
+        ensures rows { IfOk result (IsStripOf S.holds M.distance parts.entry.now.batch.now
+            parts.entry.now.height strip) }
+        ensures memory { IfErr result (λ refusal. refusal ≡ Memory) }
+    { work_strip::<M, G, S>(alloc, parts, gate, strip as u8) };
+    let found = map_indices(rt, alloc, usize::from(count), &work)?;
+    gather(alloc, found)
+}
+
+/// Enters the gate, and computes one strip, counted from 0.
+fn work_strip<M: Metric, G: Gate, S: Strip>(
+    alloc: Global,
+    parts: &Parts<'_>,
+    gate: &G,
+    strip: u8,
+) -> Result<S, Refusal>
+    requires strip { strip < 16 }
+    ensures rows { IfOk result (IsStripOf S.holds M.distance parts.now.batch.now parts.now.height
+        strip) }
+    ensures memory { IfErr result (λ refusal. refusal ≡ Memory) }
+{
+    gate.enter(strip + 1);
+    S::of::<M>(alloc, &parts.rows_of(strip))
 }
 
 /// The results of all strips. Fails if one of them failed, or when out of memory.

@@ -1,14 +1,13 @@
-//! The nearest obstacles of all cells of a range of rows, in order.
+//! The nearest obstacles of all cells of a range of rows, in order, or what is kept of them.
 
-ghost use Rattle.std.specs.Prelude.{◌≡◌, [], IfErr, IfOk, OnOk};
+ghost use Rattle.std.specs.Prelude.{◌≡◌, IfErr, IfOk};
 ghost use Rattle.metric.specs.declared.refusal.Refusal.TheVariants.{Memory};
-ghost use Rattle.field.specs.Bands.{AreAnswers};
-ghost use Rattle.field.specs.Phases.{IsNextLine};
+ghost use Rattle.field.specs.Bands.{AreValues};
 ghost use Rattle.field.specs.Rows.{AreNears};
 
 use crate::phases::Phases;
 use column::Batch;
-use envelope::CellAnswer;
+use envelope::CellValue;
 use metric::{Metric, Near, Refusal};
 use std::alloc::Global;
 
@@ -22,42 +21,23 @@ pub fn rows<M: Metric>(alloc: Global, batch: &Batch<'_>) -> Result<Vec<Option<Ne
         batch.now.y0 batch.now.y1 nears.items) }
     ensures memory { IfErr result (λ refusal. refusal ≡ Memory) }
 {
-    answers::<M, Option<Near>>(alloc, batch)
+    values::<M, Option<Near>>(alloc, batch)
 }
 
-/// The answers of the cells of a batch. Fails only when out of memory.
-pub fn answers<M: Metric, A: CellAnswer>(
-    alloc: Global,
-    batch: &Batch<'_>,
-) -> Result<Vec<A>, Refusal>
-    ensures rows { IfOk result (λ answers. AreAnswers A.told A.nothing M.distance
-        batch.now.bitmap.now batch.now.edge batch.now.y0 batch.now.y1 answers.items) }
-    ensures memory { IfErr result (λ refusal. refusal ≡ Memory) }
-{
-    let rows = usize::from(batch.y1 - batch.y0);
-    let mut phases = Phases::of(alloc, batch)?;
-    let mut answers = Vec::with_capacity(alloc, rows * batch.width())?;
-    push_rows::<M, A>(batch, &mut phases, &mut answers)?;
-    Ok(answers)
-}
-
-/// Appends the rows of the batch in order, so that no memory is touched before its row comes.
-fn push_rows<M: Metric, A: CellAnswer>(
-    batch: &Batch<'_>,
-    phases: &mut Phases,
-    answers: &mut Vec<A>,
-) -> Result<(), Refusal>
-    requires phases { IsNextLine batch.now phases.old batch.now.y0 }
-    requires empty { answers.old.items ≡ [] }
-    ensures rows { OnOk result (AreAnswers A.told A.nothing M.distance batch.now.bitmap.now
-        batch.now.edge batch.now.y0 batch.now.y1 answers.new.items) }
+/// The values of the cells of a batch, in row-major order. No memory is touched before its row
+/// comes. Fails only when out of memory.
+pub fn values<M: Metric, V: CellValue>(alloc: Global, batch: &Batch<'_>) -> Result<Vec<V>, Refusal>
+    ensures rows { IfOk result (λ values. AreValues V.says V.unset M.distance batch.now.bitmap.now
+        batch.now.edge batch.now.y0 batch.now.y1 values.items) }
     ensures memory { IfErr result (λ refusal. refusal ≡ Memory) }
 {
     let width = batch.width();
+    let mut phases = Phases::of(alloc, batch)?;
+    let mut values = Vec::with_capacity(alloc, usize::from(batch.y1 - batch.y0) * width)?;
     'rows: for y in batch.y0..batch.y1 {
-        let start = answers.len();
-        answers.resize(start + width, A::none())?;
-        phases.fill_line::<M, A>(batch, y, &mut answers.as_mut_slice()[start..]);
+        let start = values.len();
+        values.resize(start + width, V::without())?;
+        phases.fill_line::<M, V>(batch, y, &mut values.as_mut_slice()[start..]);
     }
-    Ok(())
+    Ok(values)
 }

@@ -1,8 +1,7 @@
 -- The strip has the distances of the rows so far.
 use Rattle.std.proofs.Common.{◌≡◌, ◌-◌, length}
 use Rattle.std.specs.Vec.{vec_len}
-use Rattle.field.specs.Compact.{HasLines, numbers_in}
-use Rattle.field.specs.Distances.{AreAllMeasured}
+use Rattle.field.specs.Compact.{KeepsDistances}
 use Rattle.field.specs.Phases.{IsNextLine}
 use Rattle.field.proofs.compact_rows.push_rows.Given as goal
 
@@ -10,9 +9,7 @@ abbrev pub invariant-rows : goal.invariant-rows
 invariant-rows g l = record {
   width_is : length l.line ≡ l.batch.bitmap.now.width;
   halves : length l.halves ≡ l.batch.bitmap.now.width;
-  lines : HasLines l.batch.bitmap.now.width l.strip;
   count : vec_len l.strip.starts ≡ l.y - l.batch.y0;
-  measured : AreAllMeasured g.M.Metric.distance l.batch.bitmap.now l.batch.edge l.batch.y0 l.y
-      (numbers_in l.batch.bitmap.now.width l.strip);
+  kept : KeepsDistances g.M.Metric.distance l.batch.bitmap.now l.batch.edge l.batch.y0 l.y l.strip;
   phases : IsNextLine l.batch l.phases l.y;
 }

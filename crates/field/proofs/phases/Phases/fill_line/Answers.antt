@@ -6,8 +6,8 @@ use Rattle.bits.proofs.Framing.{framed_map, framed_size}
 use Rattle.envelope.proofs.Nears.{entries_of_row}
 use Rattle.field.proofs.phases.Phases.fill_line.Goals as goal
 
-pub row_from-requires-clause-entries : goal.row_from-requires-clause-entries
-row_from-requires-clause-entries g c =
+pub values_from-requires-clause-entries : goal.values_from-requires-clause-entries
+values_from-requires-clause-entries g c =
     let batch = c.args.batch.now in
     let cells = batch.bitmap.now in
     let high = (framed_size batch.edge cells).1 in
@@ -21,6 +21,6 @@ returns-clause-line g c =
     let batch = c.args.batch.now in
     let row_is : c.args.y + c.shift.result ≡ c.args.y + shift batch.edge =
     rw c.shift.ensures refl in
-    c.row_from.ensures.answers batch.bitmap.now c.args.y c.requires.ready.bitmap
+    c.values_from.ensures.values batch.bitmap.now c.args.y c.requires.ready.bitmap
     (omega (arith, c.requires.row, batch.within)) row_is
     (rw (c.deref.ensures.value, c.shift.ensures) c.look.ensures.entries)

@@ -1,10 +1,10 @@
 -- One more row is filled.
 use Rattle.std.proofs.Common.{◌≡◌, ◌-◌, ◌*◌, arith, refl, rules}
-use Rattle.metric.specs.Nearest.{IsNear}
 use Rattle.bits.specs.Edges.{IsBlocked}
 use Rattle.column.proofs.Places.{row_ends}
+use Rattle.envelope.specs.Rows.{SaysNear}
 use Rattle.field.proofs.BandLemmas.{rows_put}
-use Rattle.field.proofs.filling.fill_rows.Goals as goal
+use Rattle.field.proofs.filling.fill_values.Goals as goal
 
 pub rows-preserved : goal.rows-preserved
 rows-preserved g c =
@@ -17,15 +17,12 @@ rows-preserved g c =
     (omega (arith, c.rows-test.true)) in
     record {
       width_is = c.rows.invariant.width_is;
-      filled = record {
-        each = rows_put (λ x b answer. IsNear g.M.Metric.distance (IsBlocked cells batch.edge) x b
-            (g.A.CellAnswer.told g.M.Metric.distance x b answer)) g.A.CellAnswer.nothing cells.width
-            batch.y0 c.rows.y
-            (c.from.result * c.width-width.result) c.width-width.result c.rows.answers
-            c.fill_line.new.line (omega arith) start c.rows.invariant.width_is
-            (omega (arith, start, ends, c.rows.invariant.many, c.rows.invariant.width_is))
-            row.as_many c.rows.invariant.filled.each row.each;
-      };
+      filled = rows_put (SaysNear g.V.CellValue.says g.M.Metric.distance
+          (IsBlocked cells batch.edge)) g.V.CellValue.unset cells.width batch.y0 c.rows.y
+          (c.from.result * c.width-width.result) c.width-width.result c.rows.values
+          c.fill_line.new.line (omega arith) start c.rows.invariant.width_is
+          (omega (arith, start, ends, c.rows.invariant.many, c.rows.invariant.width_is))
+          row.as_many c.rows.invariant.filled row.each;
       many = search rules;
       phases = c.fill_line.ensures.ready;
     }
