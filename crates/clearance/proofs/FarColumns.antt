@@ -66,7 +66,7 @@ from_next_tile cells band tiles start tile tiled none x y obstacle here from =
 
 -- the obstacles of a band before a column lie in its last tile or before that
 pub before_last_tile : (cells : Cells) (band tiles end after : ℕ) → IsTiled cells band tiles
-    → ((k : ℕ) → after ≤ k → k ≤ end / 64 → bit_at tiles k ≡ 1 → ⊥)
+    → ((k : ℕ) → after ≤ k → k < end / 64 + 1 → bit_at tiles k ≡ 1 → ⊥)
     → (x y : ℕ) → IsObstacle cells x y → y / 64 ≡ band → x < end → x < 64 * after
 before_last_tile cells band tiles end after tiled none x y obstacle here before =
     grind (arith, nat_tests, common_steps)

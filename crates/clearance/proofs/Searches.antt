@@ -1,6 +1,6 @@
 -- The least distance of a rectangle's cells, as more rows are searched.
 use Rattle.std.proofs.Common.{◌≡◌, ℕ, ℤ, pos, negsuc, ◌+◌, ◌-◌, ◌^◌, ◌<◌, ◌≤◌, ◌⊎◌}
-use Rattle.std.proofs.Common.{min, max, inl, inr, List, length, get_or}
+use Rattle.std.proofs.Common.{min, max, inl, inr, List, length, get_or, None}
 use Rattle.std.proofs.Common.{refl, sym, subst, ◌∙◌, arith}
 use Rattle.std.specs.Int.{abs_diff}
 use Rattle.std.proofs.lemmas.Bool.{cases_lt}
@@ -12,7 +12,7 @@ use Rattle.metric.proofs.Growing.{of_grows, of_grows_with_dx}
 use Rattle.bits.specs.Cells.{Cells, IsBitmap, IsObstacle}
 use Rattle.bits.specs.Words.{IsRowOf}
 use Rattle.bits.proofs.CellsLemmas.{has-outside}
-use Rattle.clearance.specs.Rows.{IsMarked, IsFar, IsFirstMark, IsLastMark}
+use Rattle.clearance.specs.Rows.{IsMarked, IsFar, IsFirstMark, IsLastMark, IsLastNearer}
 use Rattle.clearance.specs.Parts.{IsBlackInRow, IsPart}
 use Rattle.clearance.specs.declared.part.Part.TheVariants.{Row}
 use Rattle.clearance.specs.Search.{IsInRect, IsLeastBelow, IsLeastInBits, column_gap, row_gap}
@@ -122,6 +122,17 @@ IsLoweredBy-far distance stays cells rect y gap before bitmap row low small = re
       let grown = of_grows_with_dx distance stays 0 (column_gap rect a) gap (omega arith)
       (omega arith) row in
       record { not_below = omega arith; is_limit = small };
+  reached = λ less. absurd (omega arith);
+}
+
+-- where no mark before the rectangle's first column is near, the least stays
+pub IsLoweredLeft-none : (distance : ℕ → ℕ → ℕ) (words : List ℕ) (rect : Rect) (gap before : ℕ)
+    → IsLastNearer distance words rect.x0 rect.x0 gap before None
+    → IsLoweredLeft distance words rect gap before before
+IsLoweredLeft-none distance words rect gap before none = record {
+  within = omega arith;
+  far = λ a left marked. let across : column_gap rect a ≡ rect.x0 - a = omega arith in
+      rw across (none a left marked);
   reached = λ less. absurd (omega arith);
 }
 

@@ -233,7 +233,7 @@ pub AreBandsLive-within : (distance : ℕ → ℕ → ℕ) → Grows distance �
     → (cells : Cells) (rect : Rect) (bands left rows limit : ℕ) → IsBitmap cells
     → IsBanded cells bands
     → ((b : ℕ) → b < 4096 → row_gap rect b < rows → IsMarkedRow bands b → IsMarkedRow left b)
-    → (rows < 4096 → IsFar (distance 0 rows) limit)
+    → (rows < 4097 → IsFar (distance 0 rows) limit)
     → AreBandsLive distance cells rect 0 limit left
 AreBandsLive-within distance grows stays cells rect bands left rows limit bitmap banded kept far =
     λ a b obstacle away.

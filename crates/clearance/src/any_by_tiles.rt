@@ -7,9 +7,7 @@ ghost use Rattle.bits.specs.Words.{words_across};
 ghost use Rattle.clearance.specs.Spots.{IsAnyBelow, IsInBand, IsInTile, IsNearSpot};
 
 use crate::bit::without_bit;
-use crate::by_tiles::{
-    bands_within, columns_apart, columns_outside, is_away, reach, rows_met, rows_within,
-};
+use crate::by_tiles::{bands_within, columns_apart, columns_outside, rows_met, rows_within};
 use crate::far_bands::rows_apart;
 use crate::far_columns::{are_tiles_far, joined_span};
 use crate::found::Found;
@@ -130,7 +128,7 @@ fn any_by_bands<M: Metric, R: Rows>(
     ensures rows { rows.new ≡ rows.old }
 {
     let marks = rows.bands();
-    let within = bands_within(marks, rect, reach::<M>(limit));
+    let within = bands_within(marks, rect, rows_within::<M>(0, limit));
     let bands = without_bit(within, known);
     let mut band = next_tile(bands, 0);
     'bands: while band < NO_TILE {

@@ -1,12 +1,12 @@
 //! Skips rows of a search, by the bands of 64 rows that may have an obstacle.
 
 ghost use Rattle.std.specs.Prelude.{◌≡◌, ℕ, ◌<◌, ◌≤◌, ◌+◌, true, false};
-ghost use Rattle.std.specs.Int.{bit_at};
 ghost use Rattle.clearance.specs.Bands.{IsMarkedRow, IsNextGap};
 ghost use Rattle.clearance.specs.Rows.{IsBlankRow};
 
-use crate::bit::{bits_from, bits_through, highest_bit, lowest_bit};
+use crate::bit::{bits_between, bits_from, lowest_bit};
 use crate::rows::Rows;
+use crate::tiles::after_last_tile;
 use metric::{BAND_ROWS, MOST_SIDE};
 
 /// More rows than any two rows of a map are apart.
@@ -43,15 +43,6 @@ pub fn are_blank_bands(bands: u64, top: u16, bottom: u16) -> bool
     ensures { result ≡ true → (b : ℕ) → top ≤ b → b ≤ bottom → IsMarkedRow bands b → ⊥ }
 {
     !has_band(bands, top) && bits_between(bands, top / BAND_ROWS, bottom / BAND_ROWS) == 0
-}
-
-/// Clears the bits of the word below `first` and above `last`.
-fn bits_between(word: u64, first: u16, last: u16) -> u64
-    requires first { first < 64 }
-    requires last { last < 64 }
-    ensures { (i : ℕ) → first ≤ i → i ≤ last → bit_at result i ≡ bit_at word i }
-{
-    bits_through(bits_from(word, first), last)
 }
 
 /// The first gap to search, at least `gap`: `gap` itself unless the rows from `top` to `bottom` are
@@ -108,12 +99,11 @@ fn next_above(bands: u64, top: u16, gap: u16) -> u16
     if top < gap {
         return NO_ROW;
     }
-    let earlier = bits_through(bands, (top - gap) / BAND_ROWS);
-    if earlier == 0 {
+    let after = after_last_tile(bands, (top - gap) / BAND_ROWS + 1);
+    if after == 0 {
         return NO_ROW;
     }
-    let last = BAND_ROWS * highest_bit(earlier) + (BAND_ROWS - 1);
-    gap.max(top.saturating_sub(last))
+    gap.max((top + 1).saturating_sub(BAND_ROWS * after))
 }
 
 /// As `marked_gap`, only below `bottom`.

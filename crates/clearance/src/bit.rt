@@ -41,22 +41,10 @@ pub fn bits_below(word: u64, place: u16) -> u64
     word & ((1 << place) - 1)
 }
 
-/// Clears the bits of the word above `place`.
-pub fn bits_through(word: u64, place: u16) -> u64
-    requires { place < 64 }
-    ensures kept { (i : ℕ) → i ≤ place → bit_at result i ≡ bit_at word i }
-    ensures cleared { (i : ℕ) → place < i → i < 64 → bit_at result i ≡ 0 }
-{
-    if place < 63 {
-        bits_below(word, place + 1)
-    } else {
-        word
-    }
-}
-
 /// Clears the bits from `place` on; none if `place` is 64 or more.
 pub fn bits_before(word: u64, place: u16) -> u64
-    ensures { (i : ℕ) → i < place → i < 64 → bit_at result i ≡ bit_at word i }
+    ensures kept { (i : ℕ) → i < place → i < 64 → bit_at result i ≡ bit_at word i }
+    ensures cleared { (i : ℕ) → place ≤ i → i < 64 → bit_at result i ≡ 0 }
 {
     if place < 64 {
         bits_below(word, place)
@@ -65,14 +53,13 @@ pub fn bits_before(word: u64, place: u16) -> u64
     }
 }
 
-/// One more than the index of the highest bit up to `last` that is 1; 0 if there is none.
-pub fn after_last_bit(word: u64, last: u16) -> u16
-    requires { last < 64 }
-    ensures few { result ≤ last + 1 }
-    ensures none { (i : ℕ) → result ≤ i → i ≤ last → bit_at word i ≡ 1 → ⊥ }
+/// Clears the bits of the word below `first` and above `last`.
+pub fn bits_between(word: u64, first: u16, last: u16) -> u64
+    requires first { first < 64 }
+    requires last { last < 64 }
+    ensures { (i : ℕ) → first ≤ i → i ≤ last → bit_at result i ≡ bit_at word i }
 {
-    let kept = bits_through(word, last);
-    if kept == 0 { 0 } else { highest_bit(kept) + 1 }
+    bits_before(bits_from(word, first), last + 1)
 }
 
 /// Clears the bit `place` of the word.

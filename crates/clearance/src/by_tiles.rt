@@ -11,7 +11,7 @@ ghost use Rattle.clearance.specs.Search.{column_gap, row_gap};
 ghost use Rattle.clearance.specs.Nearest.{limit_with};
 ghost use Rattle.clearance.specs.Spots.{IsInTile, IsInTileRows, IsInWord, IsSpotBelow, IsWithNext};
 
-use crate::bit::{bits_from, bits_through, highest_bit, lowest_bit};
+use crate::bit::{bits_between, highest_bit, lowest_bit};
 use crate::far_bands::rows_apart;
 use crate::far_columns::joined_span;
 use crate::found::Found;
@@ -22,7 +22,8 @@ use metric::{BAND_ROWS, LAST_FRAMED, MOST_SIDE, Metric, Rect, WORD_CELLS};
 
 /// The first of the obstacles in a tile of a band, seen from the rectangle, if its distance is
 /// below the limit. Searches the rows that have a cell as near, down from the rectangle's first row
-/// and then up from it: towards it, each row might have many obstacles nearer than all before.
+/// and then up from it: towards it, each row might have many obstacles nearer than all before. A
+/// tile whose cells are all too far isn't searched.
 pub fn first_in_tile<M: Metric, R: Rows>(
     rows: &mut R,
     band: u16,
@@ -37,10 +38,15 @@ pub fn first_in_tile<M: Metric, R: Rows>(
         result }
     ensures rows { rows.new ≡ rows.old }
 {
-    let reach = rows_within::<M>(columns_apart(rect, tile), limit);
-    let (from, end) = rows_met(rows.height(), band, rect, reach);
+    let few = usize::from(tile) < rows.across();
+    prove!(few);
+    let (near, away) = (columns_apart(rect, tile), rows_apart(rect, band));
+    if u64::from(M::of(near, away)) >= limit {
+        return None;
+    }
+    let (from, end) = rows_met(rows.height(), band, rect, rows_within::<M>(near, limit));
     let columns = columns_outside(rect, tile, joined_span(rows, tile, from, end));
-    if u64::from(M::of(columns, rows_apart(rect, band))) >= limit {
+    if u64::from(M::of(columns, away)) >= limit {
         return None;
     }
     let middle = from.max(rect.y0).min(end);
@@ -59,22 +65,12 @@ pub fn columns_outside(rect: Rect, tile: u16, columns: u64) -> u16
         → result ≤ column_gap rect a }
 {
     let (left, right) = parts_of(columns, tile, rect.x0);
-    columns_left(rect, tile, left).min(columns_right(rect, tile, right))
-}
-
-/// As `columns_outside`, to the left of the rectangle.
-fn columns_left(rect: Rect, tile: u16, columns: u64) -> u16
-    requires { tile < 64 }
-    ensures few { result ≤ MOST_SIDE }
-    ensures apart { (a : ℕ) → a / WORD_CELLS ≡ tile → bit_at columns (a % WORD_CELLS) ≡ 1
-        → result ≤ column_gap rect a }
-{
-    if columns == 0 {
-        MOST_SIDE
-    } else {
-        rect.x0
-            .saturating_sub(WORD_CELLS * tile + highest_bit(columns))
+    let to_right = columns_right(rect, tile, right);
+    if left == 0 {
+        return to_right;
     }
+    let last = WORD_CELLS * tile + highest_bit(left);
+    to_right.min(rect.x0.saturating_sub(last))
 }
 
 /// As `columns_outside`, to the right of the rectangle.
@@ -244,30 +240,6 @@ fn with_word<M: Metric>(
     merged(rect.y0, best, next)
 }
 
-/// As `first_in_tile`; the tile isn't searched if its cells are all too far.
-pub fn first_near_tile<M: Metric, R: Rows>(
-    rows: &mut R,
-    band: u16,
-    tile: u16,
-    rect: Rect,
-    limit: u64,
-) -> Option<Found>
-    requires bitmap { IsBitmap (R.cells rows.old) }
-    requires band { band < 64 }
-    requires tile { tile < words_across (R.cells rows.old).width }
-    ensures first { IsSpotBelow M.distance (IsInTile (R.cells rows.old) band tile) rect limit
-        result }
-    ensures rows { rows.new ≡ rows.old }
-{
-    let few = usize::from(tile) < rows.across();
-    prove!(few);
-    let away = rows_apart(rect, band);
-    if u64::from(M::of(columns_apart(rect, tile), away)) >= limit {
-        return None;
-    }
-    first_in_tile::<M, R>(rows, band, tile, rect, limit)
-}
-
 /// The least number of columns that a column of the tile lies outside the rectangle.
 pub fn columns_apart(rect: Rect, tile: u16) -> u16
     requires { tile < 64 }
@@ -280,29 +252,13 @@ pub fn columns_apart(rect: Rect, tile: u16) -> u16
     left.max(right)
 }
 
-/// A number of rows so large that rows as far away have no distance below the limit, or the most
-/// of all.
-pub fn reach<M: Metric>(limit: u64) -> u16
-    ensures few { result ≤ MOST_SIDE }
-    ensures far { result < MOST_SIDE → IsFar (M.distance 0 result) limit }
-{
-    let mut rows = BAND_ROWS;
-    'rows: while rows < MOST_SIDE {
-        if u64::from(M::of(0, rows)) >= limit {
-            return rows;
-        }
-        rows += BAND_ROWS;
-    }
-    MOST_SIDE
-}
-
 /// The bands without those of which each row is at least this many rows outside the rectangle.
 pub fn bands_within(bands: u64, rect: Rect, rows: u16) -> u64
-    requires { rows ≤ MOST_SIDE }
+    requires { rows ≤ LAST_FRAMED }
     ensures { (b : ℕ) → b < MOST_SIDE → row_gap rect b < rows → IsMarkedRow bands b
         → IsMarkedRow result b }
 {
     let first = rect.y0.saturating_sub(rows) / BAND_ROWS;
     let last = (rect.y1 - 1 + rows).min(MOST_SIDE - 1) / BAND_ROWS;
-    bits_through(bits_from(bands, first), last)
+    bits_between(bands, first, last)
 }

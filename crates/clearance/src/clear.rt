@@ -9,7 +9,7 @@ ghost use Rattle.clearance.specs.Search.{IsRectIn};
 ghost use Rattle.clearance.specs.Spots.{IsSpotBelow};
 
 use crate::band::{are_blank_bands, first_gap};
-use crate::bit::{bits_from, bits_through};
+use crate::bit::bits_between;
 use crate::rows::Rows;
 use metric::{MOST_SIDE, Metric, Rect, WORD_CELLS};
 
@@ -172,6 +172,9 @@ pub fn cut_word(word: u64, index: u16, left: u16, right: u16) -> u64
         → bit_at result (a % WORD_CELLS) ≡ bit_at word (a % WORD_CELLS) }
 {
     let first = WORD_CELLS * index;
-    let from = bits_from(word, left.saturating_sub(first));
-    bits_through(from, (right - first).min(WORD_CELLS - 1))
+    let (from, to) = (
+        left.saturating_sub(first),
+        (right - first).min(WORD_CELLS - 1),
+    );
+    bits_between(word, from, to)
 }

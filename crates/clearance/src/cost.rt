@@ -2,7 +2,7 @@
 
 ghost use Rattle.std.specs.Prelude.{◌<◌, ◌≤◌};
 
-use crate::bit::{bits_from, bits_through};
+use crate::bit::bits_between;
 use crate::by_tiles::bands_within;
 use crate::far_bands::rows_apart;
 use crate::rows::Rows;
@@ -134,7 +134,7 @@ pub fn count_marked<R: Rows>(rows: &R, band: u16, tiles: (u16, u16)) -> u32
     requires last { tiles.1 < 64 }
     ensures { result ≤ 64 }
 {
-    bits_through(bits_from(rows.tiles(band), tiles.0), tiles.1).count_ones()
+    bits_between(rows.tiles(band), tiles.0, tiles.1).count_ones()
 }
 
 /// The first and the last tile or band of cells that are at most this many before a first one, or

@@ -7,7 +7,7 @@ ghost use Rattle.bits.specs.Cells.{IsBitmap};
 ghost use Rattle.clearance.specs.Spots.{IsElsewhere, IsInTiles, IsSpotBelow};
 
 use crate::bit::without_bit;
-use crate::by_tiles::{bands_within, first_near_tile, reach};
+use crate::by_tiles::{bands_within, first_in_tile, rows_within};
 use crate::far_bands::rows_apart;
 use crate::far_columns::are_tiles_far;
 use crate::found::Found;
@@ -32,7 +32,7 @@ pub fn first_elsewhere<M: Metric, R: Rows>(
     ensures rows { rows.new ≡ rows.old }
 {
     let marks = rows.bands();
-    let bands = bands_within(marks, rect, reach::<M>(limit));
+    let bands = bands_within(marks, rect, rows_within::<M>(0, limit));
     let (mut band, mut best) = (next_tile(bands, 0), None);
     'bands: while band < NO_TILE {
         let tiles = tiles_elsewhere(rows, band, seed);
@@ -83,7 +83,7 @@ fn first_in_tiles<M: Metric, R: Rows>(
     let across = rows.across();
     let (mut tile, mut best) = (next_tile(tiles, 0), None);
     'tiles: while usize::from(tile) < across {
-        let next = first_near_tile::<M, R>(rows, band, tile, rect, limit_with(limit, best));
+        let next = first_in_tile::<M, R>(rows, band, tile, rect, limit_with(limit, best));
         best = merged(rect.y0, best, next);
         tile = next_tile(tiles, tile + 1);
     }

@@ -51,17 +51,9 @@ fn least_elsewhere<M: Metric, R: Rows>(rows: &mut R, rect: Rect, limit: u64, see
         return limit;
     }
     match first_elsewhere::<M, R>(rows, rect, limit, seed) {
-        Some(found) => distance_of(found),
+        Some(found) => u64::from(found.dist),
         None => limit,
     }
-}
-
-/// The distance of what is found, which is below every limit's end.
-fn distance_of(found: Found) -> u64
-    ensures is { result ≡ found.dist }
-    ensures few { result < NO_LIMIT }
-{
-    u64::from(found.dist)
 }
 
 /// The nearest obstacle of the cell; `None` if none is nearer than the limit. Looks at once whether

@@ -6,10 +6,11 @@ ghost use Rattle.clearance.specs.Bands.{IsBandFar, IsThinned};
 ghost use Rattle.clearance.specs.Search.{row_gap};
 
 use crate::band::STRETCH;
-use crate::bit::{after_last_bit, without_bit};
+use crate::bit::without_bit;
 use crate::far_columns::{are_columns_far, are_tiles_far};
 use crate::rows::Rows;
 use crate::search::{FAR_GAP, NO_LIMIT};
+use crate::soon::ends_soon;
 use crate::tiles::{NO_TILE, after_last_tile, are_few, next_tile};
 use metric::{BAND_ROWS, LAST_FRAMED, MOST_SIDE, Metric, Rect};
 
@@ -70,7 +71,7 @@ fn without_above<M: Metric, R: Rows>(
         return bands;
     }
     let mut left = bands;
-    let mut after = after_last_bit(bands, (rect.y0 - gap) / BAND_ROWS);
+    let mut after = after_last_tile(bands, (rect.y0 - gap) / BAND_ROWS + 1);
     'upwards: while 0 < after {
         let band = after - 1;
         if !is_band_far::<M, R>(rows, band, rect, gap, least) {
@@ -139,18 +140,10 @@ fn is_band_far<M: Metric, R: Rows>(
     if are_tiles_far::<M>(tiles, rect, away, least) {
         return true;
     }
-    if apart + STRETCH < gap || !are_few(tiles, across) || !goes_on::<M>(away, least) {
+    if apart + STRETCH < gap || !are_few(tiles, across) || ends_soon::<M>(away, FAR_GAP, least) {
         return false;
     }
     are_columns_far::<M, R>(rows, band, rect, away, least)
-}
-
-/// Whether a search that is `away` rows away may have enough rows left that it pays to look for a
-/// band's columns first.
-fn goes_on<M: Metric>(away: u16, least: u64) -> bool
-    requires { away ≤ LAST_FRAMED }
-{
-    u64::from(M::of(0, (away + FAR_GAP).min(LAST_FRAMED))) < least
 }
 
 /// The least number of rows that a row of the band lies outside the rectangle.

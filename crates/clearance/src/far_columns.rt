@@ -7,7 +7,7 @@ ghost use Rattle.bits.specs.Cells.{IsBitmap, IsObstacle};
 ghost use Rattle.bits.specs.Words.{words_across};
 ghost use Rattle.clearance.specs.Bands.{AreColumnsFar, AreTilesFar, IsBandFar, IsBandFarIn};
 
-use crate::bit::{after_last_bit, bits_before, bits_from, highest_bit, lowest_bit};
+use crate::bit::{bits_before, bits_from, highest_bit, lowest_bit};
 use crate::rows::Rows;
 use crate::tiles::{after_last_tile, next_tile};
 use metric::{BAND_ROWS, LAST_FRAMED, MOST_SIDE, Metric, Rect, WORD_CELLS};
@@ -88,7 +88,7 @@ fn is_left_far<M: Metric, R: Rows>(
     ensures rows { rows.new ≡ rows.old }
 {
     let tiles = rows.tiles(band);
-    let after = after_last_bit(tiles, rect.x0 / WORD_CELLS);
+    let after = after_last_tile(tiles, rect.x0 / WORD_CELLS + 1);
     if are_far_before::<M>((WORD_CELLS * after).min(rect.x0), rect, gap, least) {
         return true;
     }
@@ -153,7 +153,7 @@ fn after_column<R: Rows>(rows: &mut R, band: u16, tiles: u64, end: u16) -> u16
         → x < result }
     ensures rows { rows.new ≡ rows.old }
 {
-    let after = after_last_bit(tiles, end / WORD_CELLS);
+    let after = after_last_tile(tiles, end / WORD_CELLS + 1);
     if after == 0 || usize::from(after) > rows.across() {
         return (WORD_CELLS * after).min(end);
     }

@@ -126,41 +126,36 @@ fn with_row_below<M: Metric, R: Rows>(
 fn with_row<M: Metric, R: Rows>(
     rows: &mut R,
     cell: Cell,
-    row: u16,
+    y: u16,
     gap: u16,
     limit: u64,
     best: Option<Found>,
 ) -> Option<Found>
-    requires row { row < (R.cells rows.old).height }
-    requires gap { gap ≡ abs_diff cell.y row }
+    requires row { y < (R.cells rows.old).height }
+    requires gap { gap ≡ abs_diff cell.y y }
     requires sought { IsSought M.distance (R.cells rows.old) cell
-        (λ a b. IsRowFirst cell.y row b) limit best }
-    ensures sought { IsSought M.distance (R.cells rows.new) cell (IsRowUpTo cell.y row) limit
+        (λ a b. IsRowFirst cell.y y b) limit best }
+    ensures sought { IsSought M.distance (R.cells rows.new) cell (IsRowUpTo cell.y y) limit
         result }
     ensures rows { rows.new ≡ rows.old }
 {
     let far = gap >= FAR_GAP;
-    if is_passed(rows, row, far) {
+    if is_passed(rows, y, far) {
         return best;
     }
-    if far && has_few_tiles(rows, row) {
-        let searched = SearchedRow {
-            y: row,
-            by_tiles: true,
-        };
-        return with_searched::<M, R>(rows, cell, searched, gap, limit, best);
+    if far && has_few_tiles(rows, y) {
+        let row = SearchedRow { y, by_tiles: true };
+        return with_searched::<M, R>(rows, cell, row, gap, limit, best);
     }
-    if is_found_blank(rows, row, gap, far) {
+    if is_found_blank(rows, y, gap, far) {
         return best;
     }
-    let searched = SearchedRow {
-        y: row,
-        by_tiles: false,
-    };
-    with_searched::<M, R>(rows, cell, searched, gap, limit, best)
+    let row = SearchedRow { y, by_tiles: false };
+    with_searched::<M, R>(rows, cell, row, gap, limit, best)
 }
 
-/// As `with_row`, for a row that isn't skipped.
+/// As `with_row`, for a row that isn't skipped: the obstacles on the left come last, the nearest
+/// first, since one equally near and further left is better.
 #[inline(always)]
 fn with_searched<M: Metric, R: Rows>(
     rows: &mut R,
@@ -168,18 +163,35 @@ fn with_searched<M: Metric, R: Rows>(
     row: SearchedRow,
     gap: u16,
     limit: u64,
-    best: Option<Found>,
+    before: Option<Found>,
 ) -> Option<Found>
     requires row { row.y < (R.cells rows.old).height }
     requires gap { gap ≡ abs_diff cell.y row.y }
     requires sought { IsSought M.distance (R.cells rows.old) cell
-        (λ a b. IsRowFirst cell.y row.y b) limit best }
+        (λ a b. IsRowFirst cell.y row.y b) limit before }
     ensures sought { IsSought M.distance (R.cells rows.new) cell (IsRowUpTo cell.y row.y) limit
         result }
     ensures rows { rows.new ≡ rows.old }
 {
-    let right = with_right::<M, R>(rows, cell, row, gap, limit, best);
-    with_left::<M, R>(rows, cell, row, gap, limit, right)
+    let mut best = with_right::<M, R>(rows, cell, row, gap, limit, before);
+    let mut end = cell.x;
+    'left: while let Some(x) = last_nearer::<M, R>(
+        rows,
+        row,
+        end,
+        cell.x,
+        gap,
+        limit_with(limit, best),
+    ) {
+        let dist = M::of(cell.x - x, gap);
+        let next = Found {
+            dist,
+            cell: Cell { x, y: row.y },
+        };
+        best = Some(better(best, next));
+        end = x;
+    }
+    best
 }
 
 /// The best after a search of the row's obstacles from the cell's column on: the first of them is
@@ -212,45 +224,6 @@ fn with_right<M: Metric, R: Rows>(
         }
         None => best,
     }
-}
-
-/// The best after a search of the row's obstacles on the left, the nearest first: one equally near
-/// and further left is better.
-#[inline(always)]
-fn with_left<M: Metric, R: Rows>(
-    rows: &mut R,
-    cell: Cell,
-    row: SearchedRow,
-    gap: u16,
-    limit: u64,
-    right: Option<Found>,
-) -> Option<Found>
-    requires row { row.y < (R.cells rows.old).height }
-    requires gap { gap ≡ abs_diff cell.y row.y }
-    requires sought { IsSought M.distance (R.cells rows.old) cell
-        (IsSeenInRow cell.y row.y (λ a. cell.x ≤ a)) limit right }
-    ensures sought { IsSought M.distance (R.cells rows.new) cell (IsRowUpTo cell.y row.y) limit
-        result }
-    ensures rows { rows.new ≡ rows.old }
-{
-    let (mut best, mut end) = (right, cell.x);
-    'left: while let Some(x) = last_nearer::<M, R>(
-        rows,
-        row,
-        end,
-        cell.x,
-        gap,
-        limit_with(limit, best),
-    ) {
-        let dist = M::of(cell.x - x, gap);
-        let next = Found {
-            dist,
-            cell: Cell { x, y: row.y },
-        };
-        best = Some(better(best, next));
-        end = x;
-    }
-    best
 }
 
 /// The better one of the best so far, if there is one, and an obstacle of a row that isn't before

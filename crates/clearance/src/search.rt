@@ -3,7 +3,7 @@
 ghost use Rattle.std.specs.Prelude.{◌≡◌, ◌+◌, ◌-◌, ◌<◌, ◌≤◌, true};
 ghost use Rattle.bits.specs.Cells.{IsObstacle};
 ghost use Rattle.clearance.specs.Rows.{IsBlankRow, words_of_row};
-ghost use Rattle.clearance.specs.Search.{IsLeastInBits, IsLeastWithin, IsLoweredBy, IsLoweredLeft};
+ghost use Rattle.clearance.specs.Search.{IsLeastInBits, IsLeastWithin, IsLoweredBy};
 ghost use Rattle.clearance.specs.Search.{IsLoweredRight, IsRectIn};
 
 use crate::band::{are_blank_bands, first_gap, is_in_blank_band, next_gap};
@@ -117,7 +117,7 @@ pub fn lowered<M: Metric, R: Rows>(rows: &mut R, rect: Rect, y: u16, gap: u16, l
     ensures least { IsLoweredBy M.distance (IsObstacle (R.cells rows.old)) rect y gap least result }
     ensures rows { rows.new ≡ rows.old }
 {
-    let far = is_far::<M>(least);
+    let far = u64::from(M::of(0, FAR_GAP)) < least;
     if is_passed(rows, y, far) {
         return least;
     }
@@ -130,13 +130,6 @@ pub fn lowered<M: Metric, R: Rows>(rows: &mut R, rect: Rect, y: u16, gap: u16, l
     }
     let row = SearchedRow { y, by_tiles: false };
     lowered_by::<M, R>(rows, rect, row, gap, least)
-}
-
-/// Whether an obstacle below the limit may be so far away that blank tiles are skipped, and words
-/// aren't searched one by one.
-#[inline(always)]
-fn is_far<M: Metric>(limit: u64) -> bool {
-    u64::from(M::of(0, FAR_GAP)) < limit
 }
 
 /// The least so far, or a lesser distance to an obstacle in the row, this many rows away.
@@ -156,7 +149,10 @@ fn lowered_by<M: Metric, R: Rows>(
     ensures rows { rows.new ≡ rows.old }
 {
     let right = lowered_right::<M, R>(rows, rect, row, gap, least);
-    lowered_left::<M, R>(rows, rect, row, gap, right)
+    match last_nearer::<M, R>(rows, row, rect.x0, rect.x0, gap, right) {
+        Some(column) => u64::from(M::of(rect.x0 - column, gap)),
+        None => right,
+    }
 }
 
 /// Whether row `y` is known to be free. Asked only if an obstacle may be far away.
@@ -199,28 +195,6 @@ fn lowered_right<M: Metric, R: Rows>(
     let last = rect.x1 - 1;
     match next_nearer::<M, R>(rows, row, rect.x0, last, gap, least) {
         Some(column) => u64::from(M::of(column.saturating_sub(last), gap)),
-        None => least,
-    }
-}
-
-/// The least so far, or a lesser distance to an obstacle of the row to the left of the rectangle.
-#[inline(always)]
-fn lowered_left<M: Metric, R: Rows>(
-    rows: &mut R,
-    rect: Rect,
-    row: SearchedRow,
-    gap: u16,
-    least: u64,
-) -> u64
-    requires rect { IsRectIn (R.cells rows.old) rect }
-    requires row { row.y < (R.cells rows.old).height }
-    requires gap { gap ≤ LAST_FRAMED }
-    ensures least { IsLoweredLeft M.distance (words_of_row (R.cells rows.old) row.y) rect gap least
-        result }
-    ensures rows { rows.new ≡ rows.old }
-{
-    match last_nearer::<M, R>(rows, row, rect.x0, rect.x0, gap, least) {
-        Some(column) => u64::from(M::of(rect.x0 - column, gap)),
         None => least,
     }
 }

@@ -86,7 +86,12 @@ pub fn is_far<M: Metric, R: Rows>(rows: &mut R, rect: Rect, limit: u64) -> bool
     requires rect { IsRectIn (R.cells rows.old) rect }
     ensures rows { rows.new ≡ rows.old }
 {
-    !is_near::<M, R>(rows, rect, limit) && looks_far::<M, R>(rows, rect, limit)
+    if is_near::<M, R>(rows, rect, limit) {
+        return false;
+    }
+    let gap = gap_to_marks(rows, rect);
+    seems_far::<M, R>(rows, rect, gap, limit)
+        && does_pay_within::<M, R>(rows, rect, gap, limit, NO_TILE)
 }
 
 /// Whether the map has a single band or no obstacle, those below the limit are near, or the tile of
@@ -119,16 +124,6 @@ fn seed_beyond<M: Metric, R: Rows>(rows: &mut R, rect: Rect, limit: u64) -> Seed
     let near = limit_with(limit, seed.best);
     let pays = near <= 1 || does_pay_within::<M, R>(rows, rect, gap, near, seed.band);
     Seed { pays, ..seed }
-}
-
-/// As `is_far`, where `is_near` doesn't hold.
-fn looks_far<M: Metric, R: Rows>(rows: &mut R, rect: Rect, limit: u64) -> bool
-    requires rect { IsRectIn (R.cells rows.old) rect }
-    ensures rows { rows.new ≡ rows.old }
-{
-    let gap = gap_to_marks(rows, rect);
-    seems_far::<M, R>(rows, rect, gap, limit)
-        && does_pay_within::<M, R>(rows, rect, gap, limit, NO_TILE)
 }
 
 /// Whether a search by tiles for obstacles below the limit costs less than one by rows, whose first

@@ -3,7 +3,7 @@
 ghost use Rattle.std.specs.Prelude.{◌≡◌, ◌+◌, ◌/◌, ◌-◌, ◌<◌, ◌≤◌, true};
 ghost use Rattle.clearance.specs.Search.{IsRectIn};
 
-use crate::bit::{bits_from, bits_through};
+use crate::bit::bits_between;
 use crate::clear::cut_word;
 use crate::cost::{can_pay, count_marked, places_near};
 use crate::far_columns::joined_span;
@@ -27,7 +27,7 @@ pub fn seems_far<M: Metric, R: Rows>(rows: &mut R, rect: Rect, gap: u16, limit: 
     requires gap { gap ≤ MOST_SIDE }
     ensures rows { rows.new ≡ rows.old }
 {
-    let few = if is_wide(rect) || is_tall(rect) {
+    let few = if rect.x1 - rect.x0 > FEW_COLUMNS || is_tall(rect) {
         SOON_ROWS
     } else {
         BAND_ROWS
@@ -50,7 +50,7 @@ pub fn seems_far<M: Metric, R: Rows>(rows: &mut R, rect: Rect, gap: u16, limit: 
 /// Whether a search by rows that is this far away, in rows, has at most this many left.
 #[inline(always)]
 pub fn ends_soon<M: Metric>(gap: u16, rows: u16, limit: u64) -> bool
-    requires gap { gap ≤ MOST_SIDE }
+    requires gap { gap ≤ LAST_FRAMED }
     requires rows { rows ≤ 64 }
 {
     u64::from(M::of(0, (gap + rows).min(LAST_FRAMED))) >= limit
@@ -62,21 +62,6 @@ pub const SOON_ROWS: u16 = 8;
 /// A rectangle with more columns is wide.
 const FEW_COLUMNS: u16 = 256;
 
-/// Whether a row of the rectangle takes many words.
-#[inline(always)]
-fn is_wide(rect: Rect) -> bool {
-    rect.x1 - rect.x0 > FEW_COLUMNS
-}
-
-/// How many words the rectangle has in a row.
-#[inline(always)]
-fn words_met(rect: Rect) -> u16
-    ensures some { 1 ≤ result }
-    ensures few { result ≤ 64 }
-{
-    (rect.x1 - 1) / WORD_CELLS - rect.x0 / WORD_CELLS + 1
-}
-
 /// Whether a rectangle with many rows has an obstacle in one of the first that may have one: in
 /// those of a band if each has one word or two, and else in so few that they have 64 words at most.
 #[inline(always)]
@@ -87,29 +72,21 @@ fn is_met_inside<M: Metric, R: Rows>(rows: &mut R, rect: Rect) -> bool
     if !is_tall(rect) {
         return false;
     }
-    let top = rect.y0.max(first_marked_row(rows, rect.y0));
-    let words = words_met(rect);
-    if words <= 2 {
+    let marked = BAND_ROWS * next_tile(rows.bands(), rect.y0 / BAND_ROWS);
+    let top = rect.y0.max(marked);
+    let (first, last) = (rect.x0 / WORD_CELLS, (rect.x1 - 1) / WORD_CELLS);
+    if last - first < 2 {
         let end = rect.y1.min(top + (BAND_ROWS - top % BAND_ROWS));
-        return is_met_in_tile(rows, rect, rect.x0 / WORD_CELLS, top, end)
-            || is_met_in_tile(rows, rect, (rect.x1 - 1) / WORD_CELLS, top, end);
+        return is_met_in_tile(rows, rect, first, top, end)
+            || is_met_in_tile(rows, rect, last, top, end);
     }
+    let words = last - first + 1;
     'rows: for y in top..rect.y1.min(top + (64 / words).min(SOON_ROWS)) {
         if lowered::<M, R>(rows, rect, y, 0, 1) == 0 {
             return true;
         }
     }
     false
-}
-
-/// The first row, from that of the band of row `y` on, whose band may have an obstacle; a row past
-/// the map if there is none.
-#[inline(always)]
-fn first_marked_row<R: Rows>(rows: &R, y: u16) -> u16
-    requires { y < MOST_SIDE }
-    ensures { result ≤ MOST_SIDE }
-{
-    BAND_ROWS * next_tile(rows.bands(), y / BAND_ROWS)
 }
 
 /// Whether one of the rectangle's columns has an obstacle in a tile, in these rows of its band.
@@ -165,7 +142,7 @@ fn are_few_marked<R: Rows>(rows: &R, bands: (u16, u16), tiles: (u16, u16), most:
     requires last { tiles.1 < 64 }
     requires most { most ≤ 64 }
 {
-    let marked = bits_through(bits_from(rows.bands(), bands.0), bands.1);
+    let marked = bits_between(rows.bands(), bands.0, bands.1);
     let (mut count, mut band) = (0, next_tile(marked, 0));
     'bands: while band < NO_TILE {
         count += count_marked::<R>(rows, band, tiles);

@@ -4,7 +4,7 @@ ghost use Rattle.std.specs.Prelude.{◌≡◌, ℕ, ◌<◌, ◌≤◌, true, fa
 ghost use Rattle.std.specs.Int.{bit_at};
 ghost use Rattle.clearance.specs.Bands.{IsTiledRow};
 
-use crate::bit::{bits_below, bits_from, highest_bit, lowest_bit};
+use crate::bit::{bits_before, bits_from, highest_bit, lowest_bit};
 use crate::rows::Rows;
 use metric::{BAND_ROWS, WORD_CELLS};
 
@@ -84,14 +84,14 @@ pub fn next_tile(tiles: u64, from: u16) -> u16
 /// One more than the last tile before `end` that may have an obstacle; 0 if there is none.
 #[inline(always)]
 pub fn after_last_tile(tiles: u64, end: u16) -> u16
-    requires { end < 64 }
+    requires { end ≤ 64 }
     ensures few { result ≤ end }
     ensures none { (k : ℕ) → result ≤ k → k < end → bit_at tiles k ≡ 1 → ⊥ }
 {
     if tiles == u64::MAX {
         return end;
     }
-    let earlier = bits_below(tiles, end);
+    let earlier = bits_before(tiles, end);
     if earlier == 0 {
         0
     } else {

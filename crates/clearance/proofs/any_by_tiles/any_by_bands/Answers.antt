@@ -12,8 +12,8 @@ bands-init g c =
     let cells = g.R.Rows.cells c.args.rows.now in
     let within = AreBandsLive-within g.M.Metric.distance g.met.M.Metric.grows
     g.met.M.Metric.stays_nearer cells c.args.rect c.bands-marks.result
-    c.bands_within-within.result c.reach.result c.args.limit c.requires.bitmap c.bands-marks.ensures
-    c.bands_within-within.ensures c.reach.ensures.far in
+    c.bands_within-within.result c.rows_within.result c.args.limit c.requires.bitmap c.bands-marks.ensures
+    c.bands_within-within.ensures c.rows_within.ensures.far in
     let live = AreBandsLive-without g.M.Metric.distance cells c.args.rect c.args.limit
     c.bands_within-within.result c.without_bit-bands.result c.args.known c.requires.bitmap
     c.requires.far c.without_bit-bands.ensures.kept within in
@@ -37,8 +37,8 @@ bands-preserved g c =
     let cells = g.R.Rows.cells c.args.rows.now in
     let within = AreBandsLive-within g.M.Metric.distance g.met.M.Metric.grows
     g.met.M.Metric.stays_nearer cells c.args.rect c.bands-marks.result
-    c.bands_within-within.result c.reach.result c.args.limit c.requires.bitmap c.bands-marks.ensures
-    c.bands_within-within.ensures c.reach.ensures.far in
+    c.bands_within-within.result c.rows_within.result c.args.limit c.requires.bitmap c.bands-marks.ensures
+    c.bands_within-within.ensures c.rows_within.ensures.far in
     let live = AreBandsLive-without g.M.Metric.distance cells c.args.rect c.args.limit
     c.bands_within-within.result c.without_bit-bands.result c.args.known c.requires.bitmap
     c.requires.far c.without_bit-bands.ensures.kept within in

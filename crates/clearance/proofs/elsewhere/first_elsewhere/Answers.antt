@@ -11,8 +11,8 @@ bands-init g c =
     let cells = g.R.Rows.cells c.args.rows.now in
     let live = AreBandsLive-within g.M.Metric.distance g.met.M.Metric.grows
     g.met.M.Metric.stays_nearer cells c.args.rect c.bands-marks.result
-    c.bands_within-bands.result c.reach.result c.args.limit c.requires.bitmap c.bands-marks.ensures
-    c.bands_within-bands.ensures c.reach.ensures.far in
+    c.bands_within-bands.result c.rows_within.result c.args.limit c.requires.bitmap c.bands-marks.ensures
+    c.bands_within-bands.ensures c.rows_within.ensures.far in
     record {
       rows = refl;
       first = IsSpotBelow-map_none g.M.Metric.distance cells
@@ -27,8 +27,8 @@ bands-preserved g c =
     let cells = g.R.Rows.cells c.args.rows.now in
     let live = AreBandsLive-within g.M.Metric.distance g.met.M.Metric.grows
     g.met.M.Metric.stays_nearer cells c.args.rect c.bands-marks.result
-    c.bands_within-bands.result c.reach.result c.args.limit c.requires.bitmap c.bands-marks.ensures
-    c.bands_within-bands.ensures c.reach.ensures.far in
+    c.bands_within-bands.result c.rows_within.result c.args.limit c.requires.bitmap c.bands-marks.ensures
+    c.bands_within-bands.ensures c.rows_within.ensures.far in
     let from = c.next_tile-band-in-bands.ensures.from in
     let all = rw (c.bands.invariant.rows) at c.tiles_elsewhere-tiles.ensures.all in
     let only = rw (c.bands.invariant.rows) at c.tiles_elsewhere-tiles.ensures.only in

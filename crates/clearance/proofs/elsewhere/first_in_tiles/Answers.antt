@@ -24,12 +24,12 @@ tiles-preserved g c =
     let from = c.next_tile-tile-in-tiles.ensures.from in
     let few = c.across-across.ensures.few in
     let next = rw (c.tiles.invariant.rows, c.limit_with.ensures.is) at
-    c.first_near_tile-next.ensures.first in
+    c.first_in_tile-next.ensures.first in
     record {
-      rows = c.first_near_tile-next.ensures.rows ∙ c.tiles.invariant.rows;
+      rows = c.first_in_tile-next.ensures.rows ∙ c.tiles.invariant.rows;
       first = IsSpotBelow-tile_more g.M.Metric.distance (g.R.Rows.cells c.args.rows.now) c.args.rect
           c.args.band c.args.tiles c.tiles.tile c.next_tile-tile-in-tiles.result
-          c.args.limit c.tiles.best c.first_near_tile-next.result c.merged-best.result
+          c.args.limit c.tiles.best c.first_in_tile-next.result c.merged-best.result
           (omega arith) (c.tiles.invariant.here (omega arith))
           c.next_tile-tile-in-tiles.ensures.none c.tiles.invariant.first next
           c.merged-best.ensures;

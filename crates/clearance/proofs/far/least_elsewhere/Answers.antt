@@ -5,11 +5,9 @@ use Rattle.clearance.proofs.far.least_elsewhere.Goals as goal
 
 pub returns-in-Some-clause-least : goal.returns-in-Some-clause-least
 returns-in-Some-clause-least g c =
-    let is = c.distance_of.ensures.is in
-    let few = c.distance_of.ensures.few in
-    rw is (IsLeastInBits-some g.M.Metric.distance g.met.M.Metric.grows g.met.M.Metric.stays_nearer
-    (g.R.Rows.cells c.args.rows.now) c.args.rect c.args.limit c.in-Some.found
-    c.requires.rect.bitmap (omega arith)
+    rw c.from.ensures (IsLeastInBits-some g.M.Metric.distance g.met.M.Metric.grows
+    g.met.M.Metric.stays_nearer (g.R.Rows.cells c.args.rows.now) c.args.rect c.args.limit
+    c.in-Some.found c.requires.rect.bitmap (omega arith)
     (IsSpotBelow-elsewhere g.M.Metric.distance (g.R.Rows.cells c.args.rows.now) c.args.rect
     c.args.seed.band c.args.seed.tile c.args.limit (Some c.in-Some.found) c.requires.far
     c.in-Some.ensures.first))

@@ -17,5 +17,5 @@ upwards-preserved g c =
           c.args.gap c.args.least c.upwards.left c.without_bit-left.result
           (c.upwards.after - 1) bitmap (far c.if-not-is_band_far.false)
           c.without_bit-left.ensures.kept);
-      few = let few = c.after_last_tile-after.ensures.few in omega arith;
+      few = let few = c.after_last_tile-after-in-upwards.ensures.few in omega arith;
     }

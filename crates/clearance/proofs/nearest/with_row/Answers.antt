@@ -15,11 +15,11 @@ returns-then-is_passed-clause-sought g c =
       inside = sought.inside;
       within = sought.within;
       few = sought.few;
-      near = IsNearAmong-blank g.M.Metric.distance cells c.args.cell.x c.args.cell.y c.args.row
-          c.args.limit (words_of_row cells c.args.row) c.args.best sought.bitmap (IsRowOf-words
-          cells c.args.row)
-          (λ (k : ℕ) (within : k < length (words_of_row cells c.args.row)).
-          blank k (omega (arith, length-words_of_row cells c.args.row))) sought.near;
+      near = IsNearAmong-blank g.M.Metric.distance cells c.args.cell.x c.args.cell.y c.args.y
+          c.args.limit (words_of_row cells c.args.y) c.args.best sought.bitmap (IsRowOf-words
+          cells c.args.y)
+          (λ (k : ℕ) (within : k < length (words_of_row cells c.args.y)).
+          blank k (omega (arith, length-words_of_row cells c.args.y))) sought.near;
     }
 
 pub returns-then-is_found_blank-clause-sought : goal.returns-then-is_found_blank-clause-sought
@@ -32,9 +32,9 @@ returns-then-is_found_blank-clause-sought g c =
       inside = sought.inside;
       within = sought.within;
       few = sought.few;
-      near = IsNearAmong-blank g.M.Metric.distance cells c.args.cell.x c.args.cell.y c.args.row
-          c.args.limit (words_of_row cells c.args.row) c.args.best sought.bitmap (IsRowOf-words
-          cells c.args.row)
-          (λ (k : ℕ) (within : k < length (words_of_row cells c.args.row)).
-          blank k (omega (arith, length-words_of_row cells c.args.row))) sought.near;
+      near = IsNearAmong-blank g.M.Metric.distance cells c.args.cell.x c.args.cell.y c.args.y
+          c.args.limit (words_of_row cells c.args.y) c.args.best sought.bitmap (IsRowOf-words
+          cells c.args.y)
+          (λ (k : ℕ) (within : k < length (words_of_row cells c.args.y)).
+          blank k (omega (arith, length-words_of_row cells c.args.y))) sought.near;
     })

@@ -1,7 +1,7 @@
 -- The row's obstacles from this column on have been searched.
 use Rattle.std.proofs.Common.{◌≡◌, ◌≤◌}
 use Rattle.clearance.specs.Nearest.{IsSought, IsSeenInRow}
-use Rattle.clearance.proofs.nearest.with_left.Given as goal
+use Rattle.clearance.proofs.nearest.with_searched.Given as goal
 
 abbrev pub invariant-left : goal.invariant-left
 invariant-left g l = record {
