@@ -1,15 +1,15 @@
 //! A map in the caller's bits without marks of its tiles, read in place.
 
-ghost use Rattle.std.specs.Prelude.{◌≡◌, ℕ, ◌/◌, ◌≤◌, ◌<◌, length, slice_index, true};
+ghost use Rattle.std.specs.Prelude.{◌≡◌, ℕ, ◌/◌, ◌≤◌, ◌<◌, ◌==◌, length, slice_index, true};
 ghost use Rattle.std.specs.Prelude.{if◌then◌else◌};
 ghost use Rattle.std.specs.Int.{bit_at};
 ghost use Rattle.bits.specs.Words.{words_across};
 ghost use Rattle.clearance.specs.Rows.{IsBlankRow, words_of_row};
-ghost use Rattle.libclearmap.specs.Layouts.{IsShape, is_counted};
+ghost use Rattle.libclearmap.specs.Layouts.{IsShape};
 
 use crate::layout::ClearmapBits;
 use clearance::{Rows, is_blank};
-use metric::{BAND_ROWS, MOST_SIDE};
+use metric::BAND_ROWS;
 
 /// A map laid out as `map` in these words. Bits past the edge may be anything, and so may what is
 /// known of its tiles.
@@ -35,7 +35,7 @@ impl<'a> BitMap<'a> {
     {
         let word = self.words[usize::from(y) * self.map.stride + index];
         let own = low_bits(word, self.map.width as usize - 64 * index);
-        counted(self.map.blank_bands, y, own)
+        counted(self.map.blank_bands, usize::from(y / BAND_ROWS), own)
     }
 
     /// Whether no cell of row `y` is an obstacle. A row with a bit set past its edge doesn't count
@@ -96,15 +96,11 @@ fn low_bits(word: u64, count: usize) -> u64
     }
 }
 
-/// The word of row `y`, or 0 where the row's band is known to be blank.
+/// A word of the band or the tile of this index, or 0 where its mark says that it is blank.
 #[inline(always)]
-fn counted(blank_bands: u64, y: u16, word: u64) -> u64
-    requires { y < MOST_SIDE }
-    ensures { result ≡ (if is_counted blank_bands y then word else 0) }
+pub fn counted(marks: u64, index: usize, word: u64) -> u64
+    requires { index < 64 }
+    ensures { result ≡ (if bit_at marks index == 0 then word else 0) }
 {
-    if (blank_bands >> (y / BAND_ROWS)) & 1 == 0 {
-        word
-    } else {
-        0
-    }
+    if (marks >> index) & 1 == 0 { word } else { 0 }
 }

@@ -19,6 +19,7 @@ mod pack;
 mod queries;
 mod query_bits;
 mod query_bytes;
+mod search;
 mod setting;
 mod status;
 mod table_bits;

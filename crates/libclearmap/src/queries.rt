@@ -4,18 +4,17 @@
 ghost use Rattle.std.specs.Prelude.{◌≡◌, ◌≢◌, ◌<◌, negsuc, ◌≤ℤ◌, IfSome, IsSome, ◌↔◌};
 ghost use Rattle.metric.specs.Nearest.{IsNear};
 ghost use Rattle.bits.specs.Edges.{IsBlocked};
-ghost use Rattle.clearance.specs.Answers.{IsClearOf, IsLeastOf, cells_of_rect};
-ghost use Rattle.clearance.specs.Paths.{cells_of_path};
 ghost use Rattle.libclearmap.specs.Kept.{found_kept, near_kept};
+ghost use Rattle.libclearmap.specs.Searches.{IsFound, search_status};
 ghost use Rattle.libclearmap.specs.Settings.{distance_numbered, edge_numbered};
-ghost use Rattle.libclearmap.specs.Statuses.{cell_status, first_wrong, path_status, rect_status};
-ghost use Rattle.libclearmap.specs.Statuses.{setting_status};
+ghost use Rattle.libclearmap.specs.Statuses.{cell_status, first_wrong, setting_status};
 
 use crate::near::{ClearmapFound, ClearmapNear, found_of, kept_of};
-use crate::setting::{Corners, Setting, along_by, at_by, clear_by, edge_of, kind_of, least_by};
+use crate::search::{Search, find_by};
+use crate::setting::{Setting, at_by, edge_of, kind_of};
 use crate::status::{DONE, OUTSIDE, refusal_status, setting_status};
 use clearance::Rows;
-use metric::{Cell, Near, Rect};
+use metric::{Cell, Near};
 
 /// Writes the nearest obstacle of cell (`x`, `y`).
 pub fn at_in<R: Rows>(
@@ -56,56 +55,18 @@ pub fn at_in<R: Rows>(
     }
 }
 
-/// Writes the first cell with the least distance in a rectangle, with its nearest obstacle.
-pub fn rect_in<R: Rows>(
+/// Writes the cell that a search finds, with its nearest obstacle.
+pub fn find_in<R: Rows>(
     rows: &mut R,
     setting: Setting,
-    corners: Corners,
+    search: Search<'_>,
     found: &mut ClearmapFound,
 ) -> u32
-    ensures least { result ≡ DONE → IsLeastOf (distance_numbered setting.metric)
-        (IsBlocked (R.cells rows.old) (edge_numbered setting.edge))
-        (cells_of_rect corners.x0 corners.y0 corners.x1 corners.y1)
+    ensures found { result ≡ DONE → IsFound (distance_numbered setting.metric)
+        (IsBlocked (R.cells rows.old) (edge_numbered setting.edge)) search.entry
         (found_kept found.new) }
     ensures status { result ≡ first_wrong (setting_status setting.metric setting.edge)
-        (first_wrong (rect_status (R.cells rows.old) corners.x0 corners.y0 corners.x1 corners.y1)
-        setting.range) }
-    ensures refused { result ≢ DONE → found.new ≡ found.old }
-{
-    let status = setting_status(setting.metric, setting.edge);
-    if status != DONE {
-        return status;
-    }
-    let Corners { x0, y0, x1, y1 } = corners;
-    let (width, height) = (u32::from(rows.width()), u32::from(rows.height()));
-    if x1 <= x0 || width < x1 || y1 <= y0 || height < y1 {
-        return OUTSIDE;
-    }
-    let rect = Rect {
-        x0: x0 as u16,
-        y0: y0 as u16,
-        x1: x1 as u16,
-        y1: y1 as u16,
-    };
-    let (kind, edge) = (kind_of(setting.metric), edge_of(setting.edge));
-    match least_by::<R>(kind, rows, edge, rect) {
-        Ok(least) => write_found(setting.range, least, found),
-        Err(refusal) => refusal_status(refusal),
-    }
-}
-
-/// Writes the first cell with the least distance along a path, with its nearest obstacle.
-pub fn path_in<R: Rows>(
-    rows: &mut R,
-    setting: Setting,
-    points: &[Cell],
-    found: &mut ClearmapFound,
-) -> u32
-    ensures least { result ≡ DONE → IsLeastOf (distance_numbered setting.metric)
-        (IsBlocked (R.cells rows.old) (edge_numbered setting.edge)) (cells_of_path points.now)
-        (found_kept found.new) }
-    ensures status { result ≡ first_wrong (setting_status setting.metric setting.edge)
-        (first_wrong (path_status (R.cells rows.old) points.now) setting.range) }
+        (first_wrong (search_status (R.cells rows.old) search.entry) setting.range) }
     ensures refused { result ≢ DONE → found.new ≡ found.old }
 {
     let status = setting_status(setting.metric, setting.edge);
@@ -113,34 +74,7 @@ pub fn path_in<R: Rows>(
         return status;
     }
     let (kind, edge) = (kind_of(setting.metric), edge_of(setting.edge));
-    match along_by::<R>(kind, rows, edge, points) {
-        Ok(least) => write_found(setting.range, least, found),
-        Err(refusal) => refusal_status(refusal),
-    }
-}
-
-/// Writes the first cell along a path that is nearer than `d` to an obstacle, with its nearest
-/// obstacle.
-pub fn clear_in<R: Rows>(
-    rows: &mut R,
-    setting: Setting,
-    points: &[Cell],
-    d: u32,
-    found: &mut ClearmapFound,
-) -> u32
-    ensures clear { result ≡ DONE → IsClearOf (distance_numbered setting.metric)
-        (IsBlocked (R.cells rows.old) (edge_numbered setting.edge)) (cells_of_path points.now) d
-        (found_kept found.new) }
-    ensures status { result ≡ first_wrong (setting_status setting.metric setting.edge)
-        (first_wrong (path_status (R.cells rows.old) points.now) setting.range) }
-    ensures refused { result ≢ DONE → found.new ≡ found.old }
-{
-    let status = setting_status(setting.metric, setting.edge);
-    if status != DONE {
-        return status;
-    }
-    let (kind, edge) = (kind_of(setting.metric), edge_of(setting.edge));
-    match clear_by::<R>(kind, rows, edge, points, d) {
+    match find_by::<R>(kind, rows, edge, search) {
         Ok(first) => write_found(setting.range, first, found),
         Err(refusal) => refusal_status(refusal),
     }

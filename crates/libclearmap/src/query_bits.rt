@@ -7,6 +7,7 @@ ghost use Rattle.clearance.specs.Answers.{IsClearOf, IsLeastOf, cells_of_rect};
 ghost use Rattle.clearance.specs.Paths.{cells_of_path};
 ghost use Rattle.libclearmap.specs.Kept.{found_kept, near_kept};
 ghost use Rattle.libclearmap.specs.Layouts.{cells_of_bits};
+ghost use Rattle.libclearmap.specs.Searches.{IsFound, search_status};
 ghost use Rattle.libclearmap.specs.Settings.{distance_numbered, edge_numbered};
 ghost use Rattle.libclearmap.specs.Statuses.{bits_status, cell_status, first_wrong, path_status};
 ghost use Rattle.libclearmap.specs.Statuses.{rect_status, setting_status};
@@ -14,8 +15,9 @@ ghost use Rattle.libclearmap.specs.Statuses.{rect_status, setting_status};
 use crate::bit_rows::BitRows;
 use crate::layout::ClearmapBits;
 use crate::near::{ClearmapFound, ClearmapNear};
-use crate::queries::{at_in, clear_in, path_in, rect_in};
-use crate::setting::{Corners, Setting};
+use crate::queries::{at_in, find_in};
+use crate::search::{Corners, Search};
+use crate::setting::Setting;
 use crate::status::DONE;
 use metric::Cell;
 
@@ -38,11 +40,7 @@ pub extern "C" fn clearmap_bits_at(
         y)) }
     ensures refused { result ≢ DONE → near.new ≡ near.old }
 {
-    let setting = Setting {
-        metric,
-        edge,
-        range: DONE,
-    };
+    let setting = Setting::new(metric, edge, DONE);
     match BitRows::of(words, map) {
         Ok(BitRows::Plain(mut rows)) => at_in(&mut rows, setting, x, y, near),
         Ok(BitRows::Tiled(mut rows)) => at_in(&mut rows, setting, x, y, near),
@@ -73,16 +71,7 @@ pub extern "C" fn clearmap_bits_rect(
     ensures refused { result ≢ DONE → found.new ≡ found.old }
 {
     let corners = Corners { x0, y0, x1, y1 };
-    let setting = Setting {
-        metric,
-        edge,
-        range: DONE,
-    };
-    match BitRows::of(words, map) {
-        Ok(BitRows::Plain(mut rows)) => rect_in(&mut rows, setting, corners, found),
-        Ok(BitRows::Tiled(mut rows)) => rect_in(&mut rows, setting, corners, found),
-        Err(status) => status,
-    }
+    find_bits(words, map, metric, edge, Search::Least(corners), found)
 }
 
 /// Writes the first cell with the least distance along a path, with its nearest obstacle.
@@ -103,16 +92,7 @@ pub extern "C" fn clearmap_bits_path(
         points.now)) }
     ensures refused { result ≢ DONE → found.new ≡ found.old }
 {
-    let setting = Setting {
-        metric,
-        edge,
-        range: DONE,
-    };
-    match BitRows::of(words, map) {
-        Ok(BitRows::Plain(mut rows)) => path_in(&mut rows, setting, points, found),
-        Ok(BitRows::Tiled(mut rows)) => path_in(&mut rows, setting, points, found),
-        Err(status) => status,
-    }
+    find_bits(words, map, metric, edge, Search::Path(points), found)
 }
 
 /// Writes the first cell along a path that is nearer than `d` to an obstacle, with its nearest
@@ -135,14 +115,30 @@ pub extern "C" fn clearmap_bits_clear_of(
         points.now)) }
     ensures refused { result ≢ DONE → found.new ≡ found.old }
 {
-    let setting = Setting {
-        metric,
-        edge,
-        range: DONE,
-    };
+    find_bits(words, map, metric, edge, Search::ClearOf(points, d), found)
+}
+
+/// Writes the cell that a search finds, with its nearest obstacle.
+fn find_bits(
+    words: &[u64],
+    map: &ClearmapBits,
+    metric: u32,
+    edge: u32,
+    search: Search<'_>,
+    found: &mut ClearmapFound,
+) -> u32
+    ensures found { result ≡ DONE → IsFound (distance_numbered metric)
+        (IsBlocked (cells_of_bits map.now words.now) (edge_numbered edge)) search.entry
+        (found_kept found.new) }
+    ensures status { result ≡ first_wrong (bits_status map.now words.now)
+        (first_wrong (setting_status metric edge) (search_status (cells_of_bits map.now words.now)
+        search.entry)) }
+    ensures refused { result ≢ DONE → found.new ≡ found.old }
+{
+    let setting = Setting::new(metric, edge, DONE);
     match BitRows::of(words, map) {
-        Ok(BitRows::Plain(mut rows)) => clear_in(&mut rows, setting, points, d, found),
-        Ok(BitRows::Tiled(mut rows)) => clear_in(&mut rows, setting, points, d, found),
+        Ok(BitRows::Plain(mut rows)) => find_in(&mut rows, setting, search, found),
+        Ok(BitRows::Tiled(mut rows)) => find_in(&mut rows, setting, search, found),
         Err(status) => status,
     }
 }

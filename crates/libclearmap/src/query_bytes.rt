@@ -7,6 +7,7 @@ ghost use Rattle.clearance.specs.Answers.{IsClearOf, IsLeastOf, cells_of_rect};
 ghost use Rattle.clearance.specs.Paths.{cells_of_path};
 ghost use Rattle.libclearmap.specs.Kept.{found_kept, near_kept};
 ghost use Rattle.libclearmap.specs.Layouts.{cells_of_bytes};
+ghost use Rattle.libclearmap.specs.Searches.{IsFound, search_status};
 ghost use Rattle.libclearmap.specs.Settings.{distance_numbered, edge_numbered};
 ghost use Rattle.libclearmap.specs.Statuses.{bytes_status, cell_status, first_wrong, path_status};
 ghost use Rattle.libclearmap.specs.Statuses.{range_status, rect_status, setting_status};
@@ -14,8 +15,9 @@ ghost use Rattle.libclearmap.specs.Statuses.{range_status, rect_status, setting_
 use crate::byte_map::ByteMap;
 use crate::layout::ClearmapBytes;
 use crate::near::{ClearmapFound, ClearmapNear};
-use crate::queries::{at_in, clear_in, path_in, rect_in};
-use crate::setting::{Corners, Setting};
+use crate::queries::{at_in, find_in};
+use crate::search::{Corners, Search};
+use crate::setting::Setting;
 use crate::status::{DONE, range_status};
 use metric::Cell;
 
@@ -38,12 +40,7 @@ pub extern "C" fn clearmap_bytes_at(
         (cell_status (cells_of_bytes map.now bytes.now) x y) (range_status map.now))) }
     ensures refused { result ≢ DONE → near.new ≡ near.old }
 {
-    let range = range_status(map);
-    let setting = Setting {
-        metric,
-        edge,
-        range,
-    };
+    let setting = Setting::new(metric, edge, range_status(map));
     match ByteMap::of(bytes, map) {
         Ok(mut rows) => at_in::<ByteMap<'_>>(&mut rows, setting, x, y, near),
         Err(status) => status,
@@ -73,16 +70,7 @@ pub extern "C" fn clearmap_bytes_rect(
     ensures refused { result ≢ DONE → found.new ≡ found.old }
 {
     let corners = Corners { x0, y0, x1, y1 };
-    let range = range_status(map);
-    let setting = Setting {
-        metric,
-        edge,
-        range,
-    };
-    match ByteMap::of(bytes, map) {
-        Ok(mut rows) => { rect_in::<ByteMap<'_>>(&mut rows, setting, corners, found) }
-        Err(status) => status,
-    }
+    find_bytes(bytes, map, metric, edge, Search::Least(corners), found)
 }
 
 /// Writes the first cell with the least distance along a path, with its nearest obstacle.
@@ -103,16 +91,7 @@ pub extern "C" fn clearmap_bytes_path(
         (path_status (cells_of_bytes map.now bytes.now) points.now) (range_status map.now))) }
     ensures refused { result ≢ DONE → found.new ≡ found.old }
 {
-    let range = range_status(map);
-    let setting = Setting {
-        metric,
-        edge,
-        range,
-    };
-    match ByteMap::of(bytes, map) {
-        Ok(mut rows) => path_in::<ByteMap<'_>>(&mut rows, setting, points, found),
-        Err(status) => status,
-    }
+    find_bytes(bytes, map, metric, edge, Search::Path(points), found)
 }
 
 /// Writes the first cell along a path that is nearer than `d` to an obstacle, with its nearest
@@ -135,14 +114,29 @@ pub extern "C" fn clearmap_bytes_clear_of(
         (path_status (cells_of_bytes map.now bytes.now) points.now) (range_status map.now))) }
     ensures refused { result ≢ DONE → found.new ≡ found.old }
 {
-    let range = range_status(map);
-    let setting = Setting {
-        metric,
-        edge,
-        range,
-    };
+    find_bytes(bytes, map, metric, edge, Search::ClearOf(points, d), found)
+}
+
+/// Writes the cell that a search finds, with its nearest obstacle.
+fn find_bytes(
+    bytes: &[u8],
+    map: &ClearmapBytes,
+    metric: u32,
+    edge: u32,
+    search: Search<'_>,
+    found: &mut ClearmapFound,
+) -> u32
+    ensures found { result ≡ DONE → IsFound (distance_numbered metric)
+        (IsBlocked (cells_of_bytes map.now bytes.now) (edge_numbered edge)) search.entry
+        (found_kept found.new) }
+    ensures status { result ≡ first_wrong (bytes_status map.now bytes.now)
+        (first_wrong (setting_status metric edge) (first_wrong
+        (search_status (cells_of_bytes map.now bytes.now) search.entry) (range_status map.now))) }
+    ensures refused { result ≢ DONE → found.new ≡ found.old }
+{
+    let setting = Setting::new(metric, edge, range_status(map));
     match ByteMap::of(bytes, map) {
-        Ok(mut rows) => clear_in::<ByteMap<'_>>(&mut rows, setting, points, d, found),
+        Ok(mut rows) => find_in::<ByteMap<'_>>(&mut rows, setting, search, found),
         Err(status) => status,
     }
 }

@@ -1,17 +1,15 @@
 //! The metric and the edge that a call's numbers stand for, and the function that they select.
 
-ghost use Rattle.std.specs.Prelude.{◌≡◌, ◌<◌, IfOk, IfErr, OnOk, None};
+ghost use Rattle.std.specs.Prelude.{◌≡◌, ◌<◌, IfErr, IfOk};
 ghost use Rattle.metric.specs.Kind.{distance_of};
 ghost use Rattle.metric.specs.Nearest.{IsNear};
 ghost use Rattle.bits.specs.Cells.{IsInside};
 ghost use Rattle.bits.specs.Edges.{IsBlocked};
-ghost use Rattle.clearance.specs.Answers.{IsClearOf, IsLeastOf, IsRefusalFor, LiesIn};
-ghost use Rattle.clearance.specs.Answers.{cells_of_rect};
-ghost use Rattle.clearance.specs.Paths.{IsPathRefusal, cells_of_path, path_refusal};
+ghost use Rattle.clearance.specs.Answers.{IsRefusalFor};
 ghost use Rattle.libclearmap.specs.Settings.{edge_numbered, kind_numbered};
 
-use clearance::{Rows, along_rows, at_rows, clear_of_rows, least_in_rows};
-use metric::{Cell, Chess, City, Edge, Euclid2, MetricKind, Near, Rect, Refusal};
+use clearance::{Rows, at_rows};
+use metric::{Cell, Chess, City, Edge, Euclid2, MetricKind, Near, Refusal};
 
 /// The numbers by which a call chooses its metric and edge.
 #[derive(Clone, Copy)]
@@ -23,13 +21,21 @@ pub struct Setting {
     pub range: u32,
 }
 
-/// The columns `x0` to `x1 - 1` and the rows `y0` to `y1 - 1`, as a call names them.
-#[derive(Clone, Copy)]
-pub struct Corners {
-    pub x0: u32,
-    pub y0: u32,
-    pub x1: u32,
-    pub y1: u32,
+impl Setting {
+    /// The setting of a call with these numbers.
+    pub fn new(metric: u32, edge: u32, range: u32) -> Self
+        ensures { result ≡ record {
+          metric = metric;
+          edge = edge;
+          range = range;
+        } }
+    {
+        Setting {
+            metric,
+            edge,
+            range,
+        }
+    }
 }
 
 /// The metric of this number, 0 to 2.
@@ -69,63 +75,5 @@ pub fn at_by<R: Rows>(
         MetricKind::Euclid2 => at_rows::<Euclid2, R>(rows, edge, cell),
         MetricKind::City => at_rows::<City, R>(rows, edge, cell),
         MetricKind::Chess => at_rows::<Chess, R>(rows, edge, cell),
-    }
-}
-
-/// The least distance in a rectangle, by `least_in_rows` of `clearance`.
-pub fn least_by<R: Rows>(
-    kind: MetricKind,
-    rows: &mut R,
-    edge: Edge,
-    rect: Rect,
-) -> Result<Option<(Cell, Near)>, Refusal>
-    ensures inside { IfOk result (λ _. LiesIn (R.cells rows.old) rect) }
-    ensures least { IfOk result (IsLeastOf (distance_of kind) (IsBlocked (R.cells rows.old) edge)
-        (cells_of_rect rect.x0 rect.y0 rect.x1 rect.y1)) }
-    ensures refused { IfErr result (IsRefusalFor (LiesIn (R.cells rows.old) rect)) }
-{
-    match kind {
-        MetricKind::Euclid2 => least_in_rows::<Euclid2, R>(rows, edge, rect),
-        MetricKind::City => least_in_rows::<City, R>(rows, edge, rect),
-        MetricKind::Chess => least_in_rows::<Chess, R>(rows, edge, rect),
-    }
-}
-
-/// The least distance along a path, by `along_rows` of `clearance`.
-pub fn along_by<R: Rows>(
-    kind: MetricKind,
-    rows: &mut R,
-    edge: Edge,
-    points: &[Cell],
-) -> Result<Option<(Cell, Near)>, Refusal>
-    ensures accepted { IfOk result (λ _. path_refusal (R.cells rows.old) points.now ≡ None) }
-    ensures least { IfOk result (IsLeastOf (distance_of kind) (IsBlocked (R.cells rows.old) edge)
-        (cells_of_path points.now)) }
-    ensures refused { IfErr result (IsPathRefusal (R.cells rows.old) points.now) }
-{
-    match kind {
-        MetricKind::Euclid2 => along_rows::<Euclid2, R>(rows, edge, points),
-        MetricKind::City => along_rows::<City, R>(rows, edge, points),
-        MetricKind::Chess => along_rows::<Chess, R>(rows, edge, points),
-    }
-}
-
-/// The first cell along a path that is nearer than `d`, by `clear_of_rows` of `clearance`.
-pub fn clear_by<R: Rows>(
-    kind: MetricKind,
-    rows: &mut R,
-    edge: Edge,
-    points: &[Cell],
-    d: u32,
-) -> Result<Option<(Cell, Near)>, Refusal>
-    ensures accepted { IfOk result (λ _. path_refusal (R.cells rows.old) points.now ≡ None) }
-    ensures clear { IfOk result (IsClearOf (distance_of kind) (IsBlocked (R.cells rows.old) edge)
-        (cells_of_path points.now) d) }
-    ensures refused { IfErr result (IsPathRefusal (R.cells rows.old) points.now) }
-{
-    match kind {
-        MetricKind::Euclid2 => clear_of_rows::<Euclid2, R>(rows, edge, points, d),
-        MetricKind::City => clear_of_rows::<City, R>(rows, edge, points, d),
-        MetricKind::Chess => clear_of_rows::<Chess, R>(rows, edge, points, d),
     }
 }

@@ -40,11 +40,7 @@ pub extern "C" fn clearmap_bits_distances(
         result }
     ensures refused { result ≢ DONE → distances.new ≡ distances.old }
 {
-    let setting = Setting {
-        metric,
-        edge,
-        range: DONE,
-    };
+    let setting = Setting::new(metric, edge, DONE);
     match BitRows::of(words, map) {
         Ok(BitRows::Plain(mut rows)) => table_in(alloc, &mut rows, setting, y0..y1, distances),
         Ok(BitRows::Tiled(mut rows)) => table_in(alloc, &mut rows, setting, y0..y1, distances),
@@ -74,11 +70,7 @@ pub extern "C" fn clearmap_bits_nearest(
         result }
     ensures refused { result ≢ DONE → nears.new ≡ nears.old }
 {
-    let setting = Setting {
-        metric,
-        edge,
-        range: DONE,
-    };
+    let setting = Setting::new(metric, edge, DONE);
     match BitRows::of(words, map) {
         Ok(BitRows::Plain(mut rows)) => table_in(alloc, &mut rows, setting, y0..y1, nears),
         Ok(BitRows::Tiled(mut rows)) => table_in(alloc, &mut rows, setting, y0..y1, nears),

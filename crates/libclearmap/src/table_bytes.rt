@@ -41,12 +41,7 @@ pub extern "C" fn clearmap_bytes_distances(
         (length distances.old)) (range_status map.now))) result }
     ensures refused { result ≢ DONE → distances.new ≡ distances.old }
 {
-    let range = range_status(map);
-    let setting = Setting {
-        metric,
-        edge,
-        range,
-    };
+    let setting = Setting::new(metric, edge, range_status(map));
     match ByteMap::of(bytes, map) {
         Ok(mut rows) => table_in(alloc, &mut rows, setting, y0..y1, distances),
         Err(status) => status,
@@ -75,12 +70,7 @@ pub extern "C" fn clearmap_bytes_nearest(
         (length nears.old)) (range_status map.now))) result }
     ensures refused { result ≢ DONE → nears.new ≡ nears.old }
 {
-    let range = range_status(map);
-    let setting = Setting {
-        metric,
-        edge,
-        range,
-    };
+    let setting = Setting::new(metric, edge, range_status(map));
     match ByteMap::of(bytes, map) {
         Ok(mut rows) => table_in(alloc, &mut rows, setting, y0..y1, nears),
         Err(status) => status,

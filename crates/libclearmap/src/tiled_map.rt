@@ -1,11 +1,9 @@
 //! A map in the caller's bits with marks of its tiles, read in place.
 
-ghost use Rattle.std.specs.Prelude.{◌≡◌, ◌≢◌, ℕ, ◌+◌, ◌/◌, ◌≤◌, ◌<◌, ◌==◌, length, slice_index};
-ghost use Rattle.std.specs.Prelude.{if◌then◌else◌};
-ghost use Rattle.std.specs.Int.{bit_at};
+ghost use Rattle.std.specs.Prelude.{◌≡◌, ◌≢◌, ◌+◌, ◌≤◌, ◌<◌, length, slice_index};
 ghost use Rattle.libclearmap.specs.Layouts.{bands_down};
 
-use crate::bit_map::BitMap;
+use crate::bit_map::{BitMap, counted};
 use clearance::Rows;
 use metric::BAND_ROWS;
 
@@ -69,14 +67,4 @@ impl<'a> Rows for TiledMap<'a> {
             0
         }
     }
-}
-
-/// The word of this index in a row of a band with these marks, or 0 where its tile is known to be
-/// blank.
-#[inline(always)]
-fn counted(marks: u64, index: usize, word: u64) -> u64
-    requires { index < 64 }
-    ensures { result ≡ (if bit_at marks index == 0 then word else 0) }
-{
-    if (marks >> index) & 1 == 0 { word } else { 0 }
 }
