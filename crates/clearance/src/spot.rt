@@ -7,7 +7,7 @@ ghost use Rattle.clearance.specs.Spots.{AreLeftOf, AreParts, AreRightFrom, IsInW
 ghost use Rattle.clearance.specs.Nearest.{limit_with};
 ghost use Rattle.clearance.specs.Spots.{IsMerged, IsSpotBelow, IsSpotIf};
 
-use crate::bit::{bits_before, bits_below, bits_from, highest_bit, lowest_bit};
+use crate::bit::{bits_below, bits_from, highest_bit, lowest_bit};
 use crate::found::Found;
 use crate::frame::better_of;
 use crate::search::NO_LIMIT;
@@ -141,11 +141,22 @@ fn last_bit(word: u64, end: u16) -> Option<u16>
     requires { end ≤ 64 }
     ensures { IsLastBit word end result }
 {
-    let kept = bits_before(word, end);
-    if kept == 0 {
+    if end < WORD_CELLS {
+        top_bit(bits_below(word, end))
+    } else {
+        top_bit(word)
+    }
+}
+
+/// The highest bit of the word; none if it is 0.
+#[inline(always)]
+fn top_bit(word: u64) -> Option<u16>
+    ensures { IsLastBit word 64 result }
+{
+    if word == 0 {
         None
     } else {
-        Some(highest_bit(kept))
+        Some(highest_bit(word))
     }
 }
 
