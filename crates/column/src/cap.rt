@@ -28,22 +28,12 @@ pub fn mark_sides(edge: Edge, y: u16, row: &mut [u16])
 {
     match edge {
         Edge::Open => {}
-        Edge::Wall => mark_ends(y, row),
+        Edge::Wall => {
+            let last = row.len() - 1;
+            row[0] = y;
+            row[last] = y;
+        }
     }
-}
-
-/// Writes row `y` into the first and the last entry.
-fn mark_ends(y: u16, row: &mut [u16])
-    requires { 2 ≤ length row.old }
-    ensures len { length row.new ≡ length row.old }
-    ensures first { slice_index row.new 0 ≡ y }
-    ensures last { (x : ℕ) → x + 1 ≡ length row.old → slice_index row.new x ≡ y }
-    ensures others { (x : ℕ) → 0 < x → x + 1 < length row.old
-        → slice_index row.new x ≡ slice_index row.old x }
-{
-    let last = row.len() - 1;
-    row[0] = y;
-    row[last] = y;
 }
 
 /// Writes row `y` into each missing entry; no column is missing then.

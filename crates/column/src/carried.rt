@@ -101,12 +101,7 @@ impl Carried {
         let width = batch.width();
         let start = usize::from((y - batch.y0) / BAND) * width;
         let end = batch.y1.min(y + BAND);
-        let band = Batch {
-            bitmap: batch.bitmap,
-            edge: batch.edge,
-            y0: y,
-            y1: end,
-        };
+        let band = Batch::new(batch.bitmap, batch.edge, y, end);
         fill_band(
             &band,
             &self.bands[start..start + width],

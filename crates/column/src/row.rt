@@ -56,25 +56,13 @@ fn mark_part(bits: u16, y: u16, first: usize, row: &mut [u16])
         → slice_index row.new x ≡ slice_index row.old x }
 {
     if first + 8 <= row.len() {
-        mark_eight(bits, y, first, row);
-    } else if first < row.len() {
+        let entries = u16x8::from_slice(&row[first..]);
+        marked_lanes(bits, y, entries).copy_to_slice(&mut row[first..]);
+        return;
+    }
+    if first < row.len() {
         mark_last(bits, y, first, row);
     }
-}
-
-/// Writes row `y` into the entries of the obstacles of eight cells.
-#[inline(always)]
-fn mark_eight(bits: u16, y: u16, first: usize, row: &mut [u16])
-    requires { first + 8 ≤ length row.old }
-    ensures len { length row.new ≡ length row.old }
-    ensures marked { (i : ℕ) → i < 8
-        → slice_index row.new (first + i) ≡ marked (bit_at bits i == 1) y
-        (slice_index row.old (first + i)) }
-    ensures others { (x : ℕ) → (x < first) ⊎ (first + 8 ≤ x)
-        → slice_index row.new x ≡ slice_index row.old x }
-{
-    let entries = u16x8::from_slice(&row[first..]);
-    marked_lanes(bits, y, entries).copy_to_slice(&mut row[first..]);
 }
 
 /// Eight entries, with row `y` in those of obstacles.

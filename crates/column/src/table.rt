@@ -57,12 +57,7 @@ impl ColumnTable {
         ensures memory { IfErr result (λ refusal. refusal ≡ Memory) }
     {
         let (width, height) = (bitmap.width(), bitmap.height());
-        let batch = Batch {
-            bitmap,
-            edge,
-            y0: 0,
-            y1: height,
-        };
+        let batch = Batch::new(bitmap, edge, 0, height);
         let cells = usize::from(height) * usize::from(batch.columns());
         let mut columns = Columns::of(alloc, &batch)?;
         let mut entries = vec![in alloc; NONE; cells]?;

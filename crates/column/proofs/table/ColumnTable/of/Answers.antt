@@ -10,8 +10,10 @@ use Rattle.column.proofs.table.ColumnTable.of.Goals as goal
 pub invariant_of-result : goal.invariant_of-result
 invariant_of-result c =
     let cells = c.args.bitmap.now in
+    let batch = c.new-batch.ensures in
     let rows : HasRows cells c.args.edge cells.width cells.height c.fill_rows.new.entries =
-    rw c.height-height.ensures.height at c.fill_rows.ensures.rows in
+    rw (batch.bitmap, batch.edge, batch.to, c.height-height.ensures.height)
+    at c.fill_rows.ensures.rows in
     let many : length c.fill_rows.new.entries ≡ cells.height
     * (cells.width + 2 * shift c.args.edge) = search rules in
     let written : c.in_ok-entries.entries.len ≡ length c.fill_rows.new.entries = search rules in
@@ -25,8 +27,10 @@ invariant_of-result c =
 pub returns-clause-table : goal.returns-clause-table
 returns-clause-table c =
     let cells = c.args.bitmap.now in
+    let batch = c.new-batch.ensures in
     let rows : HasRows cells c.args.edge cells.width cells.height c.fill_rows.new.entries =
-    rw c.height-height.ensures.height at c.fill_rows.ensures.rows in
+    rw (batch.bitmap, batch.edge, batch.to, c.height-height.ensures.height)
+    at c.fill_rows.ensures.rows in
     let written : c.in_ok-entries.entries.len ≡ length c.fill_rows.new.entries = search rules in
     rw (take_at c.fill_rows.new.entries
     (drop (length c.fill_rows.new.entries) c.in_ok-entries.entries.items)
