@@ -6,21 +6,22 @@
 //! a 16-bit distance. The places before the first column and after the last one, and those of
 //! columns without an obstacle, have the part for no obstacle.
 
-ghost use Rattle.std.specs.Prelude.{◌≡◌, ℕ, negsuc, pos, ◌+◌, ◌-◌, ◌*◌, ◌≤ℤ◌, ◌<◌, ◌≤◌, ◌⊎◌};
+ghost use Rattle.std.specs.Prelude.{◌≡◌, ℕ, ◌+◌, ◌-◌, ◌*◌, ◌<◌, ◌≤◌, ◌⊎◌};
 ghost use Rattle.std.specs.Prelude.{length, slice_index, slice_index_or};
-ghost use Rattle.metric.specs.Edge.{shift, spot_of};
+ghost use Rattle.metric.specs.Edge.{shift};
 ghost use Rattle.envelope.specs.Beside.{AreColumnParts, AreTold};
 ghost use Rattle.envelope.specs.Columns.{AreEntries, AreSaid, IsSaid};
 ghost use Rattle.envelope.specs.Pieces.{IsLeftBound, IsRightBound};
 
 use crate::answer::CellValue;
 use crate::border::Border;
+use crate::columns::near_at;
 use crate::cover::Span;
 use crate::piece::{Piece, fill_piece};
 use crate::reaches::{Listed, REACHES, ReachSource, Worked, set_reaches};
 use crate::search::{Eight, FARTHEST, search};
 use column::NONE;
-use metric::{Edge, FRAMED_SIDE, LAST_FRAMED, Metric, Near};
+use metric::Metric;
 use std::simd::prelude::*;
 
 /// The place of the first column.
@@ -283,31 +284,7 @@ fn fill_lanes<M: Metric, A: CellValue, B: Border>(
     let first = usize::from(edge.shift());
     'cells: for lane in 0..count {
         let x = start + lane + first;
-        answers[start + lane] = A::with(near(entries, edge, x, best[lane], away[lane]));
-    }
-}
-
-/// The obstacle of the column at this offset from 128 columns to the left of the cell in column
-/// `x`.
-#[inline(always)]
-fn near(entries: &[u16], edge: Edge, x: usize, best: u16, away: u16) -> Near
-    requires few { length entries.now ≤ FRAMED_SIDE }
-    requires right { 128 ≤ x + away }
-    requires cell { x ≤ LAST_FRAMED }
-    requires inside { x + away - 128 < length entries.now }
-    requires row { slice_index entries.now (x + away - 128) ≤ LAST_FRAMED }
-    ensures near { result ≡ record {
-      dist = best;
-      cell = spot_of edge (x + away - 128) (slice_index entries.now (x + away - 128));
-    } }
-    ensures left { negsuc 0 ≤ℤ result.cell.x }
-    ensures column { result.cell.x ≤ℤ pos LAST_FRAMED }
-    ensures top { negsuc 0 ≤ℤ result.cell.y }
-    ensures below { result.cell.y ≤ℤ pos LAST_FRAMED }
-{
-    let column = x + usize::from(away) - 128;
-    Near {
-        dist: u32::from(best),
-        cell: edge.spot(column as u16, entries[column]),
+        let column = x + usize::from(away[lane]) - 128;
+        answers[start + lane] = A::with(near_at(entries, edge, column, u32::from(best[lane])));
     }
 }

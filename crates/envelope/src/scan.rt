@@ -6,18 +6,19 @@
 //! that order, and in the bits below it the column's number. The least word so far is that of the
 //! nearest column, and of the left one of two equally near.
 
-ghost use Rattle.std.specs.Prelude.{◌≡◌, ◌≢◌, ℕ, negsuc, pos, ◌+◌, ◌-◌, ◌*◌, ◌/◌, ◌%◌, ◌<◌, ◌≤◌};
-ghost use Rattle.std.specs.Prelude.{◌≤ℤ◌, length, min, slice_index, true};
+ghost use Rattle.std.specs.Prelude.{◌≡◌, ◌≢◌, ℕ, ◌+◌, ◌-◌, ◌*◌, ◌/◌, ◌%◌, ◌<◌, ◌≤◌, length, min};
+ghost use Rattle.std.specs.Prelude.{slice_index, true};
 ghost use Rattle.metric.specs.Distance.{IsSum};
-ghost use Rattle.metric.specs.Edge.{shift, spot_of};
+ghost use Rattle.metric.specs.Edge.{shift};
 ghost use Rattle.envelope.specs.Columns.{AreEntries, AreSaid};
 ghost use Rattle.envelope.specs.Scans.{AreLeftLeast, AreRightLeast, AreToldBy, HasColumn, IsLeast};
 ghost use Rattle.envelope.specs.Scans.{left_word, right_word, word_of};
 
 use crate::answer::CellValue;
 use crate::border::Border;
+use crate::columns::near_at;
 use column::NONE;
-use metric::{Edge, Metric, Near};
+use metric::Metric;
 
 /// The multiplier of the distance in a word, above all column numbers.
 const COLUMNS: u32 = 8192;
@@ -189,28 +190,7 @@ fn tell<M: Metric, A: CellValue, B: Border>(
     let before = usize::from(edge.shift());
     'cells: for x in 0..answers.len() {
         let word = words[x + before];
-        answers[x] = A::with(near_of(entries, edge, word));
-    }
-}
-
-/// The obstacle that a word means.
-#[inline(always)]
-fn near_of(entries: &[u16], edge: Edge, word: u32) -> Near
-    requires inside { word % 8192 < length entries.now }
-    requires few { length entries.now ≤ 4098 }
-    requires row { slice_index entries.now (word % 8192) ≤ 4097 }
-    ensures near { result ≡ record {
-      dist = word / 8192;
-      cell = spot_of edge (word % 8192) (slice_index entries.now (word % 8192));
-    } }
-    ensures left { negsuc 0 ≤ℤ result.cell.x }
-    ensures column { result.cell.x ≤ℤ pos 4097 }
-    ensures top { negsuc 0 ≤ℤ result.cell.y }
-    ensures below { result.cell.y ≤ℤ pos 4097 }
-{
-    let column = word % COLUMNS;
-    Near {
-        dist: word / COLUMNS,
-        cell: edge.spot(column as u16, entries[column as usize]),
+        let column = (word % COLUMNS) as usize;
+        answers[x] = A::with(near_at(entries, edge, column, word / COLUMNS));
     }
 }

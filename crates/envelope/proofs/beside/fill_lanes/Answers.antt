@@ -23,15 +23,18 @@ cells-preserved g c =
     let found = c.requires.told c.cells.lane (omega (arith, c.cells-test.true, c.requires.count))
     (omega (arith, inside, c.cells.invariant.width, c.requires.width)) in
     let near : IsNearColumn distance c.args.entries.now c.args.y edge (p + shift edge)
-    (Some c.near.result) = rw (← place, rw (where_is, c.EDGE-edge.ensures) at c.near.ensures.near)
-    found.near in
+    (Some c.near_at.result) = rw (
+      ← place,
+      rw (where_is, c.EDGE-edge.ensures, c.from.ensures, c.from-in-cells.ensures) at
+          c.near_at.ensures.near,
+    ) found.near in
     record {
       width = search rules;
       filled = λ x from below.
           set_more (λ x answer. IsSaid says distance c.args.entries.now c.args.y edge x answer)
           c.args.start p c.cells.answers c.with.result g.A.CellValue.unset
           inside c.cells.invariant.filled
-          (said_kept says distance c.args.entries.now edge c.args.y p c.near.result c.with.result
+          (said_kept says distance c.args.entries.now edge c.args.y p c.near_at.result c.with.result
           near c.requires.row c.with.ensures) x from (omega (arith, below));
       others = search rules;
     }
