@@ -37,11 +37,8 @@ impl Model for DistanceTable {
 }
 
 impl DistanceTable {
-    /// The distances of the cells of a batch, as `measure` has them, one strip per worker: all
-    /// strips have the same number of rows, except the last ones, which may have fewer or none. A
-    /// thread per strip enters the gate first, with the strip's number from 1, and then computes
-    /// the strip; where a thread can't be started, the calling thread does its work. Fails only
-    /// when out of memory.
+    /// The distances of the cells of a batch, as `measure` has them, one strip per worker, computed
+    /// as the strips of an `ObstacleTable` are. Fails only when out of memory.
     pub fn of<M: Metric + Sync, G: Gate + Sync, R: Threads + Sync>(
         rt: &R,
         alloc: Global,

@@ -52,8 +52,7 @@ pub struct Strips<S> {
 }
 
 impl<S: Strip> Strips<S> {
-    /// What is kept of the rows of a batch, one strip per worker, as `work_strips` has them. Fails
-    /// only when out of memory.
+    /// What is kept of the rows of a batch, one strip per worker. Fails only when out of memory.
     pub fn of<M: Metric + Sync, G: Gate + Sync, R: Threads + Sync>(
         rt: &R,
         alloc: Global,
