@@ -35,6 +35,17 @@ pub record Meets (rest : Option (List ℕ)) (before : List ℕ) (P : List ℕ �
   pub all : AreAll rest bytes
   pub holds : P (before ++ bytes)
 
+-- more bytes were read, or none, and nothing was taken
+abbrev pub ReadsOn : Option (List ℕ) → Window → Option (List ℕ) → Window → Type 0
+ReadsOn rest before left after =
+    Follows rest (unread before) left (unread after) (λ all more. all ≡ more)
+
+-- these cells are read from the front of all bytes that may still come
+abbrev pub MeetsCells : (List ℕ → Result (Cells × List ℕ) PbmFault) → Option (List ℕ) → Window
+    → Cells → Type 0
+MeetsCells reads rest window cells =
+    Meets rest (unread window) (λ all. (left : List ℕ) × (reads all ≡ Ok (cells, left)))
+
 -- the first bytes are taken, and whatever follows, this holds of all bytes and of those left
 pub record Stands (taken : ℕ) (bytes : List ℕ) (P : List ℕ → List ℕ → Type 0) : Type 0 where
   pub inside : taken ≤ length bytes
@@ -45,6 +56,12 @@ abbrev pub IsFaultOf : ImageStop → (PbmFault → Type 0) → Type 0
 IsFaultOf Failed P = Unit {0}
 IsFaultOf Memory P = Unit {0}
 IsFaultOf (Fault fault) P = P fault
+
+-- the fault is met where all bytes that may still come are read
+abbrev pub MeetsFault : {T : Type 0} → (List ℕ → Result T PbmFault) → Option (List ℕ) → Window
+    → ImageStop → Type 0
+MeetsFault reads rest window stop =
+    IsFaultOf stop (λ fault. Meets rest (unread window) (λ all. reads all ≡ Err fault))
 
 -- a failed read is counted, and nothing else
 abbrev pub CountsReads : {T : Type 0} → ℕ → Result T ImageStop → ℕ → Type 0

@@ -50,10 +50,7 @@ impl Header {
             (λ bitmap. bitmap ≡ cells_where self.width self.height (λ x y. false)) }
         ensures memory { IfErr result (λ fault. fault ≡ Memory) }
     {
-        match Bitmap::blank(alloc, self.width, self.height) {
-            Ok(bitmap) => Ok(bitmap),
-            Err(refusal) => Err(PbmFault::no_bitmap(refusal)),
-        }
+        Bitmap::blank(alloc, self.width, self.height).map_err(PbmFault::no_bitmap)
     }
 }
 

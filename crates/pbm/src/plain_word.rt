@@ -74,20 +74,13 @@ fn behind_space(bytes: &[u8]) -> &[u8]
     }
 }
 
-/// 1 for a black pixel, and 0 for a white one.
-fn bit_of(black: bool) -> u64
-    ensures { result ≡ cond black 1 0 }
-{
-    if black { 1 } else { 0 }
-}
-
 /// The next pixel as the lowest bit of a word.
 fn read_one(bytes: &[u8]) -> Result<(u16, u64, &[u8]), PbmFault>
     ensures { MatchResult result (λ found. AreSomeRead 1 bytes.now found.0 found.1 found.2.now)
         (λ fault. next_pixel bytes.now ≡ Err fault) }
 {
     let (black, rest) = read_next(bytes)?;
-    Ok((1, bit_of(black), rest))
+    Ok((1, u64::from(black), rest))
 }
 
 /// The number of pixels read next, from 1 to `most`, and their bits: the first is the lowest. Takes

@@ -61,23 +61,6 @@ fn push_lines(out: &mut Vec<u8>, bitmap: &Bitmap, y: u16, digits: &[u8])
     }
 }
 
-/// Appends the lines of row y, and uses `digits` as a scratch buffer. `out` has capacity for them.
-fn push_row(out: &mut Vec<u8>, bitmap: &Bitmap, y: u16, digits: &mut [u8])
-    requires inside { y < bitmap.now.height }
-    requires room { vec_len out.old + row_length bitmap.now.width ≤ vec_capacity out.old }
-    requires digits { length digits.old ≡ 4096 }
-    ensures text { out.new.items ≡ out.old.items
-        ++ flat_map (plain_digit bitmap.now)
-        (range_with_len (y * bitmap.now.width) bitmap.now.width) }
-    ensures length { vec_len out.new ≡ vec_len out.old + row_length bitmap.now.width }
-    ensures room { vec_capacity out.old ≤ vec_capacity out.new }
-    ensures digits { length digits.new ≡ 4096 }
-{
-    let width = usize::from(bitmap.width());
-    put_digits(bitmap.row_words(y), digits);
-    push_lines(out, bitmap, y, &digits[..width]);
-}
-
 /// Appends the lines of rows `from` to `to - 1`. The buffer has capacity for them.
 pub fn push_rows(out: &mut Vec<u8>, bitmap: &Bitmap, from: u16, to: u16)
     requires order { from ≤ to }
@@ -90,9 +73,11 @@ pub fn push_rows(out: &mut Vec<u8>, bitmap: &Bitmap, from: u16, to: u16)
     ensures length { vec_len out.new ≡ vec_len out.old + (to - from) * row_length bitmap.now.width }
     ensures room { vec_capacity out.old ≤ vec_capacity out.new }
 {
+    let width = usize::from(bitmap.width());
     let mut digits = [0u8; MOST_DIGITS];
     'rows: for y in from..to {
-        push_row(out, bitmap, y, &mut digits);
+        put_digits(bitmap.row_words(y), &mut digits);
+        push_lines(out, bitmap, y, &digits[..width]);
     }
 }
 

@@ -1,12 +1,12 @@
 //! Reads an image from a source, and packs it as its bytes come.
 
-ghost use Rattle.std.specs.Prelude.{◌≡◌, ◌*◌, List, [], Bool, ℕ, false, Ok, Err, IfOk, IfErr, OnOk};
+ghost use Rattle.std.specs.Prelude.{◌≡◌, ◌*◌, List, [], Bool, ℕ, false, Ok, IfOk, IfErr, OnOk};
 ghost use Rattle.metric.specs.Stream.{AreAll, CanFail};
 ghost use Rattle.bits.specs.Cells.{cells_where};
-ghost use Rattle.pbm.specs.Faults.{cells_of_pixels, ended, image, pixels, plain_raster, raster};
+ghost use Rattle.pbm.specs.Faults.{cells_of_pixels, image, pixels, plain_raster, raster};
 ghost use Rattle.pbm.specs.Faults.{raw_raster};
 ghost use Rattle.pbm.specs.Windows.{CountsReads, Follows, HasFault, HasImage, IsFaultOf, IsOpen};
-ghost use Rattle.pbm.specs.Windows.{IsPassed, IsStopped, Meets, unread};
+ghost use Rattle.pbm.specs.Windows.{IsPassed, IsStopped, Meets, MeetsCells, MeetsFault, unread};
 
 use crate::header::Form;
 use crate::raster::after_image;
@@ -32,9 +32,8 @@ fn take_pixels<R: Source>(
         (λ all left.
         (black : List Bool) × (pixels (bitmap.old.width * bitmap.old.height) all ≡ Ok (black, left))
         × (bitmap.new ≡ cells_of_pixels bitmap.old.width bitmap.old.height black))) }
-    ensures fault { IfErr result
-        (λ stop. IsFaultOf stop (λ fault. Meets (R.rest reader.old) (unread window.old)
-        (λ all. pixels (bitmap.old.width * bitmap.old.height) all ≡ Err fault))) }
+    ensures fault { IfErr result (MeetsFault (pixels (bitmap.old.width * bitmap.old.height))
+        (R.rest reader.old) window.old) }
     ensures counts { CountsReads (R.failed_reads reader.old) result (R.failed_reads reader.new) }
 {
     let width = bitmap.width();
@@ -49,24 +48,7 @@ fn take_pixels<R: Source>(
     Ok(())
 }
 
-/// Checks that a plain image may end where its pixels do.
-fn see_end<R: Source>(window: &mut Window, reader: &mut R) -> Result<(), ImageStop>
-    requires can_fail { CanFail (R.failed_reads reader.old) }
-    requires open { IsOpen window.old (R.rest reader.old) }
-    ensures open { IsOpen window.new (R.rest reader.new) }
-    ensures ended { OnOk result
-        (Meets (R.rest reader.old) (unread window.old) (λ all. ended all ≡ Ok all)) }
-    ensures fault { IfErr result
-        (λ stop. IsFaultOf stop (λ fault. Meets (R.rest reader.old) (unread window.old)
-        (λ all. ended all ≡ Err fault))) }
-    ensures counts { CountsReads (R.failed_reads reader.old) result (R.failed_reads reader.new) }
-{
-    window.fill(reader, 0)?;
-    after_image(window.unread())?;
-    Ok(())
-}
-
-/// Takes a plain raster into a blank bitmap.
+/// Takes a plain raster into a blank bitmap, and checks that the image may end where its pixels do.
 fn take_plain<R: Source>(
     window: &mut Window,
     reader: &mut R,
@@ -76,17 +58,16 @@ fn take_plain<R: Source>(
     requires open { IsOpen window.old (R.rest reader.old) }
     requires blank { bitmap.old ≡ cells_where bitmap.old.width bitmap.old.height (λ x y. false) }
     ensures open { IsOpen window.new (R.rest reader.new) }
-    ensures raster { OnOk result
-        (Meets (R.rest reader.old) (unread window.old)
-        (λ all. (left : List ℕ)
-        × (plain_raster bitmap.old.width bitmap.old.height all ≡ Ok (bitmap.new, left)))) }
-    ensures fault { IfErr result
-        (λ stop. IsFaultOf stop (λ fault. Meets (R.rest reader.old) (unread window.old)
-        (λ all. plain_raster bitmap.old.width bitmap.old.height all ≡ Err fault))) }
+    ensures raster { OnOk result (MeetsCells (plain_raster bitmap.old.width bitmap.old.height)
+        (R.rest reader.old) window.old bitmap.new) }
+    ensures fault { IfErr result (MeetsFault (plain_raster bitmap.old.width bitmap.old.height)
+        (R.rest reader.old) window.old) }
     ensures counts { CountsReads (R.failed_reads reader.old) result (R.failed_reads reader.new) }
 {
     take_pixels(window, reader, bitmap)?;
-    see_end(window, reader)
+    window.fill(reader, 0)?;
+    after_image(window.unread())?;
+    Ok(())
 }
 
 /// Takes a raw raster into a blank bitmap, row by row, and keeps what the source has after it.
@@ -99,13 +80,10 @@ fn take_raw<R: Source>(
     requires open { IsOpen window.old (R.rest reader.old) }
     requires blank { bitmap.old ≡ cells_where bitmap.old.width bitmap.old.height (λ x y. false) }
     ensures open { IsOpen window.new (R.rest reader.new) }
-    ensures raster { OnOk result
-        (Meets (R.rest reader.old) (unread window.old)
-        (λ all. (left : List ℕ)
-        × (raw_raster bitmap.old.width bitmap.old.height all ≡ Ok (bitmap.new, left)))) }
-    ensures fault { IfErr result
-        (λ stop. IsFaultOf stop (λ fault. Meets (R.rest reader.old) (unread window.old)
-        (λ all. raw_raster bitmap.old.width bitmap.old.height all ≡ Err fault))) }
+    ensures raster { OnOk result (MeetsCells (raw_raster bitmap.old.width bitmap.old.height)
+        (R.rest reader.old) window.old bitmap.new) }
+    ensures fault { IfErr result (MeetsFault (raw_raster bitmap.old.width bitmap.old.height)
+        (R.rest reader.old) window.old) }
     ensures counts { CountsReads (R.failed_reads reader.old) result (R.failed_reads reader.new) }
 {
     let height = bitmap.height();
@@ -130,13 +108,10 @@ fn take_raster<R: Source>(
     requires open { IsOpen window.old (R.rest reader.old) }
     requires blank { bitmap.old ≡ cells_where bitmap.old.width bitmap.old.height (λ x y. false) }
     ensures open { IsOpen window.new (R.rest reader.new) }
-    ensures raster { OnOk result
-        (Meets (R.rest reader.old) (unread window.old)
-        (λ all. (left : List ℕ)
-        × (raster form bitmap.old.width bitmap.old.height all ≡ Ok (bitmap.new, left)))) }
-    ensures fault { IfErr result
-        (λ stop. IsFaultOf stop (λ fault. Meets (R.rest reader.old) (unread window.old)
-        (λ all. raster form bitmap.old.width bitmap.old.height all ≡ Err fault))) }
+    ensures raster { OnOk result (MeetsCells (raster form bitmap.old.width bitmap.old.height)
+        (R.rest reader.old) window.old bitmap.new) }
+    ensures fault { IfErr result (MeetsFault (raster form bitmap.old.width bitmap.old.height)
+        (R.rest reader.old) window.old) }
     ensures counts { CountsReads (R.failed_reads reader.old) result (R.failed_reads reader.new) }
 {
     match form {
@@ -154,9 +129,7 @@ fn take_image<R: Source>(
     requires can_fail { CanFail (R.failed_reads reader.old) }
     requires open { IsOpen window.old (R.rest reader.old) }
     ensures open { IsOpen window.new (R.rest reader.new) }
-    ensures image { IfOk result
-        (λ cells. Meets (R.rest reader.old) (unread window.old)
-        (λ all. (left : List ℕ) × (image all ≡ Ok (cells, left)))) }
+    ensures image { IfOk result (MeetsCells image (R.rest reader.old) window.old) }
     ensures fault { IfErr result
         (λ stop. IsFaultOf stop (λ fault. Meets (R.rest reader.old) (unread window.old)
         (λ all. IsStopped all fault))) }

@@ -6,7 +6,8 @@ ghost use Rattle.pbm.specs.Faults.{header, pixels};
 ghost use Rattle.metric.specs.declared.fault.PbmFault.TheVariants.{Truncated};
 ghost use Rattle.pbm.specs.Plain.{AreBitsRead};
 ghost use Rattle.pbm.specs.Raw.{IsRowRead};
-ghost use Rattle.pbm.specs.Windows.{CountsReads, Follows, IsFaultOf, IsOpen, Meets, Stands, unread};
+ghost use Rattle.pbm.specs.Windows.{CountsReads, Follows, IsFaultOf, IsOpen, Meets, MeetsFault};
+ghost use Rattle.pbm.specs.Windows.{Stands, unread};
 
 use crate::header::{Header, read_header};
 use crate::plain_word::read_word;
@@ -57,9 +58,7 @@ impl Window {
             (λ found. Follows (R.rest reader.old) (unread self.old) (R.rest reader.new)
             (unread self.new)
             (λ all left. header all ≡ Ok (found.form, found.width, found.height, left))) }
-        ensures fault { IfErr result
-            (λ stop. IsFaultOf stop (λ fault. Meets (R.rest reader.old) (unread self.old)
-            (λ all. header all ≡ Err fault))) }
+        ensures fault { IfErr result (MeetsFault header (R.rest reader.old) self.old) }
         ensures counts { CountsReads (R.failed_reads reader.old) result
             (R.failed_reads reader.new) }
     {
@@ -84,9 +83,7 @@ impl Window {
         ensures word { IfOk result
             (λ word. Follows (R.rest reader.old) (unread self.old) (R.rest reader.new)
             (unread self.new) (λ all left. AreBitsRead count all word left)) }
-        ensures fault { IfErr result
-            (λ stop. IsFaultOf stop (λ fault. Meets (R.rest reader.old) (unread self.old)
-            (λ all. pixels count all ≡ Err fault))) }
+        ensures fault { IfErr result (MeetsFault (pixels count) (R.rest reader.old) self.old) }
         ensures counts { CountsReads (R.failed_reads reader.old) result
             (R.failed_reads reader.new) }
     {

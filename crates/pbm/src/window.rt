@@ -75,7 +75,7 @@ pub struct Window {
 
 impl Window {
     ghost use Rattle.metric.specs.Stream.{AreAll};
-    ghost use Rattle.pbm.specs.Windows.{CountsReads, Follows, IsFaultOf, IsOpen, unread};
+    ghost use Rattle.pbm.specs.Windows.{CountsReads, IsFaultOf, IsOpen, ReadsOn, unread};
 
     /// A window that has read nothing.
     pub fn new(alloc: Global) -> Self
@@ -116,8 +116,7 @@ impl Window {
         requires before { self.old.ended ≡ false }
         ensures open { IsOpen self.new (R.rest reader.new) }
         ensures reads { OnOk result
-            (Follows (R.rest reader.old) (unread self.old) (R.rest reader.new) (unread self.new)
-            (λ all left. all ≡ left)) }
+            (ReadsOn (R.rest reader.old) self.old (R.rest reader.new) self.new) }
         ensures more { OnOk result (self.new.ended ≡ false
             → length (unread self.old) < length (unread self.new)) }
         ensures fault { IfErr result (λ stop. IsFaultOf stop (λ met. ⊥)) }
@@ -136,8 +135,7 @@ impl Window {
         requires open { IsOpen self.old (R.rest reader.old) }
         ensures open { IsOpen self.new (R.rest reader.new) }
         ensures reads { OnOk result
-            (Follows (R.rest reader.old) (unread self.old) (R.rest reader.new) (unread self.new)
-            (λ all left. all ≡ left)) }
+            (ReadsOn (R.rest reader.old) self.old (R.rest reader.new) self.new) }
         ensures more { OnOk result (self.new.ended ≡ false → wanted < length (unread self.new)) }
         ensures fault { IfErr result (λ stop. IsFaultOf stop (λ met. ⊥)) }
         ensures counts { CountsReads (R.failed_reads reader.old) result
@@ -155,8 +153,7 @@ impl Window {
         requires open { IsOpen self.old (R.rest reader.old) }
         ensures open { IsOpen self.new (R.rest reader.new) }
         ensures reads { OnOk result
-            (Follows (R.rest reader.old) (unread self.old) (R.rest reader.new) (unread self.new)
-            (λ all left. all ≡ left)) }
+            (ReadsOn (R.rest reader.old) self.old (R.rest reader.new) self.new) }
         ensures ended { OnOk result (AreAll (R.rest reader.new) []) }
         ensures fault { IfErr result (λ stop. IsFaultOf stop (λ met. ⊥)) }
         ensures counts { CountsReads (R.failed_reads reader.old) result
@@ -172,8 +169,7 @@ impl Window {
         requires open { IsOpen self.old (R.rest reader.old) }
         ensures open { IsOpen self.new (R.rest reader.new) }
         ensures reads { OnOk result
-            (Follows (R.rest reader.old) (unread self.old) (R.rest reader.new) (unread self.new)
-            (λ all left. all ≡ left)) }
+            (ReadsOn (R.rest reader.old) self.old (R.rest reader.new) self.new) }
         ensures more { OnOk result (self.new.ended ≡ false
             → 2 * length (unread self.old) < length (unread self.new)) }
         ensures block { OnOk result (self.new.ended ≡ false → 65535 < length (unread self.new)) }
@@ -194,8 +190,7 @@ impl Window {
         requires few { count ≤ 65536 }
         ensures open { IsOpen self.new (R.rest reader.new) }
         ensures reads { OnOk result
-            (Follows (R.rest reader.old) (unread self.old) (R.rest reader.new) (unread self.new)
-            (λ all left. all ≡ left)) }
+            (ReadsOn (R.rest reader.old) self.old (R.rest reader.new) self.new) }
         ensures more { OnOk result (self.new.ended ≡ false → count ≤ length (unread self.new)) }
         ensures fault { IfErr result (λ stop. IsFaultOf stop (λ met. ⊥)) }
         ensures counts { CountsReads (R.failed_reads reader.old) result
@@ -218,8 +213,7 @@ impl Window {
         requires open { IsOpen self.old (R.rest reader.old) }
         ensures open { IsOpen self.new (R.rest reader.new) }
         ensures reads { OnOk result
-            (Follows (R.rest reader.old) (unread self.old) (R.rest reader.new) (unread self.new)
-            (λ all left. all ≡ left)) }
+            (ReadsOn (R.rest reader.old) self.old (R.rest reader.new) self.new) }
         ensures before { OnOk result (self.old.ended ≡ false) }
         ensures more { OnOk result (self.new.ended ≡ false
             → length (unread self.old) < length (unread self.new)) }

@@ -11,14 +11,14 @@ rows-preserved c =
     let next : c.rows.y + 1 - c.args.from ≡ (c.rows.y - c.args.from) + 1 = omega (arith, order) in
     record {
       order = omega (arith, order);
-      text = c.push_row.ensures.text
+      text = c.push_lines.ensures.text
           ∙ (ap (λ (t : List ℕ). t ++ flat_map (plain_digit c.args.bitmap.now)
           (range_with_len (c.rows.y * c.args.bitmap.now.width) c.args.bitmap.now.width))
           c.rows.invariant.text
           ∙ flat_map-row_from (plain_digit c.args.bitmap.now) c.args.out.now.items
           c.args.bitmap.now.width c.args.from c.rows.y order);
-      added = (let a = c.push_row.ensures.length in let b = c.rows.invariant.added in
+      added = (let a = c.push_lines.ensures.length in let b = c.rows.invariant.added in
           rw next (omega (arith, a, b)));
-      room = (let a = c.push_row.ensures.room in let b = c.rows.invariant.room in omega arith);
-      digits = c.push_row.ensures.digits;
+      room = (let a = c.push_lines.ensures.room in let b = c.rows.invariant.room in omega arith);
+      digits = c.put_digits.ensures.len ∙ c.rows.invariant.digits;
     }
