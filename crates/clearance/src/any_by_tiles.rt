@@ -1,7 +1,7 @@
 //! A search, tile by tile, for any obstacle that is nearer to a rectangle than a limit: it ends at
 //! the first that it meets.
 
-ghost use Rattle.std.specs.Prelude.{◌≡◌, None, ◌<◌, IfSome};
+ghost use Rattle.std.specs.Prelude.{◌≡◌, ◌<◌, IfSome};
 ghost use Rattle.bits.specs.Cells.{IsBitmap, IsObstacle};
 ghost use Rattle.bits.specs.Words.{words_across};
 ghost use Rattle.clearance.specs.Spots.{IsAnyBelow, IsInBand, IsInTile, IsNearSpot};
@@ -97,8 +97,8 @@ fn any_in_band<M: Metric, R: Rows>(rows: &mut R, band: u16, rect: Rect, limit: u
 }
 
 /// An obstacle whose distance from the rectangle is below the limit; `None` if there is none. Looks
-/// first in the tile that may be the nearest, if the limit is loose, and then in the rectangle's
-/// first band.
+/// first in the tile that may be the nearest, if the limit is loose, then in the rectangle's first
+/// band, and then band by band.
 pub fn any_by_tiles<M: Metric, R: Rows>(rows: &mut R, rect: Rect, limit: u64) -> Option<Found>
     requires bitmap { IsBitmap (R.cells rows.old) }
     ensures any { IsAnyBelow M.distance (IsObstacle (R.cells rows.old)) rect limit result }
@@ -111,25 +111,8 @@ pub fn any_by_tiles<M: Metric, R: Rows>(rows: &mut R, rect: Rect, limit: u64) ->
     if let Some(found) = any_in_band::<M, R>(rows, own, rect, limit) {
         return Some(found);
     }
-    any_by_bands::<M, R>(rows, own, rect, limit)
-}
-
-/// As `any_by_tiles`, band by band, but for one that is known to have none.
-fn any_by_bands<M: Metric, R: Rows>(
-    rows: &mut R,
-    known: u16,
-    rect: Rect,
-    limit: u64,
-) -> Option<Found>
-    requires bitmap { IsBitmap (R.cells rows.old) }
-    requires known { known < 64 }
-    requires far { IsAnyBelow M.distance (IsInBand (R.cells rows.old) known) rect limit None }
-    ensures any { IsAnyBelow M.distance (IsObstacle (R.cells rows.old)) rect limit result }
-    ensures rows { rows.new ≡ rows.old }
-{
-    let marks = rows.bands();
-    let within = bands_within(marks, rect, rows_within::<M>(0, limit));
-    let bands = without_bit(within, known);
+    let within = bands_within(rows.bands(), rect, rows_within::<M>(0, limit));
+    let bands = without_bit(within, own);
     let mut band = next_tile(bands, 0);
     'bands: while band < NO_TILE {
         if let Some(found) = any_in_band::<M, R>(rows, band, rect, limit) {

@@ -4,7 +4,7 @@ ghost use Rattle.std.specs.Prelude.{◌≡◌};
 ghost use Rattle.bits.specs.Cells.{IsInside};
 ghost use Rattle.bits.specs.Edges.{IsBlocked};
 ghost use Rattle.clearance.specs.Answers.{IsLeastOf, cells_of_rect};
-ghost use Rattle.clearance.specs.Firsts.{IsCellNear, IsCellWithNear, IsFirstColumn, IsFirstOrNone};
+ghost use Rattle.clearance.specs.Firsts.{IsCellNear, IsCellWithNear, IsFirstColumn};
 ghost use Rattle.clearance.specs.Firsts.{IsFirstRow, IsRectNear};
 ghost use Rattle.clearance.specs.Search.{IsRectIn};
 
@@ -31,23 +31,7 @@ pub fn least_of_rect<M: Metric, R: Rows>(
     if least >= NO_LIMIT {
         return None;
     }
-    first_of_rect::<M, R>(rows, edge, rect, least + 1)
-}
-
-/// The first cell of the rectangle that has an obstacle at a distance below the limit. Requires
-/// that there is one.
-fn first_of_rect<M: Metric, R: Rows>(
-    rows: &mut R,
-    edge: Edge,
-    rect: Rect,
-    limit: u64,
-) -> Option<(Cell, Near)>
-    requires rect { IsRectIn (R.cells rows.old) rect }
-    requires some { IsRectNear M.distance (IsBlocked (R.cells rows.old) edge) rect limit }
-    ensures found { IsFirstOrNone M.distance (IsBlocked (R.cells rows.old) edge)
-        (cells_of_rect rect.x0 rect.y0 rect.x1 rect.y1) limit result }
-    ensures rows { rows.new ≡ rows.old }
-{
+    let limit = least + 1;
     let y = first_row::<M, R>(rows, edge, rect, limit);
     let x = first_column::<M, R>(rows, edge, rect, y, limit);
     with_nearest::<M, R>(rows, edge, Cell { x, y }, limit)
@@ -111,8 +95,6 @@ pub fn with_nearest<M: Metric, R: Rows>(
     ensures found { IsCellWithNear M.distance (IsBlocked (R.cells rows.old) edge) cell result }
     ensures rows { rows.new ≡ rows.old }
 {
-    match nearest_spot::<M, R>(rows, edge, cell, limit) {
-        Some(near) => Some((cell, near)),
-        None => None,
-    }
+    let near = nearest_spot::<M, R>(rows, edge, cell, limit)?;
+    Some((cell, near))
 }

@@ -48,10 +48,8 @@ fn nearest_open<M: Metric, R: Rows>(rows: &mut R, cell: Cell, limit: u64) -> Opt
 {
     let inside = holds(rows, cell);
     prove!(inside);
-    match nearest::<M, R>(rows, cell, limit) {
-        Some(found) => Some(found.as_near(Edge::Open)),
-        None => None,
-    }
+    let found = nearest::<M, R>(rows, cell, limit)?;
+    Some(found.as_near(Edge::Open))
 }
 
 /// The nearest obstacle of the cell, with a wall: it searches the bits no further than the frame.

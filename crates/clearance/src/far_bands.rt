@@ -51,8 +51,20 @@ fn without_far<M: Metric, R: Rows>(
     if least >= NO_LIMIT {
         return bands;
     }
-    let left = without_above::<M, R>(rows, bands, rect, gap, least);
-    without_below::<M, R>(rows, left, rect, gap, least)
+    let mut left = without_above::<M, R>(rows, bands, rect, gap, least);
+    let first = rect.y1 - 1 + gap;
+    if rows.height() <= first {
+        return left;
+    }
+    let mut band = next_tile(left, first / BAND_ROWS);
+    'downwards: while band < NO_TILE {
+        if !is_band_far::<M, R>(rows, band, rect, gap, least) {
+            return left;
+        }
+        left = without_bit(left, band);
+        band = next_tile(left, band + 1);
+    }
+    left
 }
 
 /// The bands without those above the rectangle.
@@ -79,34 +91,6 @@ fn without_above<M: Metric, R: Rows>(
         }
         left = without_bit(left, band);
         after = after_last_tile(left, band);
-    }
-    left
-}
-
-/// The bands without those below the rectangle.
-fn without_below<M: Metric, R: Rows>(
-    rows: &mut R,
-    bands: u64,
-    rect: Rect,
-    gap: u16,
-    least: u64,
-) -> u64
-    requires gap { gap ≤ LAST_FRAMED }
-    ensures thinned { IsThinned M.distance (R.cells rows.old) rect gap least bands result }
-    ensures rows { rows.new ≡ rows.old }
-{
-    let first = rect.y1 - 1 + gap;
-    if rows.height() <= first {
-        return bands;
-    }
-    let mut left = bands;
-    let mut band = next_tile(bands, first / BAND_ROWS);
-    'downwards: while band < NO_TILE {
-        if !is_band_far::<M, R>(rows, band, rect, gap, least) {
-            return left;
-        }
-        left = without_bit(left, band);
-        band = next_tile(left, band + 1);
     }
     left
 }

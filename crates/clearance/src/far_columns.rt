@@ -41,11 +41,16 @@ pub fn are_columns_far<M: Metric, R: Rows>(
     ensures far { result ≡ true → IsBandFar M.distance (R.cells rows.old) rect gap least band }
     ensures rows { rows.new ≡ rows.old }
 {
-    if is_right_far::<M, R>(rows, band, rect, gap, least) {
-        is_left_far::<M, R>(rows, band, rect, gap, least)
-    } else {
-        false
+    if !is_right_far::<M, R>(rows, band, rect, gap, least) {
+        return false;
     }
+    let tiles = rows.tiles(band);
+    let after = after_last_tile(tiles, rect.x0 / WORD_CELLS + 1);
+    if are_far_before::<M>((WORD_CELLS * after).min(rect.x0), rect, gap, least) {
+        return true;
+    }
+    let column = after_column(rows, band, tiles, rect.x0);
+    are_far_before::<M>(column, rect, gap, least)
 }
 
 /// The same for those in the rectangle's first column or to its right.
@@ -70,30 +75,6 @@ fn is_right_far<M: Metric, R: Rows>(
     }
     let column = next_column(rows, band, tiles, rect.x0);
     are_far_from::<M>(column, rect, gap, least)
-}
-
-/// The same for those to the left of the rectangle.
-fn is_left_far<M: Metric, R: Rows>(
-    rows: &mut R,
-    band: u16,
-    rect: Rect,
-    gap: u16,
-    least: u64,
-) -> bool
-    requires bitmap { IsBitmap (R.cells rows.old) }
-    requires band { band < 64 }
-    requires gap { gap ≤ LAST_FRAMED }
-    ensures far { result ≡ true
-        → IsBandFarIn M.distance (R.cells rows.old) rect gap least band (λ a. a < rect.x0) }
-    ensures rows { rows.new ≡ rows.old }
-{
-    let tiles = rows.tiles(band);
-    let after = after_last_tile(tiles, rect.x0 / WORD_CELLS + 1);
-    if are_far_before::<M>((WORD_CELLS * after).min(rect.x0), rect, gap, least) {
-        return true;
-    }
-    let column = after_column(rows, band, tiles, rect.x0);
-    are_far_before::<M>(column, rect, gap, least)
 }
 
 /// Whether the cells of this column and of those to its right are at least `least` from the

@@ -223,8 +223,12 @@ impl Lines {
         if above <= self.first {
             return above;
         }
+        let y = rect.y1 - 1 + gap;
+        if rows.height() <= y {
+            return above;
+        }
         let left = self.rect_left(rect, end, above);
-        self.first_below::<M, R>(rows, rect.y1 - 1 + gap, left, above)
+        self.first_in_row::<M, R>(rows, y, y - (left.y1 - 1), left, above)
     }
 
     /// As `first_beside`, only for the row above the rectangle.
@@ -238,22 +242,6 @@ impl Lines {
     {
         if gap <= rect.y0 {
             self.first_in_row::<M, R>(rows, rect.y0 - gap, gap, rect, end)
-        } else {
-            end
-        }
-    }
-
-    /// As `first_beside`, only for row `y` below the rectangle.
-    #[inline(always)]
-    fn first_below<M: Metric, R: Rows>(self, rows: &mut R, y: u16, rect: Rect, end: u16) -> u16
-        requires strip { IsStripIn (R.cells rows.old) self.strip }
-        requires lines { IsRectOf self end rect }
-        requires below { rect.y1 ≤ y }
-        ensures found { IsFirstAmong M.distance (R.cells rows.old) self (λ b. b ≡ y) end result }
-        ensures rows { rows.new ≡ rows.old }
-    {
-        if y < rows.height() {
-            self.first_in_row::<M, R>(rows, y, y - (rect.y1 - 1), rect, end)
         } else {
             end
         }

@@ -132,17 +132,15 @@ const ROWS_A_TILE: u32 = 64;
 /// by tiles: it reads all rows of such a tile, where one by rows may end at the first.
 const TILES_INSIDE: u32 = 2;
 
-/// Whether at most this many of these tiles of these bands may have an obstacle. Both are given by
-/// the first and the last.
+/// Whether at most this many tiles within some cells of the rectangle may have an obstacle.
 #[inline(always)]
-fn are_few_marked<R: Rows>(rows: &R, bands: (u16, u16), tiles: (u16, u16), most: u32) -> bool
-    requires top { bands.0 < 64 }
-    requires bottom { bands.1 < 64 }
-    requires first { tiles.0 < 64 }
-    requires last { tiles.1 < 64 }
+fn are_few_marked<R: Rows>(rows: &R, rect: Rect, gap: u16, most: u32) -> bool
+    requires gap { gap ≤ LAST_FRAMED }
     requires most { most ≤ 64 }
 {
-    let marked = bits_between(rows.bands(), bands.0, bands.1);
+    let (top, bottom) = places_near(rect.y0, rect.y1, gap);
+    let tiles = places_near(rect.x0, rect.x1, gap);
+    let marked = bits_between(rows.bands(), top, bottom);
     let (mut count, mut band) = (0, next_tile(marked, 0));
     'bands: while band < NO_TILE {
         count += count_marked::<R>(rows, band, tiles);
@@ -157,15 +155,9 @@ fn are_few_marked<R: Rows>(rows: &R, bands: (u16, u16), tiles: (u16, u16), most:
 /// Whether few tiles within 32 cells of the rectangle may have an obstacle, none unless it has many
 /// rows.
 fn are_few_near<R: Rows>(rows: &R, rect: Rect) -> bool {
-    let bands_met = (rect.y0 / BAND_ROWS, (rect.y1 - 1) / BAND_ROWS);
-    let tiles_met = (rect.x0 / WORD_CELLS, (rect.x1 - 1) / WORD_CELLS);
-    if is_tall(rect) && !are_few_marked::<R>(rows, bands_met, tiles_met, TILES_INSIDE) {
+    if is_tall(rect) && !are_few_marked(rows, rect, 0, TILES_INSIDE) {
         return false;
     }
-    are_few_marked::<R>(
-        rows,
-        places_near(rect.y0, rect.y1, FAR_GAP),
-        places_near(rect.x0, rect.x1, FAR_GAP),
-        u32::from(rect.y1 - rect.y0) / ROWS_A_TILE,
-    )
+    let most = u32::from(rect.y1 - rect.y0) / ROWS_A_TILE;
+    are_few_marked(rows, rect, FAR_GAP, most)
 }

@@ -37,10 +37,7 @@ pub fn least_of_path<M: Metric, R: Rows>(
     let inside = holds(rows, start);
     prove!(inside);
     let bound = bound_along::<M, R>(rows, edge, start, points, NO_LIMIT);
-    let found = nearest_piece::<M, R>(rows, edge, start, points, NO_LIMIT, bound);
-    let Some(piece) = found else {
-        return None;
-    };
+    let piece = nearest_piece::<M, R>(rows, edge, start, points, NO_LIMIT, bound)?;
     first_of_piece::<M, R>(rows, edge, piece.from, piece.to, piece.least + 1)
 }
 

@@ -7,18 +7,18 @@ use Rattle.clearance.proofs.border.nearest_open.Goals as goal
 pub as_near-requires-clause-column : goal.as_near-requires-clause-column
 as_near-requires-clause-column g c =
     let inside = (has-outside (g.R.Rows.cells c.args.rows.now) c.holds-inside.ensures.bitmap
-    c.in-Some.found.cell.x c.in-Some.found.cell.y c.in-Some.ensures.near.obstacle).column in
+    c.in_ok-found.found.cell.x c.in_ok-found.found.cell.y c.in_ok-found.ensures.near.obstacle).column in
     let wide = c.holds-inside.ensures.bitmap.width_is.few in
     omega arith
 
 pub as_near-requires-clause-row : goal.as_near-requires-clause-row
 as_near-requires-clause-row g c =
     let inside = (has-outside (g.R.Rows.cells c.args.rows.now) c.holds-inside.ensures.bitmap
-    c.in-Some.found.cell.x c.in-Some.found.cell.y c.in-Some.ensures.near.obstacle).row in
+    c.in_ok-found.found.cell.x c.in_ok-found.found.cell.y c.in_ok-found.ensures.near.obstacle).row in
     let high = c.holds-inside.ensures.bitmap.height_is.few in
     omega arith
 
-pub returns-in-None-clause-near : goal.returns-in-None-clause-near
-returns-in-None-clause-near g c =
-    IsNear-none g.M.Metric.distance (g.R.Rows.cells c.args.rows.now) c.args.cell.x c.args.cell.y
-    c.args.limit c.requires.near c.in-None.ensures.near
+pub returns-in_err-found-clause-near : goal.returns-in_err-found-clause-near
+returns-in_err-found-clause-near g c =
+    rw c.from_residual.ensures (IsNear-none g.M.Metric.distance (g.R.Rows.cells c.args.rows.now)
+    c.args.cell.x c.args.cell.y c.args.limit c.requires.near c.in_err-found.ensures.near)

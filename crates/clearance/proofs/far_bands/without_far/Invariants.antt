@@ -1,7 +1,7 @@
 -- The bands that were asked for so far are far, and left out.
 use Rattle.std.proofs.Common.{◌≡◌, ◌-◌, ◌≤◌}
 use Rattle.clearance.specs.Bands.{IsThinned}
-use Rattle.clearance.proofs.far_bands.without_below.Given as goal
+use Rattle.clearance.proofs.far_bands.without_far.Given as goal
 
 abbrev pub invariant-downwards : goal.invariant-downwards
 invariant-downwards g l = record {
