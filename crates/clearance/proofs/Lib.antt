@@ -24,4 +24,5 @@ mod Stretches
 mod StripLines
 mod TileRows
 mod TileSearches
+mod TileSteps
 mod Walks

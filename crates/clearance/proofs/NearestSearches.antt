@@ -1,5 +1,5 @@
 -- The nearest obstacle of a cell, as more obstacles are searched.
-use Rattle.std.proofs.Common.{◌≡◌, ℕ, ◌+◌, ◌-◌, ◌^◌, ◌<◌, ◌≤◌, ◌⊎◌, inl, inr, List, length, get_or}
+use Rattle.std.proofs.Common.{◌≡◌, ℕ, ◌+◌, ◌-◌, ◌^◌, ◌<◌, ◌≤◌, ◌⊎◌, inl, inr, List, length}
 use Rattle.std.proofs.Common.{Option, Some, None, refl, sym, ap, subst, ◌∙◌, arith}
 use Rattle.std.specs.Int.{abs_diff}
 use Rattle.std.proofs.lemmas.Bool.{cases_lt}
@@ -9,17 +9,19 @@ use Rattle.metric.specs.Cellwise.{Key, key_of, IsAtMost}
 use Rattle.metric.proofs.Growing.{of_grows, of_grows_with_dx}
 use Rattle.bits.specs.Cells.{Cells, IsBitmap, IsObstacle}
 use Rattle.bits.specs.Words.{IsRowOf}
-use Rattle.clearance.specs.Rows.{IsFar, IsFirstMark, IsLastMark, IsNextNearer, IsLastNearer}
+use Rattle.clearance.specs.Rows.{IsBlankRow, IsFar, IsFirstMark, IsLastMark, IsNextNearer}
+use Rattle.clearance.specs.Rows.{IsLastNearer}
+use Rattle.metric.specs.declared.cell.Cell.{Cell}
 use Rattle.metric.specs.declared.rect.Rect.{Rect}
 use Rattle.clearance.specs.Bands.{IsMarkedRow, IsNextGap}
 use Rattle.clearance.specs.declared.found.Found.{Found}
 use Rattle.clearance.specs.Nearest.{IsFound, IsFoundBelow, IsNearAmong, limit_with, IsWithin}
 use Rattle.clearance.specs.Nearest.{IsWithinOrAbove, IsRowFirst, IsRowUpTo, IsSeenInRow}
-use Rattle.clearance.specs.Nearest.{IsBetter, IsCellRect}
+use Rattle.clearance.specs.Nearest.{IsBetter, IsCellRect, IsSought}
 use Rattle.clearance.proofs.RowSearches.{mark_within}
 use Rattle.clearance.proofs.TileRows.{AreBandsLive}
-use Rattle.clearance.proofs.Searches.{marked_obstacle, obstacle_marked, obstacle_within}
-use Rattle.clearance.proofs.Searches.{unmarked_row}
+use Rattle.clearance.proofs.Searches.{marked_obstacle, no_obstacle, obstacle_marked}
+use Rattle.clearance.proofs.Searches.{obstacle_within}
 use Rattle.std.proofs.lemmas.Grind.{common_steps}
 use Rattle.std.proofs.lemmas.Bool.Decides.{nat_tests}
 
@@ -266,22 +268,24 @@ IsNearAmong-left_none distance cells x y row gap most limit end words best bitma
     before
 
 -- a row without an obstacle is done
-pub IsNearAmong-blank : (distance : ℕ → ℕ → ℕ) (cells : Cells) (x y row limit : ℕ)
-    (words : List ℕ) (best : Option Found) → IsBitmap cells → IsRowOf cells row words
-    → ((k : ℕ) → k < length words → get_or words k 0 ≡ 0)
-    → IsNearAmong distance (IsObstacle cells) (λ a b. IsRowFirst y row b) x y limit best
-    → IsNearAmong distance (IsObstacle cells) (IsRowUpTo y row) x y limit best
-IsNearAmong-blank distance cells x y row limit words best bitmap is_row blank =
-    IsNearAmong-same distance (IsObstacle cells) (λ a b. IsRowFirst y row b)
-    (IsRowUpTo y row) x y limit best (λ a b obstacle seen. inl seen)
-    (λ a b obstacle next. elim next [
-      | inl seen ↦ seen
-      | inr here ↦
-          let obstacle_here : IsObstacle cells a row =
-          subst (λ (n : ℕ). IsObstacle cells a n) here obstacle in
-          absurd (unmarked_row words a blank
-          (obstacle_marked cells row words a bitmap is_row obstacle_here))
-    ])
+pub IsSought-blank : (distance : ℕ → ℕ → ℕ) (cells : Cells) (cell : Cell) (row limit : ℕ)
+    (best : Option Found) → IsBlankRow cells row
+    → IsSought distance cells cell (λ a b. IsRowFirst cell.y row b) limit best
+    → IsSought distance cells cell (IsRowUpTo cell.y row) limit best
+IsSought-blank distance cells cell row limit best blank sought = record {
+  bitmap = sought.bitmap;
+  inside = sought.inside;
+  within = sought.within;
+  few = sought.few;
+  near = IsNearAmong-same distance (IsObstacle cells) (λ a b. IsRowFirst cell.y row b)
+      (IsRowUpTo cell.y row) cell.x cell.y limit best (λ a b obstacle seen. inl seen)
+      (λ a b obstacle next. elim next [
+        | inl seen ↦ seen
+        | inr here ↦ absurd (no_obstacle cells row a sought.bitmap blank
+            (subst (λ (n : ℕ). IsObstacle cells a n) here obstacle))
+      ])
+      sought.near;
+}
 
 -- where no other row is this many rows away, those up to this many rows away have been searched
 pub IsNearAmong-no_below : (distance : ℕ → ℕ → ℕ) (cells : Cells) (x y gap limit : ℕ)

@@ -1,8 +1,8 @@
 -- The least distance of a rectangle's cells, as more rows are searched.
-use Rattle.std.proofs.Common.{◌≡◌, ℕ, ℤ, pos, negsuc, ◌+◌, ◌-◌, ◌^◌, ◌<◌, ◌≤◌, ◌⊎◌}
+use Rattle.std.proofs.Common.{◌≡◌, ℕ, ℤ, pos, negsuc, ◌+◌, ◌-◌, ◌/◌, ◌^◌, ◌<◌, ◌≤◌, ◌⊎◌}
 use Rattle.std.proofs.Common.{min, max, inl, inr, List, length, get_or, None}
 use Rattle.std.proofs.Common.{refl, sym, subst, ◌∙◌, arith}
-use Rattle.std.specs.Int.{abs_diff}
+use Rattle.std.specs.Int.{abs_diff, bit_at}
 use Rattle.std.proofs.lemmas.Bool.{cases_lt}
 use Rattle.metric.specs.declared.rect.Rect.{Rect}
 use Rattle.metric.specs.Distance.{Grows, distance_between}
@@ -12,7 +12,9 @@ use Rattle.metric.proofs.Growing.{of_grows, of_grows_with_dx}
 use Rattle.bits.specs.Cells.{Cells, IsBitmap, IsObstacle}
 use Rattle.bits.specs.Words.{IsRowOf}
 use Rattle.bits.proofs.CellsLemmas.{has-outside}
-use Rattle.clearance.specs.Rows.{IsMarked, IsFar, IsFirstMark, IsLastMark, IsLastNearer}
+use Rattle.clearance.specs.Bands.{IsTiledRow}
+use Rattle.clearance.specs.Rows.{IsBlankRow, IsMarked, IsFar, IsFirstMark, IsLastMark, IsLastNearer}
+use Rattle.clearance.specs.Rows.{words_of_row}
 use Rattle.clearance.specs.Parts.{IsBlackInRow, IsPart}
 use Rattle.clearance.specs.declared.part.Part.TheVariants.{Row}
 use Rattle.clearance.specs.Search.{IsInRect, IsLeastBelow, IsLeastInBits, column_gap, row_gap}
@@ -20,6 +22,7 @@ use Rattle.clearance.specs.Search.{rect_distance, IsLeastAmong, IsLeastWithin, I
 use Rattle.clearance.specs.Search.{IsReachedCell}
 use Rattle.clearance.specs.Search.{IsLoweredRight, IsLoweredLeft}
 use Rattle.clearance.proofs.RowSearches.{mark_within}
+use Rattle.clearance.proofs.RowWords.{IsRowOf-words, length-words_of_row}
 use Rattle.std.proofs.lemmas.Grind.{common_steps}
 use Rattle.std.proofs.lemmas.Bool.Decides.{nat_tests}
 
@@ -97,15 +100,29 @@ pub unmarked_row : (words : List ℕ) (a : ℕ) → ((k : ℕ) → k < length wo
     → IsMarked words a → ⊥
 unmarked_row words a blank marked = grind (arith, nat_tests, common_steps)
 
--- where a row has no mark, the least stays
+-- each mark of a row lies in a tile that may have one
+pub marked_tile : (cells : Cells) (y tiles : ℕ) → IsTiledRow cells y tiles → (x : ℕ)
+    → IsMarked (words_of_row cells y) x → bit_at tiles (x / 64) ≡ 1
+marked_tile cells y tiles told =
+    λ x marked. told x (marked_obstacle cells y (words_of_row cells y) x
+    (IsRowOf-words cells y) marked)
+
+-- a blank row has no obstacle
+pub no_obstacle : (cells : Cells) (y a : ℕ) → IsBitmap cells → IsBlankRow cells y
+    → IsObstacle cells a y → ⊥
+no_obstacle cells y a bitmap blank obstacle =
+    unmarked_row (words_of_row cells y) a
+    (λ (k : ℕ) (within : k < length (words_of_row cells y)).
+    blank k (omega (arith, length-words_of_row cells y)))
+    (obstacle_marked cells y (words_of_row cells y) a bitmap (IsRowOf-words cells y) obstacle)
+
+-- a row without an obstacle lowers nothing
 pub IsLoweredBy-blank : (distance : ℕ → ℕ → ℕ) (cells : Cells) (rect : Rect) (y gap before : ℕ)
-    (words : List ℕ) → IsBitmap cells → IsRowOf cells y words
-    → ((k : ℕ) → k < length words → get_or words k 0 ≡ 0)
+    → IsBitmap cells → IsBlankRow cells y
     → IsLoweredBy distance (IsObstacle cells) rect y gap before before
-IsLoweredBy-blank distance cells rect y gap before words bitmap row blank = record {
+IsLoweredBy-blank distance cells rect y gap before bitmap blank = record {
   within = omega arith;
-  far = λ a obstacle. absurd
-      (unmarked_row words a blank (obstacle_marked cells y words a bitmap row obstacle));
+  far = λ a obstacle. absurd (no_obstacle cells y a bitmap blank obstacle);
   reached = λ less. absurd (omega arith);
 }
 

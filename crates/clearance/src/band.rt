@@ -15,15 +15,15 @@ const NO_ROW: u16 = MOST_SIDE;
 /// How many rows are searched in order before the bands are tested again.
 pub const STRETCH: u16 = 16;
 
-/// Whether the row's band is known to be blank.
+/// Whether row `y` is in a band known to be blank. Asked only if an obstacle may be far away.
 #[inline(always)]
-pub fn is_in_blank_band<R: Rows>(rows: &R, y: u16) -> bool
+pub fn is_passed<R: Rows>(rows: &R, y: u16, far: bool) -> bool
     requires { y < (R.cells rows.now).height }
     ensures { result ≡ true → IsBlankRow (R.cells rows.now) y }
 {
     let inside = y < rows.height();
     prove!(inside);
-    !has_band(rows.bands(), y)
+    far && !has_band(rows.bands(), y)
 }
 
 /// Whether the row's band may have an obstacle.

@@ -1,7 +1,7 @@
 //! A search of a tile for the obstacle that comes first, and the bands that may have one near
 //! enough.
 
-ghost use Rattle.std.specs.Prelude.{◌≡◌, ℕ, ◌/◌, ◌%◌, ◌<◌, ◌≤◌, true};
+ghost use Rattle.std.specs.Prelude.{◌≡◌, ℕ, ◌+◌, ◌-◌, ◌/◌, ◌%◌, ◌<◌, ◌≤◌, true, false};
 ghost use Rattle.std.specs.Int.{bit_at};
 ghost use Rattle.bits.specs.Cells.{IsBitmap, IsObstacle};
 ghost use Rattle.bits.specs.Words.{words_across};
@@ -50,9 +50,9 @@ pub fn first_in_tile<M: Metric, R: Rows>(
         return None;
     }
     let middle = from.max(rect.y0).min(end);
-    let below = first_downwards::<M, R>(rows, tile, (middle, end), columns, rect, limit);
+    let below = first_outwards::<M, R>(rows, tile, (middle, end), false, columns, rect, limit);
     let next = limit_with(limit, below);
-    let above = first_upwards::<M, R>(rows, tile, (from, middle), columns, rect, next);
+    let above = first_outwards::<M, R>(rows, tile, (from, middle), true, columns, rect, next);
     merged(rect.y0, below, above)
 }
 
@@ -105,13 +105,16 @@ pub fn rows_met(height: u16, band: u16, rect: Rect, reach: u16) -> (u16, u16)
     (from, end)
 }
 
-/// The first of the obstacles of a tile in rows from a first one to an end, none of them above the
-/// rectangle, if its distance is below the limit: down, till what is found is nearer than all rows
-/// left. None of these obstacles lies fewer columns outside.
-fn first_downwards<M: Metric, R: Rows>(
+/// The first of the obstacles of a tile in rows from a first one to an end, if its distance is below
+/// the limit: away from the rectangle's first row, up if all of these rows lie above it, and down if
+/// none does, till what is found is nearer than all rows left. None of these obstacles lies fewer
+/// columns outside.
+#[inline(always)]
+fn first_outwards<M: Metric, R: Rows>(
     rows: &mut R,
     tile: u16,
     span: (u16, u16),
+    up: bool,
     columns: u16,
     rect: Rect,
     limit: u64,
@@ -119,7 +122,8 @@ fn first_downwards<M: Metric, R: Rows>(
     requires bitmap { IsBitmap (R.cells rows.old) }
     requires tile { tile < words_across (R.cells rows.old).width }
     requires order { span.0 ≤ span.1 }
-    requires below { span.0 < span.1 → rect.y0 ≤ span.0 }
+    requires above { up ≡ true → span.0 < span.1 → span.1 ≤ rect.y0 }
+    requires below { up ≡ false → span.0 < span.1 → rect.y0 ≤ span.0 }
     requires end { span.1 ≤ (R.cells rows.old).height }
     requires columns { columns ≤ MOST_SIDE }
     requires apart { (a b : ℕ) → IsObstacle (R.cells rows.old) a b → a / WORD_CELLS ≡ tile
@@ -129,7 +133,8 @@ fn first_downwards<M: Metric, R: Rows>(
     ensures rows { rows.new ≡ rows.old }
 {
     let mut best = None;
-    'rows: for y in span.0..span.1 {
+    'rows: for step in 0..span.1 - span.0 {
+        let y = row_of_step(span, up, step);
         if is_nearer_than_row::<M>(best, columns, rect, y) {
             return best;
         }
@@ -139,36 +144,14 @@ fn first_downwards<M: Metric, R: Rows>(
     best
 }
 
-/// As `first_downwards`, in rows above the rectangle: up.
-fn first_upwards<M: Metric, R: Rows>(
-    rows: &mut R,
-    tile: u16,
-    span: (u16, u16),
-    columns: u16,
-    rect: Rect,
-    limit: u64,
-) -> Option<Found>
-    requires bitmap { IsBitmap (R.cells rows.old) }
-    requires tile { tile < words_across (R.cells rows.old).width }
-    requires order { span.0 ≤ span.1 }
-    requires above { span.0 < span.1 → span.1 ≤ rect.y0 }
-    requires end { span.1 ≤ (R.cells rows.old).height }
-    requires columns { columns ≤ MOST_SIDE }
-    requires apart { (a b : ℕ) → IsObstacle (R.cells rows.old) a b → a / WORD_CELLS ≡ tile
-        → span.0 ≤ b → b < span.1 → columns ≤ column_gap rect a }
-    ensures first { IsSpotBelow M.distance (IsInTileRows (R.cells rows.old) tile span.0 span.1)
-        rect limit result }
-    ensures rows { rows.new ≡ rows.old }
+/// The row at this step through rows from a first one to an end.
+#[inline(always)]
+fn row_of_step(span: (u16, u16), up: bool, step: u16) -> u16
+    requires { step < span.1 - span.0 }
+    ensures up { up ≡ true → result + step + 1 ≡ span.1 }
+    ensures down { up ≡ false → result ≡ span.0 + step }
 {
-    let mut best = None;
-    'rows: for y in (span.0..span.1).rev() {
-        if is_nearer_than_row::<M>(best, columns, rect, y) {
-            return best;
-        }
-        let word = rows.word(y, usize::from(tile));
-        best = with_word::<M>(best, word, tile, y, rect, limit);
-    }
-    best
+    if up { span.1 - 1 - step } else { span.0 + step }
 }
 
 /// Whether what is found is nearer than cells this many columns away in row `y`, and so than those

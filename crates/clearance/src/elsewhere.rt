@@ -31,8 +31,7 @@ pub fn first_elsewhere<M: Metric, R: Rows>(
         rect limit result }
     ensures rows { rows.new ≡ rows.old }
 {
-    let marks = rows.bands();
-    let bands = bands_within(marks, rect, rows_within::<M>(0, limit));
+    let bands = bands_within(rows.bands(), rect, rows_within::<M>(0, limit));
     let (mut band, mut best) = (next_tile(bands, 0), None);
     'bands: while band < NO_TILE {
         let tiles = tiles_elsewhere(rows, band, seed);

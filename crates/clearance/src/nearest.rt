@@ -7,11 +7,11 @@ ghost use Rattle.clearance.specs.Nearest.{IsAhead, IsBetter, IsCellRect, IsFound
 ghost use Rattle.clearance.specs.Nearest.{IsRowUpTo, IsSeenInRow, IsSought, IsWithin};
 ghost use Rattle.clearance.specs.Nearest.{IsWithinOrAbove};
 
-use crate::band::{first_gap, next_gap};
+use crate::band::{first_gap, is_passed, next_gap};
 use crate::far_bands::near_bands;
 use crate::found::Found;
 use crate::rows::Rows;
-use crate::search::{FAR_GAP, NO_LIMIT, is_found_blank, is_passed};
+use crate::search::{FAR_GAP, NO_LIMIT, is_found_blank};
 use crate::spot::limit_with;
 use crate::tiles::{SearchedRow, has_few_tiles};
 use crate::words::{last_nearer, next_nearer};

@@ -6,7 +6,7 @@ ghost use Rattle.clearance.specs.Rows.{IsBlankRow, words_of_row};
 ghost use Rattle.clearance.specs.Search.{IsLeastInBits, IsLeastWithin, IsLoweredBy};
 ghost use Rattle.clearance.specs.Search.{IsLoweredRight, IsRectIn};
 
-use crate::band::{are_blank_bands, first_gap, is_in_blank_band, next_gap};
+use crate::band::{are_blank_bands, first_gap, is_passed, next_gap};
 use crate::far_bands::near_bands;
 use crate::rows::Rows;
 use crate::tiles::{SearchedRow, has_few_tiles};
@@ -153,15 +153,6 @@ fn lowered_by<M: Metric, R: Rows>(
         Some(column) => u64::from(M::of(rect.x0 - column, gap)),
         None => right,
     }
-}
-
-/// Whether row `y` is known to be free. Asked only if an obstacle may be far away.
-#[inline(always)]
-pub fn is_passed<R: Rows>(rows: &R, y: u16, far: bool) -> bool
-    requires { y < (R.cells rows.now).height }
-    ensures { result ≡ true → IsBlankRow (R.cells rows.now) y }
-{
-    far && is_in_blank_band(rows, y)
 }
 
 /// Whether row `y`, `gap` rows away, is searched as a whole and found to be free. Asked only if an

@@ -53,7 +53,8 @@ pub fn next_nearer<M: Metric, R: Rows>(
     let (own, tiles) = (start / WORD_CELLS, tiles_of(rows, row));
     let front = bits_from(word_of(rows, row, tiles, own), start % WORD_CELLS);
     if front != 0 {
-        return right_nearer::<M>(own * WORD_CELLS + lowest_bit(front), edge, gap, limit);
+        let column = own * WORD_CELLS + lowest_bit(front);
+        return nearer::<M>(column, column.saturating_sub(edge), gap, limit);
     }
     let across = rows.across();
     let mut index = next_tile(tiles, own + 1);
@@ -64,21 +65,22 @@ pub fn next_nearer<M: Metric, R: Rows>(
         }
         let word = rows.word(row.y, usize::from(index));
         if word != 0 {
-            return right_nearer::<M>(first + lowest_bit(word), edge, gap, limit);
+            let column = first + lowest_bit(word);
+            return nearer::<M>(column, column.saturating_sub(edge), gap, limit);
         }
         index = next_tile(tiles, index + 1);
     }
     None
 }
 
-/// The column, if its distance from a column on its left is below the limit.
+/// The column, if its distance, by the columns and rows between, is below the limit.
 #[inline(always)]
-fn right_nearer<M: Metric>(column: u16, edge: u16, gap: u16, limit: u64) -> Option<u16>
-    requires column { column < MOST_SIDE }
+fn nearer<M: Metric>(column: u16, columns: u16, gap: u16, limit: u64) -> Option<u16>
+    requires columns { columns ≤ LAST_FRAMED }
     requires gap { gap ≤ LAST_FRAMED }
-    ensures { IsWhereNearer (M.distance (column - edge) gap) limit column result }
+    ensures { IsWhereNearer (M.distance columns gap) limit column result }
 {
-    if u64::from(M::of(column.saturating_sub(edge), gap)) < limit {
+    if u64::from(M::of(columns, gap)) < limit {
         Some(column)
     } else {
         None
@@ -109,7 +111,8 @@ pub fn last_nearer<M: Metric, R: Rows>(
     let (own, tiles) = (end / WORD_CELLS, tiles_of(rows, row));
     let back = bits_below(word_of(rows, row, tiles, own), end % WORD_CELLS);
     if back != 0 {
-        return left_nearer::<M>(own * WORD_CELLS + highest_bit(back), edge, gap, limit);
+        let column = own * WORD_CELLS + highest_bit(back);
+        return nearer::<M>(column, edge - column, gap, limit);
     }
     let mut after = after_last_tile(tiles, own);
     'words: while 0 < after {
@@ -120,24 +123,10 @@ pub fn last_nearer<M: Metric, R: Rows>(
         }
         let word = rows.word(row.y, usize::from(index));
         if word != 0 {
-            return left_nearer::<M>(first + highest_bit(word), edge, gap, limit);
+            let column = first + highest_bit(word);
+            return nearer::<M>(column, edge - column, gap, limit);
         }
         after = after_last_tile(tiles, index);
     }
     None
-}
-
-/// The column, if its distance from a column on its right is below the limit.
-#[inline(always)]
-fn left_nearer<M: Metric>(column: u16, edge: u16, gap: u16, limit: u64) -> Option<u16>
-    requires column { column ≤ edge }
-    requires edge { edge < MOST_SIDE }
-    requires gap { gap ≤ LAST_FRAMED }
-    ensures { IsWhereNearer (M.distance (edge - column) gap) limit column result }
-{
-    if u64::from(M::of(edge - column, gap)) < limit {
-        Some(column)
-    } else {
-        None
-    }
 }

@@ -7,14 +7,16 @@ use Rattle.clearance.proofs.border.nearest_open.Goals as goal
 pub as_near-requires-clause-column : goal.as_near-requires-clause-column
 as_near-requires-clause-column g c =
     let inside = (has-outside (g.R.Rows.cells c.args.rows.now) c.holds-inside.ensures.bitmap
-    c.in_ok-found.found.cell.x c.in_ok-found.found.cell.y c.in_ok-found.ensures.near.obstacle).column in
+    c.in_ok-found.found.cell.x c.in_ok-found.found.cell.y
+    c.in_ok-found.ensures.near.obstacle).column in
     let wide = c.holds-inside.ensures.bitmap.width_is.few in
     omega arith
 
 pub as_near-requires-clause-row : goal.as_near-requires-clause-row
 as_near-requires-clause-row g c =
     let inside = (has-outside (g.R.Rows.cells c.args.rows.now) c.holds-inside.ensures.bitmap
-    c.in_ok-found.found.cell.x c.in_ok-found.found.cell.y c.in_ok-found.ensures.near.obstacle).row in
+    c.in_ok-found.found.cell.x c.in_ok-found.found.cell.y
+    c.in_ok-found.ensures.near.obstacle).row in
     let high = c.holds-inside.ensures.bitmap.height_is.few in
     omega arith
 

@@ -32,17 +32,17 @@ returns-then-from-limit-2-clause-first g c =
     (record { not_below = omega arith; is_limit = omega arith }))
     refl
 
-pub first_downwards-below-requires-clause-apart : goal.first_downwards-below-requires-clause-apart
-first_downwards-below-requires-clause-apart g c = λ a b obstacle here from before.
+pub first_outwards-below-requires-clause-apart : goal.first_outwards-below-requires-clause-apart
+first_outwards-below-requires-clause-apart g c = λ a b obstacle here from before.
     c.columns_outside-columns.ensures.apart a here
     (c.joined_span.ensures.joined a b (rw c.joined_span.ensures.rows at obstacle) (omega arith)
     before here)
 
-pub first_upwards-above-requires-clause-apart : goal.first_upwards-above-requires-clause-apart
-first_upwards-above-requires-clause-apart g c = λ a b obstacle here from before.
+pub first_outwards-above-requires-clause-apart : goal.first_outwards-above-requires-clause-apart
+first_outwards-above-requires-clause-apart g c = λ a b obstacle here from before.
     c.columns_outside-columns.ensures.apart a here
     (c.joined_span.ensures.joined a b
-    (rw (c.first_downwards-below.ensures.rows, c.joined_span.ensures.rows) at obstacle) from
+    (rw (c.first_outwards-below.ensures.rows, c.joined_span.ensures.rows) at obstacle) from
     (omega arith) here)
 
 pub returns-clause-first : goal.returns-clause-first
@@ -50,14 +50,14 @@ returns-clause-first g c =
     IsSpotBelow-tile_all g.M.Metric.distance g.met.M.Metric.grows g.met.M.Metric.stays_nearer
     (g.R.Rows.cells c.args.rows.now) c.args.rect c.args.band c.args.tile c.columns_apart-near.result
     c.rows_within.result c.rows_met-from.result.0 c.min-middle.result c.rows_met-from.result.1
-    c.args.limit c.first_downwards-below.result c.first_upwards-above.result c.merged.result
+    c.args.limit c.first_outwards-below.result c.first_outwards-above.result c.merged.result
     c.requires.bitmap c.columns_apart-near.ensures.apart c.rows_within.ensures.far
     (λ b here within near. c.rows_met-from.ensures.all b here (omega arith) near)
     c.rows_met-from.ensures.own (omega arith) (omega arith)
-    (rw c.joined_span.ensures.rows at c.first_downwards-below.ensures.first)
+    (rw c.joined_span.ensures.rows at c.first_outwards-below.ensures.first)
     (rw (
-      c.first_downwards-below.ensures.rows,
+      c.first_outwards-below.ensures.rows,
       c.joined_span.ensures.rows,
       c.limit_with-next.ensures.is,
-    ) at c.first_upwards-above.ensures.first)
+    ) at c.first_outwards-above.ensures.first)
     c.merged.ensures

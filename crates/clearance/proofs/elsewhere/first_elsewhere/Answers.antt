@@ -10,8 +10,8 @@ pub bands-init : goal.bands-init
 bands-init g c =
     let cells = g.R.Rows.cells c.args.rows.now in
     let live = AreBandsLive-within g.M.Metric.distance g.met.M.Metric.grows
-    g.met.M.Metric.stays_nearer cells c.args.rect c.bands-marks.result
-    c.bands_within-bands.result c.rows_within.result c.args.limit c.requires.bitmap c.bands-marks.ensures
+    g.met.M.Metric.stays_nearer cells c.args.rect c.bands-2.result c.bands_within-bands.result
+    c.rows_within.result c.args.limit c.requires.bitmap c.bands-2.ensures
     c.bands_within-bands.ensures c.rows_within.ensures.far in
     record {
       rows = refl;
@@ -20,15 +20,12 @@ bands-init g c =
           c.bands_within-bands.result c.next_tile-band.result c.args.limit live
           (λ a b here. here.0) c.next_tile-band.ensures.none;
       few = c.next_tile-band.ensures.few;
+      live = live;
     }
 
 pub bands-preserved : goal.bands-preserved
 bands-preserved g c =
     let cells = g.R.Rows.cells c.args.rows.now in
-    let live = AreBandsLive-within g.M.Metric.distance g.met.M.Metric.grows
-    g.met.M.Metric.stays_nearer cells c.args.rect c.bands-marks.result
-    c.bands_within-bands.result c.rows_within.result c.args.limit c.requires.bitmap c.bands-marks.ensures
-    c.bands_within-bands.ensures c.rows_within.ensures.far in
     let from = c.next_tile-band-in-bands.ensures.from in
     let all = rw (c.bands.invariant.rows) at c.tiles_elsewhere-tiles.ensures.all in
     let only = rw (c.bands.invariant.rows) at c.tiles_elsewhere-tiles.ensures.only in
@@ -39,8 +36,9 @@ bands-preserved g c =
       first = IsSpotBelow-band_more g.M.Metric.distance cells
           (IsElsewhere cells c.args.seed.band c.args.seed.tile) c.args.rect
           c.bands_within-bands.result c.bands.band c.next_tile-band-in-bands.result c.args.limit
-          c.bands.best c.first_in_tiles-next.result c.merged-best.result live
-          (λ a b here. here.0) (omega arith) c.next_tile-band-in-bands.ensures.none
+          c.bands.best c.first_in_tiles-next.result c.merged-best.result
+          c.bands.invariant.live (λ a b here. here.0) (omega arith)
+          c.next_tile-band-in-bands.ensures.none
           c.bands.invariant.first
           (IsSpotBelow-same g.M.Metric.distance
           (IsInTiles cells c.bands.band c.tiles_elsewhere-tiles.result)
@@ -50,6 +48,7 @@ bands-preserved g c =
           (λ a b here. ((here.0.0, here.1), all a b here.0 here.1)) next)
           c.merged-best.ensures;
       few = c.next_tile-band-in-bands.ensures.few;
+      live = c.bands.invariant.live;
     }
 
 pub returns-clause-first : goal.returns-clause-first

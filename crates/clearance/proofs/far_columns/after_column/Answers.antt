@@ -39,6 +39,6 @@ returns-else-word-eq0-clause-none g c = λ x y obstacle here before.
     let there = before_highest_bit cells c.args.band c.args.end tile c.joined_rows.result
     c.bits_before-word.result c.highest_bit.result joined
     (λ (i : ℕ) (low : i < c.args.end - 64 * tile) (few : i < 64).
-    c.bits_before-word.ensures.kept i (omega arith) few) c.highest_bit.ensures.none_above x y obstacle
-    here before (omega arith) in
+    c.bits_before-word.ensures.kept i (omega arith) few) c.highest_bit.ensures.none_above x y
+    obstacle here before (omega arith) in
     omega arith

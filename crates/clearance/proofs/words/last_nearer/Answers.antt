@@ -1,22 +1,11 @@
 -- Word by word to the left: a part of the first one, then whole ones.
 use Rattle.std.proofs.Common.{◌≡◌, ℕ, ◌+◌, ◌-◌, ◌*◌, ◌/◌, ◌%◌, ◌<◌, get_or, refl, ◌∙◌, arith}
-use Rattle.std.specs.Int.{bit_at}
-use Rattle.bits.specs.Cells.{Cells}
-use Rattle.clearance.specs.Bands.{IsTiledRow}
-use Rattle.clearance.specs.Rows.{IsMarked, words_of_row}
+use Rattle.clearance.specs.Rows.{words_of_row}
 use Rattle.clearance.proofs.RowSearches.{AreUnmarked, AreUnmarked-none, unmarked_tiles_below}
 use Rattle.clearance.proofs.RowSearches.{unmarked_word_below, last_in_word, IsLastNearer-last}
 use Rattle.clearance.proofs.RowSearches.{IsLastNearer-far, IsLastNearer-none}
-use Rattle.clearance.proofs.RowWords.{IsRowOf-words}
-use Rattle.clearance.proofs.Searches.{marked_obstacle}
+use Rattle.clearance.proofs.Searches.{marked_tile}
 use Rattle.clearance.proofs.words.last_nearer.Goals as goal
-
--- each mark of the row lies in a tile that may have one
-tiled : (cells : Cells) (y tiles : ℕ) → IsTiledRow cells y tiles → (x : ℕ)
-    → IsMarked (words_of_row cells y) x → bit_at tiles (x / 64) ≡ 1
-tiled cells y tiles told =
-    λ x marked. told x (marked_obstacle cells y (words_of_row cells y) x
-    (IsRowOf-words cells y) marked)
 
 pub words-init : goal.words-init
 words-init g c =
@@ -32,7 +21,7 @@ words-init g c =
     record {
       rows = c.word_of.ensures.rows;
       after = unmarked_tiles_below words c.after_last_tile-after.result own c.args.end
-          c.tiles_of-tiles.result (tiled (g.R.Rows.cells c.args.rows.now) c.args.row.y
+          c.tiles_of-tiles.result (marked_tile (g.R.Rows.cells c.args.rows.now) c.args.row.y
           c.tiles_of-tiles.result c.tiles_of-tiles.ensures) c.after_last_tile-after.ensures.none
           own_word;
       few = c.after_last_tile-after.ensures.few;
@@ -53,7 +42,7 @@ words-preserved g c =
     record {
       rows = c.word-word.ensures.rows ∙ c.words.invariant.rows;
       after = unmarked_tiles_below words c.after_last_tile-after-in-words.result k c.args.end
-          c.tiles_of-tiles.result (tiled (g.R.Rows.cells c.args.rows.now) c.args.row.y
+          c.tiles_of-tiles.result (marked_tile (g.R.Rows.cells c.args.rows.now) c.args.row.y
           c.tiles_of-tiles.result c.tiles_of-tiles.ensures)
           c.after_last_tile-after-in-words.ensures.none after;
       few = omega arith;
@@ -68,13 +57,13 @@ returns-then-back-ne0-clause-last g c =
     let kept = λ (i : ℕ) (below : i < place). rw (c.word_of.ensures.word) at
     (c.bits_below-back.ensures.kept i below) in
     IsLastNearer-last _ g.met.M.Metric.stays_nearer words c.args.end c.args.edge c.args.gap
-    c.args.limit (own * 64 + p) c.left_nearer.result c.requires.within c.requires.gap
+    c.args.limit (own * 64 + p) c.nearer.result c.requires.within c.requires.gap
     (last_in_word words c.args.end own place c.bits_below-back.result p (own * 64 + p)
     (omega arith) kept (λ i above within. c.bits_below-back.ensures.cleared i above) (omega arith)
     (AreUnmarked-none words (64 * own + place) c.args.end (omega arith))
     c.highest_bit.ensures.within c.highest_bit.ensures.here c.highest_bit.ensures.none_above
     (omega arith))
-    c.left_nearer.ensures
+    c.nearer.ensures
 
 pub returns-then-from-limit-clause-last : goal.returns-then-from-limit-clause-last
 returns-then-from-limit-clause-last g c =
@@ -103,12 +92,12 @@ returns-then-word-ne0-clause-last g c =
     rw (c.word-word.ensures.word, c.words.invariant.rows, c.from-in-words.ensures) at
     (found.ensures.none_above i above) in
     IsLastNearer-last _ g.met.M.Metric.stays_nearer words c.args.end c.args.edge c.args.gap
-    c.args.limit (k * 64 + found.result) c.left_nearer-then-word-ne0.result c.requires.within
+    c.args.limit (k * 64 + found.result) c.nearer-then-word-ne0.result c.requires.within
     c.requires.gap
     (last_in_word words c.args.end k 64 (get_or words k 0) found.result (k * 64 + found.result)
     (omega arith) (λ i below. refl) (λ i above within. absurd (omega arith)) (omega arith)
     after found.ensures.within here none_above (omega arith))
-    c.left_nearer-then-word-ne0.ensures
+    c.nearer-then-word-ne0.ensures
 
 pub returns-clause-last : goal.returns-clause-last
 returns-clause-last g c =

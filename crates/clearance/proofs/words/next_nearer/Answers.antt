@@ -1,23 +1,13 @@
 -- Word by word to the right: a part of the first one, then whole ones.
 use Rattle.std.proofs.Common.{◌≡◌, ℕ, ◌+◌, ◌-◌, ◌*◌, ◌/◌, ◌%◌, ◌≤◌, ◌<◌, length, get_or, refl, ◌∙◌}
 use Rattle.std.proofs.Common.{arith}
-use Rattle.std.specs.Int.{bit_at}
-use Rattle.bits.specs.Cells.{Cells}
-use Rattle.clearance.specs.Bands.{IsTiledRow}
-use Rattle.clearance.specs.Rows.{IsMarked, words_of_row}
+use Rattle.clearance.specs.Rows.{words_of_row}
 use Rattle.clearance.proofs.RowSearches.{AreUnmarked, AreUnmarked-none, unmarked_tiles}
 use Rattle.clearance.proofs.RowSearches.{unmarked_word, first_in_word, IsNextNearer-first}
 use Rattle.clearance.proofs.RowSearches.{IsNextNearer-far, IsNextNearer-none}
-use Rattle.clearance.proofs.RowWords.{IsRowOf-words, length-words_of_row}
-use Rattle.clearance.proofs.Searches.{marked_obstacle}
+use Rattle.clearance.proofs.RowWords.{length-words_of_row}
+use Rattle.clearance.proofs.Searches.{marked_tile}
 use Rattle.clearance.proofs.words.next_nearer.Goals as goal
-
--- each mark of the row lies in a tile that may have one
-tiled : (cells : Cells) (y tiles : ℕ) → IsTiledRow cells y tiles → (x : ℕ)
-    → IsMarked (words_of_row cells y) x → bit_at tiles (x / 64) ≡ 1
-tiled cells y tiles told =
-    λ x marked. told x (marked_obstacle cells y (words_of_row cells y) x
-    (IsRowOf-words cells y) marked)
 
 pub words-init : goal.words-init
 words-init g c =
@@ -33,7 +23,7 @@ words-init g c =
     record {
       rows = c.word_of.ensures.rows;
       before = unmarked_tiles words c.args.start (own + 1) c.next_tile-index.result
-          c.tiles_of-tiles.result (tiled (g.R.Rows.cells c.args.rows.now) c.args.row.y
+          c.tiles_of-tiles.result (marked_tile (g.R.Rows.cells c.args.rows.now) c.args.row.y
           c.tiles_of-tiles.result c.tiles_of-tiles.ensures) c.next_tile-index.ensures.none before;
       order = omega arith;
       few = c.next_tile-index.ensures.few;
@@ -53,7 +43,7 @@ words-preserved g c =
       rows = c.word-word.ensures.rows ∙ c.words.invariant.rows;
       before = unmarked_tiles words c.args.start (c.words.index + 1)
           c.next_tile-index-in-words.result c.tiles_of-tiles.result
-          (tiled (g.R.Rows.cells c.args.rows.now) c.args.row.y c.tiles_of-tiles.result
+          (marked_tile (g.R.Rows.cells c.args.rows.now) c.args.row.y c.tiles_of-tiles.result
           c.tiles_of-tiles.ensures) c.next_tile-index-in-words.ensures.none before;
       order = omega arith;
       few = c.next_tile-index-in-words.ensures.few;
@@ -70,13 +60,13 @@ returns-then-front-ne0-clause-next g c =
     let kept = λ (i : ℕ) (from : c.args.start % 64 ≤ i) (within : i < 64).
     rw (c.word_of.ensures.word) at (c.bits_from-front.ensures.kept i from within) in
     IsNextNearer-first _ g.met.M.Metric.stays_nearer words c.args.start c.args.edge c.args.gap
-    c.args.limit (own * 64 + p) c.right_nearer.result few c.requires.gap
+    c.args.limit (own * 64 + p) c.nearer.result few c.requires.gap
     (first_in_word words c.args.start own (c.args.start % 64) c.bits_from-front.result p
     (own * 64 + p) kept c.bits_from-front.ensures.cleared (omega arith)
     (AreUnmarked-none words c.args.start (64 * own + c.args.start % 64) (omega arith))
     c.lowest_bit.ensures.within c.lowest_bit.ensures.here c.lowest_bit.ensures.none_below
     (omega arith))
-    c.right_nearer.ensures
+    (rw (c.saturating_sub.ensures) at c.nearer.ensures)
 
 pub returns-then-from-limit-clause-next : goal.returns-then-from-limit-clause-next
 returns-then-from-limit-clause-next g c =
@@ -87,7 +77,7 @@ returns-then-from-limit-clause-next g c =
     let first = c.words.index * 64 in
     let same : 64 * c.words.index ≡ first = omega arith in
     let before = rw same at c.words.invariant.before in
-    let across : c.saturating_sub.result ≡ first - c.args.edge = omega arith in
+    let across : c.saturating_sub-in-words.result ≡ first - c.args.edge = omega arith in
     let dist : c.of.result ≡ g.M.Metric.distance (first - c.args.edge) c.args.gap =
     rw (← across) c.of.ensures in
     IsNextNearer-far _ g.met.M.Metric.stays_nearer words c.args.start c.args.edge c.args.gap
@@ -110,11 +100,11 @@ returns-then-word-ne0-clause-next g c =
     rw (c.word-word.ensures.word, c.words.invariant.rows, c.from-in-words-2.ensures) at
     (found.ensures.none_below i below) in
     IsNextNearer-first _ g.met.M.Metric.stays_nearer words c.args.start c.args.edge c.args.gap
-    c.args.limit (k * 64 + found.result) c.right_nearer-then-word-ne0.result few c.requires.gap
+    c.args.limit (k * 64 + found.result) c.nearer-then-word-ne0.result few c.requires.gap
     (first_in_word words c.args.start k 0 (get_or words k 0) found.result (k * 64 + found.result)
     (λ i from within. refl) (λ i below. absurd (omega arith)) (omega arith)
     (rw whole c.words.invariant.before) found.ensures.within here none_below (omega arith))
-    c.right_nearer-then-word-ne0.ensures
+    (rw (c.saturating_sub-then-word-ne0.ensures) at c.nearer-then-word-ne0.ensures)
 
 pub returns-clause-next : goal.returns-clause-next
 returns-clause-next g c =
