@@ -96,7 +96,7 @@ pub obstacle_within : (cells : Cells) → IsBitmap cells → (a b : ℕ) → IsO
 obstacle_within cells bitmap a b obstacle = grind (arith, nat_tests, common_steps, has-outside)
 
 -- words that are zero have no mark
-pub unmarked_row : (words : List ℕ) (a : ℕ) → ((k : ℕ) → k < length words → get_or words k 0 ≡ 0)
+unmarked_row : (words : List ℕ) (a : ℕ) → ((k : ℕ) → k < length words → get_or words k 0 ≡ 0)
     → IsMarked words a → ⊥
 unmarked_row words a blank marked = grind (arith, nat_tests, common_steps)
 

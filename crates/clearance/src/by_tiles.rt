@@ -105,10 +105,10 @@ pub fn rows_met(height: u16, band: u16, rect: Rect, reach: u16) -> (u16, u16)
     (from, end)
 }
 
-/// The first of the obstacles of a tile in rows from a first one to an end, if its distance is below
-/// the limit: away from the rectangle's first row, up if all of these rows lie above it, and down if
-/// none does, till what is found is nearer than all rows left. None of these obstacles lies fewer
-/// columns outside.
+/// The first of the obstacles of a tile in rows from a first one to an end, if its distance is
+/// below the limit: away from the rectangle's first row, up if all of these rows lie above it, and
+/// down if none does, till what is found is nearer than all rows left. None of these obstacles lies
+/// fewer columns outside.
 #[inline(always)]
 fn first_outwards<M: Metric, R: Rows>(
     rows: &mut R,
