@@ -1,7 +1,8 @@
 -- Why nothing is served.
 use Rattle.std.proofs.Common.{◌≡◌, ℕ, List, [], ◌∷◌, ◌++◌, Option, Some, None, Result, Ok, Err}
-use Rattle.std.proofs.Common.{OnOk, OnErr, IfOk, inl, inr, refl, sym, ap, subst, ◌∙◌}
-use Rattle.std.specs.Prelude.{IfErr, IfSome, MatchOption}
+use Rattle.std.proofs.Common.{OnOk, OnErr, IfOk, inl, inr, refl, sym, ap, subst, ◌∙◌, arith}
+use Rattle.std.specs.Prelude.{◌≢◌, IfErr, IfSome, MatchOption}
+use Rattle.std.specs.Result.{result_unwrap_or}
 use Rattle.metric.specs.Refusal.{refusal_text}
 use Rattle.metric.specs.Stream.{Appends, AppendsFront, Counts}
 use Rattle.metric.proofs.Appending.{Appends-more}
@@ -35,6 +36,25 @@ written_alone line failed_before failed_after before after written counts whole 
       front = written_either before after line written whole front;
     }
 
+-- a run that was refused, or whose write failed, has the status 1
+refused_status : (written : Result ℕ WriteFault) → IfOk written (λ status. status ≡ 1)
+    → result_unwrap_or written 1 ≡ 1
+refused_status (Ok status) one = one
+refused_status (Err fault) one = refl
+
+-- where no write failed, what holds of what was written holds of the status
+pub told_status : (Told : ℕ → Type 0) (written : Result ℕ WriteFault) (old new : ℕ)
+    → IfOk written Told → Counts old written new → new ≡ old → Told (result_unwrap_or written 1)
+told_status Told (Ok status) old new told counts same = told
+told_status Told (Err fault) old new told counts same = absurd (omega (arith, counts, same))
+
+-- where a write failed, what holds of a part holds, and the status is 1
+pub begun_status : (Begun : Type 0) (written : Result ℕ WriteFault) (old new : ℕ)
+    → OnErr written Begun → Counts old written new → new ≢ old
+    → Begun × (result_unwrap_or written 1 ≡ 1)
+begun_status Begun (Ok status) old new begun counts other = absurd (other counts)
+begun_status Begun (Err fault) old new begun counts other = (begun, refl)
+
 -- where a setting is bad, the line of its refusal was written alone
 pub told_setting : {A B : Type 0} (found : Option Field) (map : B) (other : Type 0)
     (result : Result A (B × Refusal)) (back : B) (refusal : Refusal)
@@ -46,7 +66,7 @@ pub told_setting : {A B : Type 0} (found : Option Field) (map : B) (other : Type
     → OnOk written (Appends before (refusal_text refusal ++ 10 ∷ []) after)
     → OnErr written (AppendsFront before (refusal_text refusal ++ 10 ∷ []) after)
     → IfSome found (λ field. WritesOnly (setting_line field) failed_before failed_after before after
-    × IfOk written (λ status. status ≡ 1))
+    × (result_unwrap_or written 1 ≡ 1))
 told_setting None map other result back refusal failed_before failed_after before after written
     limits is one counts whole front = tt
 told_setting (Some field) map other result back refusal failed_before failed_after before after
@@ -55,7 +75,7 @@ told_setting (Some field) map other result back refusal failed_before failed_aft
       subst (λ (r : Refusal). WritesOnly (refusal_text r ++ 10 ∷ []) failed_before failed_after
           before after) same (written_alone _ failed_before failed_after before after written counts
           whole front),
-      one,
+      refused_status written one,
     )
 
 -- with a valid setting the refusal is out of memory

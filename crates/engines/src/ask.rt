@@ -108,7 +108,7 @@ pub fn ask_run<S: Stream, R: Source, W: Sink>(
     }
 }
 
-/// Ends a run early, and returns its status.
+/// Ends a run early: writes why, unless a standard stream failed. Returns the status.
 fn end<W: Sink>(writer: &mut W, stop: Stop) -> u8
     requires { stop ≢ Standard → CanFail (W.failed_writes writer.old) }
     ensures status { result ≡ 1 }
@@ -118,23 +118,10 @@ fn end<W: Sink>(writer: &mut W, stop: Stop) -> u8
     ensures counts { W.failed_writes writer.new ≤ W.failed_writes writer.old + 1 }
     ensures standard { stop ≡ Standard → writer.new ≡ writer.old }
 {
-    write_end(writer, stop).unwrap_or(REFUSED)
-}
-
-/// Writes why a run ended early; nothing if a standard stream failed.
-fn write_end<W: Sink>(writer: &mut W, stop: Stop) -> Result<u8, WriteFault>
-    requires { stop ≢ Standard → CanFail (W.failed_writes writer.old) }
-    ensures status { IfOk result (λ status. status ≡ 1) }
-    ensures whole { OnOk result (Appends (W.held writer.old) (stop_text stop) (W.held writer.new)) }
-    ensures front { OnErr result
-        (AppendsFront (W.held writer.old) (stop_text stop) (W.held writer.new)) }
-    ensures counts { Counts (W.failed_writes writer.old) result (W.failed_writes writer.new) }
-    ensures standard { stop ≡ Standard → writer.new ≡ writer.old }
-{
     match stop {
-        Stop::Standard => Ok(REFUSED),
-        Stop::Net => write_net_fault(writer),
-        Stop::Memory => write_refusal(writer, Refusal::Memory),
+        Stop::Standard => REFUSED,
+        Stop::Net => write_net_fault(writer).unwrap_or(REFUSED),
+        Stop::Memory => write_refusal(writer, Refusal::Memory).unwrap_or(REFUSED),
     }
 }
 

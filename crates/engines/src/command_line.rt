@@ -10,7 +10,7 @@ ghost use Rattle.metric.specs.Kind.{metric_named};
 ghost use Rattle.engines.specs.declared.command_line.arguments.Fault.TheVariants.{Memory};
 ghost use Rattle.engines.specs.declared.command_line.arguments.Options.TheVariants.{Dist, Steps};
 ghost use Rattle.engines.specs.words.CommandLine.{AreDistOptions, AreNoDistOptions, AreOptions};
-ghost use Rattle.engines.specs.words.CommandLine.{AreTaken, default_options, dist_app, metric_rule};
+ghost use Rattle.engines.specs.words.CommandLine.{AreTaken, default_options, dist_app};
 ghost use Rattle.engines.specs.words.CommandLine.{nearest_rule, program_app, query_rule, steps_app};
 ghost use Rattle.engines.specs.words.CommandLine.{texts_of};
 ghost use Rattle.engines.specs.words.ServeLine.{default_rule, flag_text};
@@ -123,12 +123,19 @@ fn dist_command<'a>(alloc: Global) -> Result<Command<'a>, Error>
             .after_help(
                 "Standard input is an image, PBM plain (P1) or raw (P4), 1 to 4096 pixels a side; a black pixel is an\nobstacle. Each line of the answer is a row of distances, and '-' stands where there is no obstacle.\nStatus 1: a fault of the image or the line is one line in its place, as 'ERR 15 BadImage BadMagic', or a\nstandard stream failed. Status 2: the command line was refused.\n\nExamples:\n  clearmap dist --metric chess < map.pbm\n  clearmap dist --query 'AT euclid2 3 4' < map.pbm\n  clearmap dist --edge wall --nearest < map.pbm\n  clearmap dist --workers 4 < map.pbm",
             )
-            .arg(metric_flag(alloc))?
+            .arg(default_flag(
+                alloc,
+                "metric",
+                "METRIC",
+                "euclid2",
+                "The distance, in cells: euclid2 (straight, squared), city or chess",
+            ))?
             .arg(nearest_flag(alloc))?
             .arg(query_flag(alloc))?
             .arg(default_flag(
                 alloc,
                 "workers",
+                "NUMBER",
                 "1",
                 "How many workers share the rows, 1 to 16",
             ))?
@@ -149,18 +156,6 @@ fn steps_command<'a>(alloc: Global) -> Command<'a>
         .after_help(
             "The first line is OPEN and six numbers: the columns and rows of a blank map, its blocks,\nversions, sessions and the length of its log. Each line after it is one of these, and gets\none answer line:\n  A r      reader r announces the newest version that it has seen, and those after it\n  L r      it loads the newest version, and holds it if it has announced\n  M r k    it looks up the block of position k\n  T r b i  it looks at row i of block b\n  E r      it announces the version that it holds, and no other\n  V r      it leaves\n  C LINE   the keeper gets a command: PAINT x0 y0 x1 y1, CLEAR x0 y0 x1 y1, PUBLISH, REVERT, COLLECT,\n           CHECKPOINT\n  K n      the keeper does the next n steps of its command\n\nExample:\n  printf 'OPEN 64 64 3 2 1 10\\nC PAINT 0 0 1 1\\nK 1\\n' | clearmap steps",
         )
-}
-
-/// The flag `--metric`.
-fn metric_flag<'a>(alloc: Global) -> Arg<'a>
-    ensures rule { rule_of result ≡ metric_rule }
-    ensures local { result.global ≡ false }
-{
-    Arg::new(alloc, "metric")
-        .long("metric")
-        .value_name("METRIC")
-        .default_value("euclid2")
-        .help("The distance, in cells: euclid2 (straight, squared), city or chess")
 }
 
 /// The flag `--nearest`.

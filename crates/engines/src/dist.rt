@@ -1,13 +1,10 @@
 //! The command `dist`: from the bytes of an image to the text of its distances.
 
-ghost use Rattle.std.specs.Prelude.{◌≡◌, ◌≢◌, ◌+◌, ◌≤◌, ◌∷◌, ◌++◌, [], None, IfOk, OnOk, OnErr};
+ghost use Rattle.std.specs.Prelude.{◌≡◌, ◌≢◌, ◌+◌, ◌≤◌, None, IfOk, OnErr};
 ghost use Rattle.metric.specs.Kind.{distance_of};
-ghost use Rattle.metric.specs.Refusal.{image_text};
-ghost use Rattle.metric.specs.Stream.{Appends, AppendsFront, Counts, CanFail};
+ghost use Rattle.metric.specs.Stream.{Counts, CanFail};
 ghost use Rattle.engines.specs.dist.Dist.{AnswersImage, AnswersMap, BeginsToAnswerImage};
 ghost use Rattle.engines.specs.dist.Dist.{BeginsToAnswerMap};
-ghost use Rattle.engines.specs.dist.Parts.{AreShares};
-ghost use Rattle.engines.specs.dist.Table.{table_text};
 
 mod decimals;
 mod distances;
@@ -22,16 +19,14 @@ mod row_cells;
 mod table;
 mod table_writer;
 
+use crate::REFUSED;
 use crate::command_line::arguments::DistOptions;
 use crate::dist::reply::QueryReply;
 use crate::dist::table_writer::TableWriter;
 use crate::streams::output::{write_refusal, write_text};
-use crate::{DONE, REFUSED};
 use bits::Bitmap;
 use field::Workers;
-use metric::{
-    Chess, City, Euclid2, Metric, MetricKind, PbmFault, Refusal, Sink, Source, WriteFault,
-};
+use metric::{Chess, City, Euclid2, Metric, MetricKind, Refusal, Sink, Source, WriteFault};
 use pbm::{ImageStop, read_source};
 use std::alloc::Global;
 use std::thread::Threads;
@@ -73,8 +68,10 @@ pub fn dist_run<R: Source, W: Sink, T: Threads + Sync>(
 {
     match read_source(alloc, reader) {
         Ok(map) => write_answer(rt, alloc, options, &map, writer).unwrap_or(REFUSED),
-        Err(ImageStop::Fault(fault)) => write_fault(writer, fault).unwrap_or(REFUSED),
-        Err(ImageStop::Memory) => write_fault(writer, PbmFault::Memory).unwrap_or(REFUSED),
+        Err(ImageStop::Fault(fault)) => {
+            write_refusal(writer, Refusal::BadImage(fault)).unwrap_or(REFUSED)
+        }
+        Err(ImageStop::Memory) => write_refusal(writer, Refusal::Memory).unwrap_or(REFUSED),
         Err(ImageStop::Failed) => REFUSED,
     }
 }
@@ -126,7 +123,11 @@ fn write_map<M: Metric + Sync, W: Sink, T: Threads + Sync>(
 {
     let workers = workers_of(options.workers);
     match TableWriter::<M>::of(rt, alloc, map, options.edge, options.nearest, workers) {
-        Ok(print) => write_rows(rt, writer, print),
+        Ok(mut table) => {
+            table
+                .printer
+                .write_turns(rt, writer, &mut table.full, &mut table.free)
+        }
         Err(refusal) => write_refusal(writer, refusal),
     }
 }
@@ -139,43 +140,4 @@ fn workers_of(count: u32) -> Workers
         return Workers { count: count as u8 };
     }
     Workers { count: 1 }
-}
-
-/// Writes the table's lines.
-fn write_rows<M: Metric + Sync, W: Sink, T: Threads + Sync>(
-    rt: &T,
-    writer: &mut W,
-    print: TableWriter<M>,
-) -> Result<u8, WriteFault>
-    requires can_fail { CanFail (W.failed_writes writer.old) }
-    requires full { AreShares print.printer.nearest print.printer.table.width print.printer.rows
-        print.full.items }
-    requires free { AreShares print.printer.nearest print.printer.table.width print.printer.rows
-        print.free.items }
-    ensures status { IfOk result (λ status. status ≡ 0) }
-    ensures whole { OnOk result (Appends (W.held writer.old) (table_text print.printer.nearest
-        print.printer.table.width print.printer.table.height print.printer.table.nears)
-        (W.held writer.new)) }
-    ensures front { OnErr result (AppendsFront (W.held writer.old) (table_text print.printer.nearest
-        print.printer.table.width print.printer.table.height print.printer.table.nears)
-        (W.held writer.new)) }
-    ensures counts { Counts (W.failed_writes writer.old) result (W.failed_writes writer.new) }
-{
-    let mut print = print;
-    print.write(rt, writer)?;
-    writer.flush()?;
-    Ok(DONE)
-}
-
-/// Writes the line of a refused image.
-fn write_fault<W: Sink>(writer: &mut W, fault: PbmFault) -> Result<u8, WriteFault>
-    requires { CanFail (W.failed_writes writer.old) }
-    ensures status { IfOk result (λ status. status ≡ 1) }
-    ensures whole { OnOk result
-        (Appends (W.held writer.old) (image_text fault ++ 10 ∷ []) (W.held writer.new)) }
-    ensures front { OnErr result
-        (AppendsFront (W.held writer.old) (image_text fault ++ 10 ∷ []) (W.held writer.new)) }
-    ensures counts { Counts (W.failed_writes writer.old) result (W.failed_writes writer.new) }
-{
-    write_refusal(writer, Refusal::BadImage(fault))
 }

@@ -112,34 +112,9 @@ pub fn serve_run<R: Clock + Wait + Threads + Sync, W: Sink>(
         × (result ≡ 1) }
     ensures one_failure { W.failed_writes writer.new ≤ W.failed_writes writer.old + 1 }
 {
-    serve_at(rt, alloc, place, map, options.setting(), writer).unwrap_or(REFUSED)
-}
-
-/// Serves the map with a store of this setting.
-fn serve_at<R: Clock + Wait + Threads + Sync, W: Sink>(
-    rt: &R,
-    alloc: Global,
-    place: Listening,
-    map: Bitmap,
-    setting: Setting,
-    writer: &mut W,
-) -> Result<u8, WriteFault>
-    requires { CanFail (W.failed_writes writer.old) }
-    ensures setting { IfSome (bad_field (tile_count map) setting) (λ field.
-        WritesOnly (refusal_text (BadSetting field) ++ 10 ∷ []) (W.failed_writes writer.old)
-        (W.failed_writes writer.new)
-        (W.held writer.old) (W.held writer.new) × IfOk result (λ status. status ≡ 1)) }
-    ensures served { bad_field (tile_count map) setting ≡ None
-        → IfOk result (WritesServed place.port place.connections (W.held writer.old)
-        (W.held writer.new)) }
-    ensures begun { bad_field (tile_count map) setting ≡ None
-        → OnErr result (BeginsServed place.port place.connections (W.held writer.old)
-        (W.held writer.new)) }
-    ensures counts { Counts (W.failed_writes writer.old) result (W.failed_writes writer.new) }
-{
-    match Blank::of(alloc, setting, map) {
-        Ok(blank) => serve_blank::<Brand, _, _>(rt, alloc, place, blank, writer),
-        Err((_, refusal)) => write_refusal(writer, refusal),
+    match Blank::of(alloc, options.setting(), map) {
+        Ok(blank) => serve_blank::<Brand, _, _>(rt, alloc, place, blank, writer).unwrap_or(REFUSED),
+        Err((_, refusal)) => write_refusal(writer, refusal).unwrap_or(REFUSED),
     }
 }
 

@@ -66,29 +66,22 @@ fn serve_options<'a>(flags: &ArgMatches<'a>) -> Result<ServeOptions, Fault<'a>>
 }
 
 /// The edge that `--edge` names.
+#[tactic(auto, using(crate::proofs::CommandLines::text_of_flag))]
 pub fn edge_given<'a>(flags: &ArgMatches<'a>) -> Result<Edge, Fault<'a>>
     ensures { MatchResult result
         (λ edge. option_and_then edge_named (flag_text flags.now (codes "edge"))
         ≡ Some edge) (λ _. option_and_then edge_named
         (flag_text flags.now (codes "edge")) ≡ None) }
 {
-    match edge_of(flags) {
+    match flags
+        .get_str("edge")
+        .and_then(|name| Edge::named(name.as_bytes()))
+    {
         Some(edge) => Ok(edge),
         None => Err(Fault::UnknownEdge {
             name: flags.get_str("edge").unwrap_or(""),
         }),
     }
-}
-
-/// The edge of this name, if there is one.
-#[tactic(auto, using(crate::proofs::CommandLines::text_of_flag))]
-fn edge_of(flags: &ArgMatches<'_>) -> Option<Edge>
-    ensures { result ≡ option_and_then edge_named
-        (flag_text flags.now (codes "edge")) }
-{
-    flags
-        .get_str("edge")
-        .and_then(|name| Edge::named(name.as_bytes()))
 }
 
 /// The flag of `ask`.
@@ -154,11 +147,11 @@ pub fn serve_command<'a>(alloc: Global) -> Result<Command<'a>, Error>
                 "Standard input is an image, PBM plain (P1) or raw (P4), 1 to 4096 pixels a side; a black pixel is an\nobstacle. The line 'LISTENING <port>' comes once connections are accepted, and 'SERVED <connections>\n<log length>' at the end. A fault is one line on standard output in place of these, with status 1:\n'ERR 15 ..' of the image, 'FAULT net' of the port, 'ERR 16 ..' of a setting, or 'ERR 5 Memory'.\nA connection that fails counts as served.\n\nExamples:\n  clearmap serve --connections 2 < map.pbm\n  clearmap serve --connections 1000 --port 7400 --workers 8 --versions 32 < map.pbm",
             )
             .arg(required_flag(alloc, "connections", CONNECTIONS_HELP))?
-            .arg(default_flag(alloc, "port", "0", PORT_HELP))?
-            .arg(default_flag(alloc, "blocks", "16384", BLOCKS_HELP))?
-            .arg(default_flag(alloc, "versions", "8", VERSIONS_HELP))?
-            .arg(default_flag(alloc, "log", "100000", LOG_HELP))?
-            .arg(default_flag(alloc, "workers", "4", WORKERS_HELP))?
+            .arg(default_flag(alloc, "port", "NUMBER", "0", PORT_HELP))?
+            .arg(default_flag(alloc, "blocks", "NUMBER", "16384", BLOCKS_HELP))?
+            .arg(default_flag(alloc, "versions", "NUMBER", "8", VERSIONS_HELP))?
+            .arg(default_flag(alloc, "log", "NUMBER", "100000", LOG_HELP))?
+            .arg(default_flag(alloc, "workers", "NUMBER", "4", WORKERS_HELP))?
             .arg(edge_flag(alloc))?,
     )
 }
@@ -192,14 +185,20 @@ fn required_flag<'a>(alloc: Global, name: &'a str, help: &'a str) -> Arg<'a>
         .help(help)
 }
 
-/// A flag with one value and a default.
-pub fn default_flag<'a>(alloc: Global, name: &'a str, value: &'a str, help: &'a str) -> Arg<'a>
+/// A flag with one value, which the help calls `kind`, and a default.
+pub fn default_flag<'a>(
+    alloc: Global,
+    name: &'a str,
+    kind: &'a str,
+    value: &'a str,
+    help: &'a str,
+) -> Arg<'a>
     ensures rule { rule_of result ≡ default_rule name.entry.now value.entry.now }
     ensures local { result.global ≡ false }
 {
     Arg::new(alloc, name)
         .long(name)
-        .value_name("NUMBER")
+        .value_name(kind)
         .default_value(value)
         .help(help)
 }
@@ -209,9 +208,6 @@ pub fn edge_flag<'a>(alloc: Global) -> Arg<'a>
     ensures rule { rule_of result ≡ default_rule (codes "edge") (codes "open") }
     ensures local { result.global ≡ false }
 {
-    Arg::new(alloc, "edge")
-        .long("edge")
-        .value_name("EDGE")
-        .default_value("open")
-        .help("What the border is: open, or a wall, of obstacles one cell outside")
+    let help = "What the border is: open, or a wall, of obstacles one cell outside";
+    default_flag(alloc, "edge", "EDGE", "open", help)
 }

@@ -1,10 +1,11 @@
 //! Writes a table: several workers make the lines of its rows.
 
-ghost use Rattle.std.specs.Prelude.{◌≡◌, ◌+◌, ◌*◌, ◌<◌, ◌≤◌, OnOk, OnErr, length};
+ghost use Rattle.std.specs.Prelude.{◌≡◌, ◌+◌, ◌*◌, ◌<◌, ◌≤◌, IfOk, OnOk, OnErr, length};
 ghost use Rattle.std.specs.Thread.{IsSync};
 ghost use Rattle.metric.specs.Stream.{Appends, AppendsFront, Counts, CanFail};
 ghost use Rattle.engines.specs.dist.Table.{table_text};
 
+use crate::DONE;
 use crate::dist::decimals::Decimals;
 use crate::dist::parts::WorkerLines;
 use crate::dist::table::Table;
@@ -36,20 +37,22 @@ pub struct Printer<M: Metric> {
 impl<M: Metric + Sync> Printer<M> {
     ghost use Rattle.engines.specs.dist.Parts.{AreShares, HasRows, IsShare, ShareRows, parts_text};
 
-    /// Writes the lines of all rows. In each turn it writes what the full parts hold while the
-    /// workers fill the free ones with the rows after those. Then the two sets swap roles.
+    /// Writes the lines of all rows, and returns the status of a run that did so. In each turn it
+    /// writes what the full parts hold while the workers fill the free ones with the rows after
+    /// those. Then the two sets swap roles.
     pub fn write_turns<W: Sink, R: Threads + Sync>(
         &self,
         rt: &R,
         writer: &mut W,
         full: &mut Vec<WorkerLines>,
         free: &mut Vec<WorkerLines>,
-    ) -> Result<(), WriteFault>
+    ) -> Result<u8, WriteFault>
         requires can_fail { CanFail (W.failed_writes writer.old) }
         requires full { AreShares self.now.nearest self.now.table.width self.now.rows
             full.old.items }
         requires free { AreShares self.now.nearest self.now.table.width self.now.rows
             free.old.items }
+        ensures status { IfOk result (λ status. status ≡ 0) }
         ensures all { OnOk result (Appends (W.held writer.old) (table_text self.now.nearest
             self.now.table.width self.now.table.height self.now.table.nears) (W.held writer.new)) }
         ensures front { OnErr result (AppendsFront (W.held writer.old) (table_text self.now.nearest
@@ -64,7 +67,8 @@ impl<M: Metric + Sync> Printer<M> {
             from = row_after(from, self.rows, full.len());
             swap(full, free);
         }
-        Ok(())
+        writer.flush()?;
+        Ok(DONE)
     }
 
     /// Writes what the full parts hold, the rows from this one on, and fills the free ones with the

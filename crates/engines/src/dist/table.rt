@@ -96,50 +96,16 @@ impl<M: Metric + Sync> Table<M> {
             y1: height,
         };
         if nearest {
-            return Table::of_obstacles(rt, alloc, &batch, workers);
+            let obstacles = ObstacleTable::<M>::of(rt, alloc, &batch, workers, &Passing)?;
+            return Ok(Table {
+                width,
+                height,
+                kept: Kept::Obstacles(obstacles),
+            });
         }
-        Table::of_distances(rt, alloc, &batch, workers)
-    }
-
-    /// The nearest obstacles of all cells of a bitmap.
-    fn of_obstacles<T: Threads + Sync>(
-        rt: &T,
-        alloc: Global,
-        batch: &Batch<'_>,
-        workers: Workers,
-    ) -> Result<Self, Refusal>
-        requires below { IsBelowNone M.distance }
-        requires from { batch.now.y0 ≡ 0 }
-        requires to { batch.now.y1 ≡ batch.now.bitmap.now.height }
-        ensures table { IfOk result (IsTableOf M.distance batch.now.edge batch.now.bitmap.now) }
-        ensures nearest { IfOk result (λ table. table.nearest ≡ true) }
-        ensures memory { IfErr result (λ refusal. refusal ≡ Memory) }
-    {
-        let (width, height) = (batch.bitmap.width(), batch.bitmap.height());
-        let obstacles = ObstacleTable::<M>::of(rt, alloc, batch, workers, &Passing)?;
-        Ok(Table {
-            width,
-            height,
-            kept: Kept::Obstacles(obstacles),
-        })
-    }
-
-    /// The distances of all cells of a bitmap.
-    fn of_distances<T: Threads + Sync>(
-        rt: &T,
-        alloc: Global,
-        batch: &Batch<'_>,
-        workers: Workers,
-    ) -> Result<Self, Refusal>
-        requires below { IsBelowNone M.distance }
-        requires from { batch.now.y0 ≡ 0 }
-        requires to { batch.now.y1 ≡ batch.now.bitmap.now.height }
-        ensures table { IfOk result (IsTableOf M.distance batch.now.edge batch.now.bitmap.now) }
-        ensures nearest { IfOk result (λ table. table.nearest ≡ false) }
-        ensures memory { IfErr result (λ refusal. refusal ≡ Memory) }
-    {
-        let (width, height) = (batch.bitmap.width(), batch.bitmap.height());
-        let distances = CompactDistances::of::<M, Passing, T>(rt, alloc, batch, workers, &Passing)?;
+        let distances = CompactDistances::of::<M, Passing, T>(
+            rt, alloc, &batch, workers, &Passing,
+        )?;
         Ok(Table {
             width,
             height,

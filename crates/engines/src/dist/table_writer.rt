@@ -1,10 +1,8 @@
-//! Writes the lines of a table, which workers make in parallel.
+//! A table with all that is needed to write its lines, which workers make in parallel.
 
-ghost use Rattle.std.specs.Prelude.{◌≡◌, IfErr, IfOk, OnErr, OnOk, vec_len};
-ghost use Rattle.metric.specs.Stream.{Appends, AppendsFront, Counts, CanFail};
+ghost use Rattle.std.specs.Prelude.{◌≡◌, IfErr, IfOk, vec_len};
 ghost use Rattle.metric.specs.declared.refusal.Refusal.TheVariants.{Memory};
 ghost use Rattle.engines.specs.dist.Parts.{AreShares};
-ghost use Rattle.engines.specs.dist.Table.{table_text};
 ghost use Rattle.engines.specs.dist.Tabled.{IsBelowNone, IsTableOf};
 
 use crate::dist::decimals::Decimals;
@@ -13,7 +11,7 @@ use crate::dist::printer::Printer;
 use crate::dist::table::Table;
 use bits::Bitmap;
 use field::Workers;
-use metric::{Edge, Metric, Refusal, Sink, WriteFault};
+use metric::{Edge, Metric, Refusal};
 use std::alloc::Global;
 use std::thread::Threads;
 
@@ -64,28 +62,5 @@ impl<M: Metric + Sync> TableWriter<M> {
             full: WorkerLines::several(alloc, nearest, width, rows, count)?,
             free: WorkerLines::several(alloc, nearest, width, rows, count)?,
         })
-    }
-
-    /// Writes the lines of all rows.
-    pub fn write<W: Sink, T: Threads + Sync>(
-        &mut self,
-        rt: &T,
-        writer: &mut W,
-    ) -> Result<(), WriteFault>
-        requires can_fail { CanFail (W.failed_writes writer.old) }
-        requires full { AreShares self.old.printer.nearest self.old.printer.table.width
-            self.old.printer.rows self.old.full.items }
-        requires free { AreShares self.old.printer.nearest self.old.printer.table.width
-            self.old.printer.rows self.old.free.items }
-        ensures all { OnOk result (Appends (W.held writer.old) (table_text self.old.printer.nearest
-            self.old.printer.table.width self.old.printer.table.height
-            self.old.printer.table.nears) (W.held writer.new)) }
-        ensures front { OnErr result (AppendsFront (W.held writer.old) (table_text
-            self.old.printer.nearest self.old.printer.table.width self.old.printer.table.height
-            self.old.printer.table.nears) (W.held writer.new)) }
-        ensures counts { Counts (W.failed_writes writer.old) result (W.failed_writes writer.new) }
-    {
-        self.printer
-            .write_turns(rt, writer, &mut self.full, &mut self.free)
     }
 }

@@ -30,11 +30,7 @@ impl Pause {
         ensures { self.new.next ≡ min (self.old.next * 2) 1000 }
     {
         thread::sleep(clock, Duration::from_millis(u64::from(self.next)));
-        self.next = if self.next < MOST / 2 {
-            self.next * 2
-        } else {
-            MOST
-        };
+        self.next = self.next.saturating_mul(2).min(MOST);
     }
 
     /// Resets the next wait to the first, after an accepted connection.

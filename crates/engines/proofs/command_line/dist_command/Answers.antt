@@ -14,9 +14,9 @@ returns-clause-app c =
       c.after_help.ensures,
     ) in
     c.in_ok-arg-5.ensures.shape c.edge_flag.ensures.local
-    ∙ ap₂ with_rule (c.in_ok-arg-4.ensures.shape c.default_flag.ensures.local
+    ∙ ap₂ with_rule (c.in_ok-arg-4.ensures.shape c.default_flag-2.ensures.local
     ∙ ap₂ with_rule (c.in_ok-arg-3.ensures.shape c.query_flag.ensures.local
     ∙ ap₂ with_rule (c.in_ok-arg-2.ensures.shape c.nearest_flag.ensures.local
-    ∙ ap₂ with_rule (c.in_ok-arg.ensures.shape c.metric_flag.ensures.local
-    ∙ ap₂ with_rule start c.metric_flag.ensures.rule) c.nearest_flag.ensures.rule)
-    c.query_flag.ensures.rule) c.default_flag.ensures.rule) c.edge_flag.ensures.rule
+    ∙ ap₂ with_rule (c.in_ok-arg.ensures.shape c.default_flag.ensures.local
+    ∙ ap₂ with_rule start c.default_flag.ensures.rule) c.nearest_flag.ensures.rule)
+    c.query_flag.ensures.rule) c.default_flag-2.ensures.rule) c.edge_flag.ensures.rule

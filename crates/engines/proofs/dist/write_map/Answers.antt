@@ -9,19 +9,19 @@ use Rattle.engines.proofs.dist.write_map.Goals as goal
 pub returns-in-Ok-clause-whole : goal.returns-in-Ok-clause-whole
 returns-in-Ok-clause-whole g c =
     let options = c.args.options.now in
-    let table = c.in-Ok.print.printer.table in
-    map_of_table c.write_rows.result options c.args.map.now
+    let table = c.in-Ok.table.printer.table in
+    map_of_table c.write_turns.result options c.args.map.now
     (table_text options.nearest table.width table.height table.nears) _ _
     (asked_of_table options c.args.map.now g.M.Metric.distance table c.requires.table
     c.requires.metric c.in-Ok.ensures.asked c.in-Ok.ensures.table)
-    c.write_rows.ensures.status
-    (rw c.in-Ok.ensures.nearest at c.write_rows.ensures.whole)
+    c.write_turns.ensures.status
+    (rw c.in-Ok.ensures.nearest at c.write_turns.ensures.all)
 
 pub returns-in-Ok-clause-front : goal.returns-in-Ok-clause-front
 returns-in-Ok-clause-front g c =
     let options = c.args.options.now in
-    let table = c.in-Ok.print.printer.table in
-    on_err_weaker c.write_rows.result
+    let table = c.in-Ok.table.printer.table in
+    on_err_weaker c.write_turns.result
     (λ front. (
       table_text options.nearest table.width table.height table.nears,
       0,
@@ -29,7 +29,7 @@ returns-in-Ok-clause-front g c =
           c.requires.metric c.in-Ok.ensures.asked c.in-Ok.ensures.table,
       front,
     ))
-    (rw c.in-Ok.ensures.nearest at c.write_rows.ensures.front)
+    (rw c.in-Ok.ensures.nearest at c.write_turns.ensures.front)
 
 pub returns-in-Err-clause-front : goal.returns-in-Err-clause-front
 returns-in-Err-clause-front g c =

@@ -3,7 +3,7 @@
 use Rattle.std.proofs.Common.{◌≡◌, ◌+◌, ◌*◌, ◌∙◌, refl, length, min, arith, rules}
 use Rattle.std.proofs.lemmas.List.{with_items_is}
 use Rattle.std.proofs.lemmas.Result.{err_from_is_err_and}
-use Rattle.metric.proofs.Appending.{Appends-nothing}
+use Rattle.metric.proofs.Appending.{Appends-nothing, AppendsFront-whole}
 use Rattle.engines.specs.dist.Parts.{ShareRows}
 use Rattle.engines.proofs.RowLemmas.{rows_text-none}
 use Rattle.engines.proofs.PartLemmas.{Appends-parts, AppendsFront-parts, AreParts-put}
@@ -70,5 +70,22 @@ returns-clause-all g c =
     let table = c.args.self.now.table in
     let height = c.turns.invariant.height_is in
     let last : min table.height c.turns.from ≡ table.height = omega arith in
-    rw (table_text-between c.args.self.now.nearest table.width table.height table.nears)
+    rw (
+      c.flush.ensures.held,
+      table_text-between c.args.self.now.nearest table.width table.height table.nears,
+    )
     (rw last at c.turns.invariant.written)
+
+pub returns-in_err-flush-clause-front : goal.returns-in_err-flush-clause-front
+returns-in_err-flush-clause-front g c =
+    let table = c.args.self.now.table in
+    let height = c.turns.invariant.height_is in
+    let last : min table.height c.turns.from ≡ table.height = omega arith in
+    let p = err_from_is_err_and c.from_residual-in_err-flush.result
+    c.from_residual-in_err-flush.ensures.1 in
+    rw (
+      p.1,
+      c.flush.ensures.held,
+      table_text-between c.args.self.now.nearest table.width table.height table.nears,
+    )
+    (AppendsFront-whole _ _ _ (rw last at c.turns.invariant.written))
