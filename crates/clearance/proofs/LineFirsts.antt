@@ -25,13 +25,13 @@ use Rattle.std.proofs.lemmas.Grind.{common_steps}
 use Rattle.std.proofs.lemmas.Bool.Decides.{nat_tests}
 
 -- an obstacle of a row is one of the map
-pub black_of_row : (cells : Cells) (y : ℕ) (a b : ℤ) → IsBlackInRow cells y a b → IsBlack cells a b
+black_of_row : (cells : Cells) (y : ℕ) (a b : ℤ) → IsBlackInRow cells y a b → IsBlack cells a b
 black_of_row cells y (pos a) (pos b) black = black.0
 black_of_row cells y (pos a) (negsuc b) none = absurd none
 black_of_row cells y (negsuc a) b none = absurd none
 
 -- a line that has an obstacle near still has it among more of them
-pub near_more : (distance : ℕ → ℕ → ℕ) (Fewer More : ℤ → ℤ → Type 0) (strip : Strip) (limit k : ℕ)
+near_more : (distance : ℕ → ℕ → ℕ) (Fewer More : ℤ → ℤ → Type 0) (strip : Strip) (limit k : ℕ)
     → ((a b : ℤ) → Fewer a b → More a b)
     → IsLineNear distance Fewer strip limit k → IsLineNear distance More strip limit k
 near_more distance Fewer More strip limit k more near = grind (arith, nat_tests, common_steps)

@@ -116,7 +116,7 @@ no_obstacle cells y a bitmap blank obstacle =
     blank k (omega (arith, length-words_of_row cells y)))
     (obstacle_marked cells y (words_of_row cells y) a bitmap (IsRowOf-words cells y) obstacle)
 
--- a row without an obstacle lowers nothing
+-- the least so far stays after a row without an obstacle
 pub IsLoweredBy-blank : (distance : ℕ → ℕ → ℕ) (cells : Cells) (rect : Rect) (y gap before : ℕ)
     → IsBitmap cells → IsBlankRow cells y
     → IsLoweredBy distance (IsObstacle cells) rect y gap before before

@@ -53,7 +53,7 @@ IsSpotBelow-same distance One Other rect limit (Some best) there back first =
     grind (arith, nat_tests, common_steps)
 
 -- a cell of a row comes before those that are no nearer and not to its left
-pub IsSpotBelow-first : (distance : ℕ → ℕ → ℕ) (Obstacle : ℕ → ℕ → Type 0) (rect : Rect)
+IsSpotBelow-first : (distance : ℕ → ℕ → ℕ) (Obstacle : ℕ → ℕ → Type 0) (rect : Rect)
     (limit column row dist : ℕ) (next : Option Found)
     → dist ≡ rect_distance distance rect column row → Obstacle column row
     → ((a b : ℕ) → Obstacle a b → (b ≡ row) × (column ≤ a)
@@ -68,7 +68,7 @@ IsSpotBelow-first distance Obstacle rect limit column row dist (Some next) is ob
     grind (arith, nat_tests, common_steps)
 
 -- the leftmost of a word's cells from the rectangle's first column on is the nearest
-pub nearest_on_right : (distance : ℕ → ℕ → ℕ) → StaysNearer distance
+nearest_on_right : (distance : ℕ → ℕ → ℕ) → StaysNearer distance
     → (rect : Rect) (tile y word gap column : ℕ) → gap ≡ row_gap rect y → gap ≤ 4097 → tile < 64
     → rect.x0 ≤ column
     → ((a : ℕ) → a / 64 ≡ tile → bit_at word (a % 64) ≡ 1 → column ≤ a)
@@ -87,7 +87,7 @@ nearest_on_right distance stays rect tile y word gap column gap_is few in_map fr
     )
 
 -- a word's cells to the left of another one are no nearer, where all are left of the rectangle
-pub farther_on_left : (distance : ℕ → ℕ → ℕ) → StaysNearer distance
+farther_on_left : (distance : ℕ → ℕ → ℕ) → StaysNearer distance
     → (rect : Rect) (tile y word gap column limit : ℕ) → gap ≡ row_gap rect y → gap ≤ 4097
     → column < rect.x0 → IsFar (distance (rect.x0 - column) gap) limit
     → (a b : ℕ) → IsInWord tile y word a b → a ≤ column

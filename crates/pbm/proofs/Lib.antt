@@ -20,6 +20,6 @@ mod Lines
 mod RawRows
 mod RowReads
 mod PlainWords
-pub mod Following
+mod Following
 mod Prefixes
 mod Taken

@@ -55,7 +55,7 @@ rows_failed cells old between new from to all piece order within is first next =
     ) failed))
 
 -- a text that was written, or whose write failed, is said with the end that its write comes to
-pub said_after : (written : Result (Unit {0}) WriteFault) (end : Option End) (old new : Wire)
+said_after : (written : Result (Unit {0}) WriteFault) (end : Option End) (old new : Wire)
     (text : List ℕ) → end ≡ end_after written → HasPut written old text new
     → IsSaid end old text new
 said_after (Ok done) end old new text is put = rw is put
