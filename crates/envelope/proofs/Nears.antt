@@ -184,8 +184,8 @@ AreRowValues-said says unset d cells edge y entries values grows bitmap within r
           };
     }
 
--- values that say what an answer tells are answers
 -- values of a row that say what an answer tells are its answers
+pub AreRowAnswers-values : {T : Type 0} (told : Reading T) (nothing : T) (d : ℕ → ℕ → ℕ)
     (cells : Cells) (edge : Edge) (y count : ℕ) (answers : List T)
     → AreRowValues (λ distance x y answer near. told distance x y answer ≡ near) nothing d cells
     edge y count answers
