@@ -90,7 +90,7 @@ row_blank map words y start across shape row start_is across_is blank k within =
     (λ i past bit. bit_at-zero i)) ∙ (grind arith)
 
 -- a map in bits has no obstacle in a band that is said to be blank
-IsBanded-rows : (map : ClearmapBits) (words : List ℕ) → IsSide map.width → IsSide map.height
+pub IsBanded-rows : (map : ClearmapBits) (words : List ℕ) → IsSide map.width → IsSide map.height
     → map.blank_bands < 2 ^ 64 → IsBanded (cells_of_rows map words) (bit_not w64 map.blank_bands)
 IsBanded-rows map words wide high fits x y obstacle =
     let inside = has-outside _ (IsBitmap-cells_where _ _ _ wide high) x y obstacle in

@@ -11,7 +11,7 @@ use Rattle.libclearmap.specs.Statuses.{marks_status}
 use Rattle.libclearmap.proofs.CopyLemmas.{obstacle_bit}
 
 -- a word of a blank tile is 0
-blank_word : (cells : Cells) (y k : ℕ) → k < words_across cells.width
+pub blank_word : (cells : Cells) (y k : ℕ) → k < words_across cells.width
     → IsBlankTile cells (y / 64) k → get_or (words_of_row cells y) k 0 ≡ 0
 blank_word cells y k within blank =
     rw (word_in_row cells y k within) (same_from_bits_below 64 _ 0 (word_where-lt _ 64) (omega arith)

@@ -38,7 +38,7 @@ obstacle_found map words x y wide high obstacle =
     grind (arith, nat_tests, has-cells_where)
 
 -- a map in bits has no obstacle in a tile that is known to be blank
-IsTiled-marks : (map : ClearmapBits) (words : List ℕ) (band : ℕ) → map.tiles ≢ 0
+pub IsTiled-marks : (map : ClearmapBits) (words : List ℕ) (band : ℕ) → map.tiles ≢ 0
     → IsSide map.width → IsSide map.height → get_or words (map.tiles + band) 0 < 2 ^ 64
     → IsTiled (cells_of_bits map words) band (bit_not w64 (get_or words (map.tiles + band) 0))
 IsTiled-marks map words band some wide high fits x y obstacle here =
@@ -46,7 +46,7 @@ IsTiled-marks map words band some wide high fits x y obstacle here =
     grind (arith, nat_tests, bit_at_not w64 (get_or words (map.tiles + band) 0) (x / 64) fits)
 
 -- a map in bits has no obstacle in a band that is known to be blank
-IsBanded-bits : (map : ClearmapBits) (words : List ℕ) → IsSide map.width → IsSide map.height
+pub IsBanded-bits : (map : ClearmapBits) (words : List ℕ) → IsSide map.width → IsSide map.height
     → (bands : ℕ) → IsBanded (cells_of_rows map words) bands
     → IsBanded (cells_of_bits map words) bands
 IsBanded-bits map words wide high bands banded x y obstacle =
