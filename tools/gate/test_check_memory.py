@@ -33,6 +33,7 @@ MADE_UP = (
     "        Err(AllocError)",
     "        Wrapped { why: AllocError }",
     "        Err(AllocFailed { value })",
+    "        Err(AllocError::from(why))",
     "        Err(OUTSIDE) => MEMORY,",
     "    const FULL: u32 = MEMORY;",
     "    fn from(_words: Words) -> Refusal {\n        Refusal::Memory\n    }",
@@ -59,6 +60,7 @@ PASSED_ON = (
     "    fn from(_refused: AllocError) -> Refusal {\n        Refusal::Memory\n    }",
     "    fn from(_refused: AllocFailed<T>) -> Refusal {\n        Refusal::Memory\n    }",
     "    pub fn new(alloc: Global) -> Result<Self, AllocError> {",
+    "        let kept = Box::new(alloc, kept).map_err(AllocError::from)?;",
     "        Err(_) => Err(MEMORY),",
     "pub const MEMORY: u32 = 10;",
 )

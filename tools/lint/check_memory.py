@@ -2,10 +2,11 @@
 """Checks that being out of memory is never made up: each `Memory` comes from a refused allocation.
 
 A value that says so is made in a `From` of the toolchain's `AllocError` or `AllocFailed`, and
-reaches callers by `?` and by arms each of whose alternatives names it already. It is written with
-its type's name, so that a line shows it: no import brings it alone. The status of the library for C
-that says so (`MEMORY`) stands on an arm for an error, and its text on an arm for the value. Any
-other line that makes one is listed, and the status is 1. Tests may make them.
+reaches callers by `?`, after `map_err(AllocError::from)` too, and by arms each of whose
+alternatives names it already. It is written with its type's name, so that a line shows it: no
+import brings it alone. The status of the library for C that says so (`MEMORY`) stands on an arm for
+an error, and its text on an arm for the value. Any other line that makes one is listed, and the
+status is 1. Tests may make them.
 
 What that doesn't show: that an allocation was needed, or that it wasn't larger than it had to be;
 of which error `MEMORY` is told; what a macro writes, or a text that is put together from parts.
@@ -27,7 +28,7 @@ GUARD = re.compile(r"\bif\b(?! let\b)")
 CONVERSION = re.compile(r"fn from\(\w+: Alloc(Error|Failed<\w+>)\)")
 STATUS = re.compile(r"\bMEMORY\b")
 STATUS_OF_AN_ERROR = re.compile(r"Err\(_\) => (Err\()?MEMORY\b|^pub const MEMORY\b")
-REFUSED_GROWTH = re.compile(r"\bAllocError\b(?!>)|\bAllocFailed\b(?:::<[^>]*>)?\s*\{")
+REFUSED_GROWTH = re.compile(r"\bAllocError\b(?!>|::from\)\?)|\bAllocFailed\b(?:::<[^>]*>)?\s*\{")
 
 # The other places, one line each, with why it is no invention.
 ALLOWED = {

@@ -48,8 +48,9 @@ fn write_or_fail<W: Sink>(writer: &mut W, text: &[u8], status: u8) -> u8
 }
 
 /// Reports that memory has run out. Returns the status.
-fn tell_memory<W: Sink>(writer: &mut W) -> u8
-    requires { CanFail (W.failed_writes writer.old) }
+fn tell_memory<W: Sink>(writer: &mut W, refusal: Refusal) -> u8
+    requires writer { CanFail (W.failed_writes writer.old) }
+    requires memory { refusal ≡ Refusal.Memory }
     ensures written { W.failed_writes writer.new ≡ W.failed_writes writer.old
         → Appends (W.held writer.old) (refusal_text Refusal.Memory ++ 10 ∷ []) (W.held writer.new) }
     ensures failed { W.failed_writes writer.new ≢ W.failed_writes writer.old
@@ -57,7 +58,7 @@ fn tell_memory<W: Sink>(writer: &mut W) -> u8
     ensures one_failure { W.failed_writes writer.new ≤ W.failed_writes writer.old + 1 }
     ensures status { result ≡ 1 }
 {
-    write_refusal(writer, Refusal::Memory).unwrap_or(REFUSED)
+    write_refusal(writer, refusal).unwrap_or(REFUSED)
 }
 
 /// Reports on `errors` why words are refused, or prints on the writer what they ask for. Returns
@@ -84,11 +85,12 @@ pub fn tell<W: Sink, E: Sink>(
         ≤ W.failed_writes writer.old + E.failed_writes errors.old + 1 }
 {
     match fault {
-        Fault::Memory => return tell_memory(writer),
+        Fault::Memory => return tell_memory(writer, Refusal::Memory),
         _ => {}
     }
-    let Ok(text) = text_of(alloc, fault) else {
-        return tell_memory(writer);
+    let text = match text_of(alloc, fault) {
+        Ok(text) => text,
+        Err(refused) => return tell_memory(writer, Refusal::from(refused)),
     };
     let status = status_of(fault);
     if status == MISTAKEN {

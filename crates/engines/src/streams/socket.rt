@@ -59,6 +59,14 @@ pub enum NoSocket {
 }
 
 impl NoSocket {
+    /// Why a connection whose buffers couldn't be made isn't a stream.
+    fn unbuffered(fault: &io::Error, stream: TcpStream) -> NoSocket {
+        match fault.kind() {
+            ErrorKind::OutOfMemory => NoSocket::Memory(stream),
+            _ => NoSocket::Broken,
+        }
+    }
+
     /// Tells the peer if memory has run out, and ends the connection.
     pub fn tell(self) {
         if let NoSocket::Memory(mut stream) = self
@@ -100,10 +108,7 @@ impl Socket {
         }
         let (mut reader, replies) = match buffers(alloc) {
             Ok(buffers) => buffers,
-            Err(fault) if fault.kind() == ErrorKind::OutOfMemory => {
-                return Err(NoSocket::Memory(stream));
-            }
-            Err(_) => return Err(NoSocket::Broken),
+            Err(fault) => return Err(NoSocket::unbuffered(&fault, stream)),
         };
         reader.get_mut().0 = Some(stream);
         Ok(Socket {
