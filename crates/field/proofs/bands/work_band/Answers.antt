@@ -5,9 +5,7 @@ use Rattle.field.proofs.bands.work_band.Goals as goal
 pub returns-clause-rows : goal.returns-clause-rows
 returns-clause-rows g c =
     let batch = c.args.shared.now.batch.now in
-    let own = c.new-own.ensures in
-    let rows = c.band_rows-y0.ensures in
-    let answers = rw (own.bitmap, own.edge, own.from, own.to, rows.from, rows.to)
-    at c.fill.ensures.rows in
+    let answers = rw (c.band_rows-y0.ensures.from, c.band_rows-y0.ensures.to) at c.fill.ensures.rows
+    in
     on_ok c.fill.result (AreNears-answers g.M.Metric.distance batch.bitmap.now batch.edge _ _
     c.fill.new.answers) answers
