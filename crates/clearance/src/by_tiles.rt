@@ -50,9 +50,19 @@ pub fn first_in_tile<M: Metric, R: Rows>(
         return None;
     }
     let middle = from.max(rect.y0).min(end);
-    let below = first_outwards::<M, R>(rows, tile, (middle, end), false, columns, rect, limit);
+    let down = Way {
+        from: middle,
+        end,
+        up: false,
+    };
+    let below = first_outwards::<M, R>(rows, tile, down, columns, rect, limit);
+    let up = Way {
+        from,
+        end: middle,
+        up: true,
+    };
     let next = limit_with(limit, below);
-    let above = first_outwards::<M, R>(rows, tile, (from, middle), true, columns, rect, next);
+    let above = first_outwards::<M, R>(rows, tile, up, columns, rect, next);
     merged(rect.y0, below, above)
 }
 
@@ -105,6 +115,30 @@ pub fn rows_met(height: u16, band: u16, rect: Rect, reach: u16) -> (u16, u16)
     (from, end)
 }
 
+/// Rows from a first one to an end, and whether they are searched from the last one up.
+#[derive(Clone, Copy)]
+struct Way {
+    from: u16,
+    end: u16,
+    up: bool,
+}
+
+impl Way {
+    /// The row at this step.
+    #[inline(always)]
+    fn row(self, step: u16) -> u16
+        requires { step < self.end - self.from }
+        ensures up { self.up ≡ true → result + step + 1 ≡ self.end }
+        ensures down { self.up ≡ false → result ≡ self.from + step }
+    {
+        if self.up {
+            self.end - 1 - step
+        } else {
+            self.from + step
+        }
+    }
+}
+
 /// The first of the obstacles of a tile in rows from a first one to an end, if its distance is
 /// below the limit: away from the rectangle's first row, up if all of these rows lie above it, and
 /// down if none does, till what is found is nearer than all rows left. None of these obstacles lies
@@ -113,28 +147,27 @@ pub fn rows_met(height: u16, band: u16, rect: Rect, reach: u16) -> (u16, u16)
 fn first_outwards<M: Metric, R: Rows>(
     rows: &mut R,
     tile: u16,
-    span: (u16, u16),
-    up: bool,
+    way: Way,
     columns: u16,
     rect: Rect,
     limit: u64,
 ) -> Option<Found>
     requires bitmap { IsBitmap (R.cells rows.old) }
     requires tile { tile < words_across (R.cells rows.old).width }
-    requires order { span.0 ≤ span.1 }
-    requires above { up ≡ true → span.0 < span.1 → span.1 ≤ rect.y0 }
-    requires below { up ≡ false → span.0 < span.1 → rect.y0 ≤ span.0 }
-    requires end { span.1 ≤ (R.cells rows.old).height }
+    requires order { way.from ≤ way.end }
+    requires above { way.up ≡ true → way.from < way.end → way.end ≤ rect.y0 }
+    requires below { way.up ≡ false → way.from < way.end → rect.y0 ≤ way.from }
+    requires end { way.end ≤ (R.cells rows.old).height }
     requires columns { columns ≤ MOST_SIDE }
     requires apart { (a b : ℕ) → IsObstacle (R.cells rows.old) a b → a / WORD_CELLS ≡ tile
-        → span.0 ≤ b → b < span.1 → columns ≤ column_gap rect a }
-    ensures first { IsSpotBelow M.distance (IsInTileRows (R.cells rows.old) tile span.0 span.1)
+        → way.from ≤ b → b < way.end → columns ≤ column_gap rect a }
+    ensures first { IsSpotBelow M.distance (IsInTileRows (R.cells rows.old) tile way.from way.end)
         rect limit result }
     ensures rows { rows.new ≡ rows.old }
 {
     let mut best = None;
-    'rows: for step in 0..span.1 - span.0 {
-        let y = row_of_step(span, up, step);
+    'rows: for step in 0..way.end - way.from {
+        let y = way.row(step);
         if is_nearer_than_row::<M>(best, columns, rect, y) {
             return best;
         }
@@ -142,16 +175,6 @@ fn first_outwards<M: Metric, R: Rows>(
         best = with_word::<M>(best, word, tile, y, rect, limit);
     }
     best
-}
-
-/// The row at this step through rows from a first one to an end.
-#[inline(always)]
-fn row_of_step(span: (u16, u16), up: bool, step: u16) -> u16
-    requires { step < span.1 - span.0 }
-    ensures up { up ≡ true → result + step + 1 ≡ span.1 }
-    ensures down { up ≡ false → result ≡ span.0 + step }
-{
-    if up { span.1 - 1 - step } else { span.0 + step }
 }
 
 /// Whether what is found is nearer than cells this many columns away in row `y`, and so than those

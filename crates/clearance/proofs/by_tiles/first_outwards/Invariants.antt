@@ -9,6 +9,6 @@ invariant-rows g l = record {
   rows : l.rows ≡ l.fn.rows;
   first : IsSpotBelow g.M.Metric.distance
       (IsInTileRows (g.R.Rows.cells l.fn.rows) l.tile
-      (seen_from l.up l.fn.span.0 l.fn.span.1 l.step)
-      (seen_end l.up l.fn.span.0 l.fn.span.1 l.step)) l.rect l.limit l.best;
+      (seen_from l.fn.way.up l.fn.way.from l.fn.way.end l.step)
+      (seen_end l.fn.way.up l.fn.way.from l.fn.way.end l.step)) l.rect l.limit l.best;
 }
