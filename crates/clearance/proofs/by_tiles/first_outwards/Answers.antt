@@ -27,7 +27,8 @@ rows-preserved g c =
 pub returns-then-is_nearer_than_row-clause-first : goal.returns-then-is_nearer_than_row-clause-first
 returns-then-is_nearer_than_row-clause-first g c =
     IsSpotBelow-steps_left g.M.Metric.distance g.met.M.Metric.grows g.met.M.Metric.stays_nearer
-    (g.R.Rows.cells c.args.rows.now) c.args.rect c.args.tile c.args.columns c.args.way.up c.args.way.from
+    (g.R.Rows.cells c.args.rows.now) c.args.rect c.args.tile c.args.columns c.args.way.up
+    c.args.way.from
     c.args.way.end c.rows.step c.row-y.result c.args.limit c.rows.best c.requires.bitmap
     c.requires.apart (c.if-is_nearer_than_row.ensures c.args.limit refl) (omega arith)
     c.requires.above c.requires.below c.row-y.ensures.up c.row-y.ensures.down
