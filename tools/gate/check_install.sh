@@ -50,48 +50,63 @@ expect 'through a link, without rt' "$(printf "$room" | PATH=$scratch "$scratch/
 (cd "$scratch" && ln -s linked twice && printf "$room" | PATH=$scratch ./twice dist --metric foo 2> /dev/null)
 expect 'its status' "$?" 2
 
-# The wrapper's first run, with an rt of two crates that takes its time: what is being proved is
-# shown only on a terminal.
-mkdir -p "$scratch/fresh/bin" "$scratch/fresh/crates/low" "$scratch/fresh/crates/clearmap"
+# The wrapper's first run, with an rt of three crates that takes its time: what is being proved is
+# shown in one line on a terminal.
+mkdir -p "$scratch/fresh/bin" "$scratch/fresh/tools"
+for crate in low high clearmap; do mkdir -p "$scratch/fresh/crates/$crate"; done
 cp clearmap "$scratch/fresh/"
-printf 'low:\nclearmap: low\n' > "$scratch/fresh/crates.txt"
+cp tools/prove_below "$scratch/fresh/tools/"
+cp HANDLES "$scratch/fresh/"
+printf 'low:\nhigh: low\nclearmap: high low\n' > "$scratch/fresh/crates.txt"
 cat > "$scratch/fresh/bin/rt" << 'RT'
 #!/bin/sh
-if [ "$1" = try ]; then
+case $1 in
+try)
     while [ "$1" != -- ]; do shift; done
     shift
     echo "tried $*"
-    exit
-fi
-if [ "$1" = run ]; then
+    ;;
+run)
+    ls ../*/out/kept > /dev/null || exit 1
     printf '#!/bin/sh\necho "ran $*"\n' > out/clearmap
     chmod +x out/clearmap
-    exit
-fi
-for crate in low clearmap; do
-    sleep 1 # rt reads the libraries before it writes; a folder made at once may be as old as the run by the file system's clock
-    mkdir -p "crates/$crate/out/incremental"
-    sleep 3
-    echo "crate $crate: modules 1"
-done
+    ;;
+lib)
+    sleep 2
+    mkdir out
+    touch out/kept
+    echo 'crate: modules 1'
+    echo 'logic=proved functions=1'
+    ;;
+*) exit 1 ;;
+esac
 RT
 chmod +x "$scratch/fresh/bin/rt"
+fresh() { PATH=$scratch/fresh/bin:$PATH timeout 60 "$@"; }
+forget() { rm -r "$scratch"/fresh/crates/*/out; }
 if command -v script > /dev/null; then
-    shown=$(PATH=$scratch/fresh/bin:$PATH timeout 60 script -qec "$scratch/fresh/clearmap one two" /dev/null < /dev/null | tr '\r' '\n' | sed 's/\x1b\[K//')
-    expect 'a first run at a terminal' "$(echo "$shown" | sed -n 's/ took [0-9]* s/ took so long/; /^clearmap: proved.*work: [a-z]*$/p; /^ran/p' | uniq)" \
-        "$(printf '%s\n' 'clearmap: proved 0 of 2 crates; at work: low' 'clearmap: proved 1 of 2 crates; low took so long; at work: clearmap' 'ran one two')"
-    rm -r "$scratch/fresh/crates/clearmap/out" "$scratch/fresh/crates/low/out"
-    shown=$(PATH=$scratch/fresh/bin:$PATH timeout 60 script -qec "$scratch/fresh/clearmap --unproved one" /dev/null < /dev/null | tr -d '\r')
+    shown=$(fresh script -qec "$scratch/fresh/clearmap one two" /dev/null < /dev/null | tr '\r' '\n' | sed 's/\x1b\[K//')
+    expect 'a first run at a terminal' "$(echo "$shown" | sed -n 's/ took [0-9]* s/ took so long/; /^clearmap: proved/p; /^ran/p' | uniq)" \
+        "$(printf '%s\n' 'clearmap: proved 0 of 2 crates; at work: low' 'clearmap: proved 1 of 2 crates; low took so long; at work: high' 'ran one two')"
+    forget
+    shown=$(fresh script -qec "$scratch/fresh/clearmap --unproved one" /dev/null < /dev/null | tr -d '\r')
     expect 'a run without a proof at a terminal' "$(echo "$shown" | sed 's/ [0-9:]*$/ a time/')" \
         "$(printf '%s\n' 'clearmap: --unproved: nothing is proved of what runs now' \
             'clearmap: it is built first, in a minute that shows nothing; begun at a time' 'tried one')"
 else
     echo 'the first run at a terminal left out: there is no script'
 fi
-expect 'a first run without a terminal' "$(PATH=$scratch/fresh/bin:$PATH timeout 60 "$scratch/fresh/clearmap" one 2>&1)" \
-    "$(printf '%s\n' "clearmap: the first run proves and builds all crates: 40 minutes on four cores" 'ran one')"
-expect 'a run without a proof' "$(PATH=$scratch/fresh/bin:$PATH timeout 60 "$scratch/fresh/clearmap" --unproved one two 2> /dev/null)" 'tried one two'
-expect 'what it says of itself' "$(PATH=$scratch/fresh/bin:$PATH timeout 60 "$scratch/fresh/clearmap" --unproved one 2>&1 > /dev/null)" \
+expect 'a first run without a terminal' "$(fresh "$scratch/fresh/clearmap" one 2>&1 | sed 's/ took [0-9]* s/ took so long/')" \
+    "$(printf '%s\n' "clearmap: the first run proves and builds all crates: half an hour on four cores" \
+        'clearmap: proved 1 of 2 crates; low took so long' 'clearmap: proved 2 of 2 crates; high took so long' 'ran one')"
+forget
+sed -i 's/logic=proved/logic=not-proved/; s/ls .*/echo "what rt says"; exit 1/' "$scratch/fresh/bin/rt"
+expect 'a first run that fails' "$(fresh "$scratch/fresh/clearmap" one 2>&1; echo "status $?")" \
+    "$(printf '%s\n' "clearmap: the first run proves and builds all crates: half an hour on four cores" \
+        "clearmap: low isn't proved; no other proof begins" 'what rt says' \
+        'clearmap: not proved and built; the lines above say why' 'status 3')"
+expect 'a run without a proof' "$(fresh "$scratch/fresh/clearmap" --unproved one two 2> /dev/null)" 'tried one two'
+expect 'what it says of itself' "$(fresh "$scratch/fresh/clearmap" --unproved one 2>&1 > /dev/null)" \
     'clearmap: --unproved: nothing is proved of what runs now'
 
 # A checkout of somebody else: what is built runs, and what isn't is reported at once.

@@ -2,11 +2,11 @@
 # Looks for what no contract sees: code that forgets what it should free, by whatever name it was
 # imported (tests may, to leave a session out), and code that reports out of memory though no
 # allocation was refused. Lines of over 100 columns, and words that have a plainer one, too. First
-# the tests of what judges sources and edits.
+# the tests of what judges sources and edits, and of what proves crates side by side.
 set -u
 cd "$(dirname "$0")/../.." || exit 1
 export PYTHONDONTWRITEBYTECODE=1
-for test in check_memory try_edits; do
+for test in check_memory prove_below try_edits; do
     echo "tools/gate/test_$test.py"
     timeout 60 python3 "tools/gate/test_$test.py" || exit 1
 done

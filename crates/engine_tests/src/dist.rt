@@ -2,6 +2,7 @@
 
 use crate::compare::{holds, same};
 use engines::{DistOptions, dist_run};
+use field::Workers;
 use metric::{Edge, MemorySink, MemorySource, MetricKind, Sink, Source};
 use std::process::Abort;
 use std::thread::Threads;
@@ -12,8 +13,15 @@ const DEFAULT: DistOptions = DistOptions {
     edge: Edge::Open,
     nearest: false,
     query: None,
-    workers: 1,
+    workers: Workers { count: 1 },
 };
+
+/// One worker, two, and as many as there may be.
+const COUNTS: [Workers; 3] = [
+    Workers { count: 1 },
+    Workers { count: 2 },
+    Workers { count: 16 },
+];
 
 /// Images, what is written for them, and the status.
 static ANSWERS: [(&[u8], &str, u8); 18] = [
@@ -189,7 +197,7 @@ fn images_are_answered(rt: HostRuntime) {
 #[test]
 fn flags_are_heeded_by_each_number_of_workers(rt: HostRuntime) {
     for (image, metric, nearest, want) in &CHOSEN {
-        for workers in [1, 2, 16] {
+        for workers in COUNTS {
             let options = DistOptions {
                 metric: *metric,
                 nearest: *nearest,
@@ -215,7 +223,7 @@ fn queries_are_answered(rt: HostRuntime) {
 #[test]
 fn a_wall_round_the_image_is_answered(rt: HostRuntime) {
     for (image, metric, nearest, want) in &WALLED {
-        for workers in [1, 2, 16] {
+        for workers in COUNTS {
             let options = DistOptions {
                 metric: *metric,
                 edge: Edge::Wall,
@@ -283,7 +291,7 @@ fn a_failed_write_ends_the_run(rt: HostRuntime) {
             "0/0/0 1/0/0 4/0/0\n1/0/0 2/0/0 5/0/0\n",
         ),
     ] {
-        for (workers, calls) in [(1, 2), (3, 4)] {
+        for (workers, calls) in [(Workers { count: 1 }, 2), (Workers { count: 3 }, 4)] {
             let options = DistOptions {
                 nearest,
                 workers,

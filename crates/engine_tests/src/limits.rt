@@ -5,6 +5,7 @@ ghost use Rattle.std.specs.Prelude.{◌<◌};
 
 use crate::compare::same;
 use engines::{DistOptions, dist_run};
+use field::Workers;
 use metric::{Edge, MemorySink, MemorySource, MetricKind, Sink};
 use std::alloc::Global;
 use std::process::Abort;
@@ -49,9 +50,9 @@ fn images_of_many_rows(rt: HostRuntime) -> Result<(), Fail> {
     for height in [32, 33, 64, 4096] {
         let image = column_image(rt.alloc(), height)?;
         for (metric, workers) in [
-            (MetricKind::Euclid2, 1),
-            (MetricKind::City, 3),
-            (MetricKind::Chess, 16),
+            (MetricKind::Euclid2, Workers { count: 1 }),
+            (MetricKind::City, Workers { count: 3 }),
+            (MetricKind::Chess, Workers { count: 16 }),
         ] {
             let options = DistOptions {
                 metric,
@@ -101,9 +102,12 @@ fn one_worker_writes_what_several_do(rt: HostRuntime) -> Result<(), Fail> {
                     edge,
                     nearest,
                     query: None,
-                    workers: 1,
+                    workers: Workers { count: 1 },
                 };
-                let several = DistOptions { workers: 3, ..one };
+                let several = DistOptions {
+                    workers: Workers { count: 3 },
+                    ..one
+                };
                 let alone = written(&rt, &one, image.as_bytes());
                 let shared = written(&rt, &several, image.as_bytes());
                 same(&rt, alone.bytes(), shared.bytes(), ("rows", height));
@@ -125,7 +129,7 @@ fn a_failed_write_beside_threads_ends_the_run(rt: HostRuntime) -> Result<(), Fai
             edge: Edge::Open,
             nearest: true,
             query: None,
-            workers: 4,
+            workers: Workers { count: 4 },
         };
         let mut reader = MemorySource::new(image.as_slice());
         let mut writer = MemorySink::new(rt.alloc()).failing_at(call);

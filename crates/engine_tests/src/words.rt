@@ -2,6 +2,7 @@
 
 use crate::compare::holds;
 use engines::{AskOptions, DistOptions, Options, ServeOptions, options};
+use field::Workers;
 use metric::{Edge, MetricKind};
 
 /// The options of `dist` without flags.
@@ -10,7 +11,7 @@ const TABLED: DistOptions = DistOptions {
     edge: Edge::Open,
     nearest: false,
     query: None,
-    workers: 1,
+    workers: Workers { count: 1 },
 };
 
 /// The options of `serve` with only the connections given.
@@ -25,7 +26,7 @@ const SERVED: ServeOptions = ServeOptions {
 };
 
 /// Words, and what they say.
-static SAID: [(&[&str], Options<'static>); 13] = [
+const SAID: [(&[&str], Options<'static>); 13] = [
     (&["clearmap", "dist"], Options::Dist(TABLED)),
     (
         &["clearmap", "dist", "--metric", "city"],
@@ -46,7 +47,7 @@ static SAID: [(&[&str], Options<'static>); 13] = [
         &["clearmap", "dist", "--nearest", "--workers", "2"],
         Options::Dist(DistOptions {
             nearest: true,
-            workers: 2,
+            workers: Workers { count: 2 },
             ..TABLED
         }),
     ),
@@ -65,7 +66,7 @@ static SAID: [(&[&str], Options<'static>); 13] = [
     (
         &["clearmap", "dist", "--workers=16"],
         Options::Dist(DistOptions {
-            workers: 16,
+            workers: Workers { count: 16 },
             ..TABLED
         }),
     ),

@@ -16,7 +16,7 @@ use Rattle.metric.specs.declared.edge.Edge.TheVariants.{Open}
 use Rattle.metric.specs.declared.kind.MetricKind.TheVariants.{Euclid2}
 use Rattle.engines.specs.declared.command_line.arguments.DistOptions.{DistOptions}
 use Rattle.engines.specs.words.CommandLine.{AreDistOptions, AreNoDistOptions, AreOptions, AreTaken}
-use Rattle.engines.specs.words.CommandLine.{default_options, program_app}
+use Rattle.engines.specs.words.CommandLine.{AreDefaultOptions, program_app}
 use Rattle.proto.specs.Numbers.{number}
 use Rattle.engines.specs.words.ServeLine.{AreNoMatch, AreServeOptions, in_range}
 use Rattle.engines.specs.Runs.{IsSaidBy}
@@ -162,7 +162,7 @@ one_worker = refl
 
 -- flags with their defaults are the default options
 pub default_options-read : (rows : List Row) (options : DistOptions) → AreDistOptions rows options
-    → texts_in rows ≡ default_texts → options ≡ default_options
+    → texts_in rows ≡ default_texts → AreDefaultOptions options
 default_options-read rows options are texts =
     let metric : first_of (codes "metric") rows ≡ Some (codes "euclid2") = ap (λ t. t.0) texts in
     let nearest : one_of (codes "nearest") rows ≡ Some (codes "false") = ap (λ t. t.1) texts in
@@ -170,20 +170,17 @@ default_options-read rows options are texts =
     let workers : first_of (codes "workers") rows ≡ Some (codes "1") = ap (λ t. t.3) texts in
     let edge : first_of (codes "edge") rows ≡ Some (codes "open") = ap (λ t. t.4) texts in
     let named : Some Euclid2 ≡ Some options.metric = rw metric at are.metric in
-    let plain = are.unset nearest in
-    let unasked = map_none _ options.query (are.query ∙ query) in
-    let counted : Some 1 ≡ Some options.workers = sym one_worker ∙ rw workers at are.workers in
+    let counted : Some 1 ≡ Some options.workers.count =
+    sym one_worker ∙ rw workers at are.workers
+    in
     let bordered : Some Open ≡ Some options.edge = rw edge at are.edge in
-    let euclid : options.metric ≡ Euclid2 = cc in
-    let one : options.workers ≡ 1 = cc in
-    let open_is : options.edge ≡ Open = cc in
-    let same : record {
-      metric = options.metric;
-      edge = options.edge;
-      nearest = options.nearest;
-      query = options.query;
-      workers = options.workers;
-    } ≡ default_options = rw (euclid, open_is, plain, unasked, one) refl in same
+    record {
+      metric = cc;
+      edge = cc;
+      nearest = are.unset nearest;
+      query = map_none _ options.query (are.query ∙ query);
+      workers = cc;
+    }
 
 -- flags with their defaults do say options
 pub defaults_are_known : (rows : List Row) → texts_in rows ≡ default_texts

@@ -8,9 +8,9 @@ ghost use Rattle.clap.specs.declared.builder.command.Command.TheViews.{out-Comma
 ghost use Rattle.clap.specs.declared.error.kind.ErrorKind.TheVariants.{OutOfMemory};
 ghost use Rattle.metric.specs.Kind.{metric_named};
 ghost use Rattle.engines.specs.declared.command_line.arguments.Fault.TheVariants.{Memory};
-ghost use Rattle.engines.specs.declared.command_line.arguments.Options.TheVariants.{Dist, Steps};
+ghost use Rattle.engines.specs.declared.command_line.arguments.Options.TheVariants.{Steps};
 ghost use Rattle.engines.specs.words.CommandLine.{AreDistOptions, AreNoDistOptions, AreOptions};
-ghost use Rattle.engines.specs.words.CommandLine.{AreTaken, default_options, dist_app};
+ghost use Rattle.engines.specs.words.CommandLine.{AreTaken, IsDefaultDist, dist_app};
 ghost use Rattle.engines.specs.words.CommandLine.{nearest_rule, program_app, query_rule, steps_app};
 ghost use Rattle.engines.specs.words.CommandLine.{texts_of};
 ghost use Rattle.engines.specs.words.ServeLine.{default_rule, flag_text};
@@ -24,6 +24,7 @@ use crate::command_line::serve_words::{
     ask_command, default_flag, edge_flag, edge_given, number_given, serve_command, serve_or_ask,
 };
 use clap::{Arg, ArgAction, ArgMatches, Command, Error};
+use field::Workers;
 use metric::MetricKind;
 use std::alloc::Global;
 
@@ -34,7 +35,7 @@ pub fn options<'a>(alloc: Global, words: &'a [&'a str]) -> Result<Options<'a>, F
     ensures options { IfOk result (AreOptions (texts_of words.entry.now)) }
     ensures refused { AreTaken (texts_of words.entry.now) → IfErr result (λ fault. fault ≡ Memory) }
     ensures taken { (name : List ℕ) → texts_of words.entry.now ≡ name ∷ codes "dist" ∷ []
-        → MatchResult result (λ options. options ≡ Dist default_options) (λ fault. fault ≡ Memory) }
+        → MatchResult result IsDefaultDist (λ fault. fault ≡ Memory) }
     ensures steps_taken { (name : List ℕ) → texts_of words.entry.now ≡ name ∷ codes "steps" ∷ []
         → MatchResult result (λ options. options ≡ Steps) (λ fault. fault ≡ Memory) }
 {
@@ -65,7 +66,9 @@ fn dist_options<'a>(flags: &ArgMatches<'a>) -> Result<DistOptions<'a>, Fault<'a>
         edge,
         nearest: flags.get_flag("nearest"),
         query: flags.get_str("query"),
-        workers,
+        workers: Workers {
+            count: workers as u8,
+        },
     })
 }
 

@@ -25,7 +25,6 @@ use crate::dist::reply::QueryReply;
 use crate::dist::table_writer::TableWriter;
 use crate::streams::output::{write_refusal, write_text};
 use bits::Bitmap;
-use field::Workers;
 use metric::{Chess, City, Euclid2, Metric, MetricKind, Refusal, Sink, Source, WriteFault};
 use pbm::{ImageStop, read_source};
 use std::alloc::Global;
@@ -121,8 +120,8 @@ fn write_map<M: Metric + Sync, W: Sink, T: Threads + Sync>(
         (BeginsToAnswerMap options.now map.now (W.held writer.old) (W.held writer.new)) }
     ensures counts { Counts (W.failed_writes writer.old) result (W.failed_writes writer.new) }
 {
-    let workers = workers_of(options.workers);
-    match TableWriter::<M>::of(rt, alloc, map, options.edge, options.nearest, workers) {
+    let (edge, workers) = (options.edge, options.workers);
+    match TableWriter::<M>::of(rt, alloc, map, edge, options.nearest, workers) {
         Ok(mut table) => {
             table
                 .printer
@@ -130,14 +129,4 @@ fn write_map<M: Metric + Sync, W: Sink, T: Threads + Sync>(
         }
         Err(refusal) => write_refusal(writer, refusal),
     }
-}
-
-/// This number of workers, or one worker if the number is out of range.
-fn workers_of(count: u32) -> Workers
-    ensures { (1 ≤ count) × (count ≤ 16) → result.count ≡ count }
-{
-    if 1 <= count && count <= 16 {
-        return Workers { count: count as u8 };
-    }
-    Workers { count: 1 }
 }

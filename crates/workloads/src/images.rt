@@ -8,6 +8,7 @@ use crate::served::{Turn, take_turns};
 use crate::size::Size;
 use crate::tables::take_table;
 use engines::DistOptions;
+use field::Workers;
 use metric::{Edge, MetricKind};
 use std::alloc::{AllocError, Global};
 use std::io;
@@ -20,7 +21,7 @@ const QUERY: DistOptions<'static> = DistOptions {
     edge: Edge::Open,
     nearest: false,
     query: Some("AT euclid2 100 100"),
-    workers: 1,
+    workers: Workers { count: 1 },
 };
 
 /// The eight digits of a byte.

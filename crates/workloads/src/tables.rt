@@ -6,6 +6,7 @@ use crate::link::Link;
 use crate::random::Random;
 use crate::size::Size;
 use engines::{DistOptions, dist_run};
+use field::Workers;
 use metric::{Edge, MetricKind};
 use std::alloc::Global;
 use std::io;
@@ -17,7 +18,7 @@ const EUCLID2: DistOptions<'static> = DistOptions {
     edge: Edge::Open,
     nearest: false,
     query: None,
-    workers: 1,
+    workers: Workers { count: 1 },
 };
 
 /// The same with obstacles.
@@ -26,7 +27,7 @@ const NEAREST: DistOptions<'static> = DistOptions {
     edge: Edge::Open,
     nearest: true,
     query: None,
-    workers: 1,
+    workers: Workers { count: 1 },
 };
 
 /// By city-block distance.
@@ -35,7 +36,7 @@ const CITY: DistOptions<'static> = DistOptions {
     edge: Edge::Open,
     nearest: false,
     query: None,
-    workers: 1,
+    workers: Workers { count: 1 },
 };
 
 /// By chessboard distance, with a wall round the map.
@@ -44,7 +45,7 @@ const CHESS: DistOptions<'static> = DistOptions {
     edge: Edge::Wall,
     nearest: false,
     query: None,
-    workers: 1,
+    workers: Workers { count: 1 },
 };
 
 /// Takes the text of a table.

@@ -72,7 +72,7 @@ pub record AreDistOptions (rows : List Row) (options : DistOptions) : Type 0 whe
   pub set : one_of (codes "nearest") rows ≡ Some (codes "true") → options.nearest ≡ true
   pub unset : one_of (codes "nearest") rows ≡ Some (codes "false") → options.nearest ≡ false
   pub query : option_map (λ line. line.now) options.query ≡ first_of (codes "query") rows
-  pub workers : in_range 1 16 (first_of (codes "workers") rows) ≡ Some options.workers
+  pub workers : in_range 1 16 (first_of (codes "workers") rows) ≡ Some options.workers.count
   pub edge : option_and_then edge_named (first_of (codes "edge") rows) ≡ Some options.edge
 
 -- the flags of `dist` name an unknown metric, an unknown edge, or no number of workers
@@ -82,10 +82,18 @@ AreNoDistOptions rows =
     ⊎ ((option_and_then edge_named (first_of (codes "edge") rows) ≡ None)
     ⊎ (in_range 1 16 (first_of (codes "workers") rows) ≡ None))
 
--- the options of `dist` without flags
-abbrev pub default_options : DistOptions
-default_options =
-    record { metric = Euclid2; edge = Open; nearest = false; query = None; workers = 1 }
+-- the options are those of `dist` without flags
+pub record AreDefaultOptions (options : DistOptions) : Type 0 where
+  pub metric : options.metric ≡ Euclid2
+  pub edge : options.edge ≡ Open
+  pub nearest : options.nearest ≡ false
+  pub query : options.query ≡ None
+  pub workers : options.workers.count ≡ 1
+
+-- the program shall do `dist` without flags
+abbrev pub IsDefaultDist : Options → Type 0
+IsDefaultDist (Dist options) = AreDefaultOptions options
+IsDefaultDist other = ⊥
 
 -- the options are those of the subcommand that the words name
 abbrev pub AreOptions : List (List ℕ) → Options → Type 0

@@ -2,6 +2,7 @@
 
 use clap::Error as ClapError;
 use clap::error::ErrorKind;
+use field::Workers;
 use metric::{Edge, MetricKind};
 use std::alloc::AllocError;
 use std::io;
@@ -31,8 +32,8 @@ pub struct DistOptions<'a> {
     pub nearest: bool,
     /// The line to answer instead of the whole table.
     pub query: Option<&'a str>,
-    /// How many workers share the rows of the table, 1 to 16; any other number means one worker.
-    pub workers: u32,
+    /// The workers that share the rows of the table.
+    pub workers: Workers,
 }
 
 /// The options of `serve`.

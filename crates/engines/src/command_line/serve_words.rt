@@ -114,7 +114,7 @@ pub fn number_given(
 ) -> Result<u32, Fault<'static>>
     ensures { MatchResult result
         (λ n. (in_range least most (flag_text flags.now name.now) ≡ Some n)
-        × (n ≤ most))
+        × (least ≤ n) × (n ≤ most))
         (λ _. in_range least most (flag_text flags.now name.now) ≡ None) }
 {
     match value_given(flags, name) {

@@ -5,7 +5,6 @@ use Rattle.std.proofs.lemmas.Bool.{false≢true}
 use Rattle.std.proofs.lemmas.Result.{err_from_is_err_and}
 use Rattle.clap.specs.Words.{takes, found_of, rows_of}
 use Rattle.engines.specs.words.CommandLine.{program_app}
-use Rattle.engines.specs.declared.command_line.arguments.Options.TheVariants.{Dist}
 use Rattle.engines.proofs.CommandLines.{takes_dist, takes_steps, named_dist, named_steps, one_name}
 use Rattle.engines.proofs.CommandLines.{dist_defaults, default_options-read, defaults_are_known}
 use Rattle.engines.proofs.CommandLines.{flags_are_known, command_is_named}
@@ -38,9 +37,9 @@ returns-in_err-dist_options-clause-steps_taken c = λ name words.
 pub returns-in-Some-clause-taken : goal.returns-in-Some-clause-taken
 returns-in-Some-clause-taken c = λ name words.
     let rows = rows_of (found_of c.in-Some.flags.now) in
-    ap Dist (default_options-read rows c.in_ok-dist_options.field-0
+    default_options-read rows c.in_ok-dist_options.field-0
     c.in_ok-dist_options.ensures.options (dist_defaults name _ c.in_ok-matches.matches rows words
-    c.in_ok-matches.ensures.found c.in-Some.ensures.rows))
+    c.in_ok-matches.ensures.found c.in-Some.ensures.rows)
 
 pub returns-in-Some-clause-steps_taken : goal.returns-in-Some-clause-steps_taken
 returns-in-Some-clause-steps_taken c = λ name words.

@@ -1,0 +1,153 @@
+#!/usr/bin/env python3
+"""Tests of tools/prove_below in a repository of four small crates, with a stand-in for rt."""
+import os
+import pathlib
+import shutil
+import signal
+import subprocess
+import tempfile
+import time
+import unittest
+
+SCRIPT = pathlib.Path(__file__).resolve().parents[1] / "prove_below"
+
+# Each crate, what it stands on, and its lines.
+CRATES = {
+    "low": ("std_alloc", 2), "long": ("low", 9), "short": ("low", 1), "top": ("long short", 1),
+}
+
+# Notes its words, its place, and what is kept of this crate and of those below; some seconds later
+# its end. Then keeps a file, and says what the file `says` of its crate has.
+RT = """#!/bin/sh
+crate=$(basename "$PWD")
+echo "$crate $*: $(cat ../../crates.txt | cut -d: -f1 | xargs), kept: $(echo ../*/out/kept)" >> "$NOTES"
+mkdir -p out
+trap 'echo "$crate ended" >> "$NOTES"; exit 1' TERM
+for _ in $(seq $(cat seconds)); do sleep 1; done
+touch out/kept
+echo "$crate done" >> "$NOTES"
+cat says
+"""
+
+
+class Below(unittest.TestCase):
+    def setUp(self):
+        self.top = pathlib.Path(tempfile.mkdtemp())
+        self.addCleanup(shutil.rmtree, self.top)
+        (self.top / "tools").mkdir()
+        shutil.copy(SCRIPT, self.top / "tools")
+        (self.top / "HANDLES").write_text("Handles allowed: none.\n")
+        lines = [f"{name}: {uses}\n" for name, (uses, _) in CRATES.items()]
+        (self.top / "crates.txt").write_text("# Each crate: what it stands on.\n" + "".join(lines))
+        for name, (_, count) in CRATES.items():
+            folder = self.top / "crates" / name
+            (folder / "src").mkdir(parents=True)
+            (folder / "src/lib.rt").write_text("\n" * count)
+            (folder / "says").write_text("crate\nlogic=proved functions=1\n")
+            (folder / "seconds").write_text("1")
+        (self.top / "rt").write_text(RT)
+        (self.top / "rt").chmod(0o755)
+        self.notes = self.top / "notes"
+        self.notes.touch()
+
+    def start(self, *words):
+        path = f"{self.top}:{os.environ['PATH']}"
+        return subprocess.Popen(
+            [self.top / "tools/prove_below", "top", *words], stderr=subprocess.PIPE, text=True,
+            env=dict(os.environ, PATH=path, NOTES=str(self.notes)),
+        )
+
+    def prove(self, *words):
+        """The status of a run, and what it said, without times."""
+        process = self.start(*words)
+        _, said = process.communicate(timeout=60)
+        return process.returncode, said
+
+    def kept(self):
+        return sorted(file.parts[-3] for file in self.top.glob("crates/*/out/kept"))
+
+    def noted(self):
+        """What rt was called for, and in which crates it was ended."""
+        return [line for line in self.notes.read_text().splitlines() if not line.endswith(" done")]
+
+    def left(self):
+        """What lies in the folder of the copies afterwards."""
+        return list((self.top / "crates/top/out").glob("copies*"))
+
+    def test_each_is_proved_over_those_below(self):
+        status, said = self.prove("--at-once", "3")
+        self.assertEqual((status, self.kept(), self.left()), (0, ["long", "low", "short"], []))
+        self.assertEqual(said.count("clearmap: proved "), 3, said)
+        below = "kept: ../low/out/kept"
+        first, *rest = self.noted()
+        self.assertEqual(first, "low lib: low, kept: ../*/out/kept")
+        self.assertEqual(sorted(rest), [
+            f"long lib: low long, {below}",
+            f"short lib --jobs 1: low short, {below}",
+        ])
+
+    def test_two_are_at_work_at_once(self):
+        for name in ("long", "short"):
+            (self.top / "crates" / name / "seconds").write_text("5")
+        self.assertEqual(self.prove("--at-once", "2")[0], 0)
+        crates = [line.split()[0] for line in self.notes.read_text().splitlines()]
+        self.assertEqual(crates[:2], ["low", "low"])
+        self.assertEqual(sorted(crates[2:4]), ["long", "short"], "one was done before both began")
+
+    def test_what_is_kept_is_begun_with(self):
+        kept = self.top / "crates/low/out"
+        kept.mkdir()
+        (kept / "kept").touch()
+        self.assertEqual(self.prove("--at-once", "2")[0], 0)
+        self.assertEqual(self.noted()[0], "low lib: low, kept: ../low/out/kept")
+
+    def test_one_that_is_not_proved(self):
+        """rt ends with status 0 there too. What is at work is finished and kept."""
+        (self.top / "crates/short/says").write_text("crate\nlogic=not-proved functions=1\n")
+        (self.top / "crates/long/seconds").write_text("3")
+        status, said = self.prove("--at-once", "2")
+        self.assertEqual((status, self.kept(), self.left()), (1, ["long", "low", "short"], []))
+        self.assertIn("clearmap: short isn't proved; no other proof begins\n", said)
+
+    def test_one_that_says_nothing(self):
+        (self.top / "crates/low/says").write_text("")
+        status, said = self.prove("--at-once", "2")
+        self.assertEqual((status, self.kept(), len(self.noted())), (1, ["low"], 1), said)
+
+    def test_an_end_by_a_signal(self):
+        """What is proved stays, and so does what rt had kept of the crate at work."""
+        (self.top / "crates/long/seconds").write_text("30")
+        for by, status in ((signal.SIGTERM, 143), (signal.SIGINT, 130)):
+            with self.subTest(by):
+                self.notes.write_text("")
+                process = self.start("--at-once", "2")
+                while not any(line.startswith("long lib") for line in self.noted()):
+                    time.sleep(0.1)
+                process.send_signal(by)
+                self.assertEqual(process.communicate(timeout=20)[1].count("Traceback"), 0)
+                self.assertEqual((process.returncode, self.left()), (status, []))
+                self.assertIn("long ended", self.noted())
+                self.assertIn("low", self.kept())
+                self.assertTrue((self.top / "crates/long/out").is_dir())
+
+    def test_a_second_run_waits_for_the_first(self):
+        first = self.start("--at-once", "2")
+        while not self.noted():
+            time.sleep(0.1)
+        self.assertEqual(self.prove("--at-once", "2")[0], 0)
+        said = first.communicate(timeout=20)[1]
+        self.assertEqual((first.returncode, said.count("Traceback")), (0, 0))
+        kept = "low lib: low, kept: ../low/out/kept"
+        self.assertEqual([line for line in self.noted()[1:] if line.startswith("low")], [kept])
+
+    def test_one_at_a_time(self):
+        status, said = self.prove("--at-once", "1")
+        self.assertEqual((status, self.kept()), (0, ["long", "low", "short"]))
+        self.assertEqual(said.count("clearmap: proved "), 3, said)
+        crates = [line.split()[0] for line in self.notes.read_text().splitlines()]
+        self.assertEqual(crates, ["low", "low", "long", "long", "short", "short"])
+        self.assertEqual([line for line in self.noted() if "--jobs" in line], [])
+
+
+if __name__ == "__main__":
+    unittest.main()
