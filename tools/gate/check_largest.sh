@@ -49,21 +49,37 @@ PYTHON
 
 # Runs `dist` with these words on the raw map, and tells the most threads that it was seen with: in
 # ten runs at most, until these or more were seen, since on a busy machine a run may be over before
-# a look finds all of them.
+# a look finds all of them. The system still lists a thread that has ended and was waited for; its
+# flags tell it.
 threads() { # threads WANTED WORD..
     timeout 120 python3 - "$program" "$room/raw" "$@" << 'PYTHON'
+import os
 import subprocess
 import sys
 program, source, wanted, *words = sys.argv[1:]
+EXITING = 4
+
+
+def at_work(tasks, task):
+    with open(f"{tasks}/{task}/stat") as told:
+        return not int(told.read().rpartition(")")[2].split()[6]) & EXITING
+
+
+def count(tasks):
+    counted = 0
+    for task in os.listdir(tasks):
+        try:
+            counted += at_work(tasks, task)
+        except (FileNotFoundError, ProcessLookupError):
+            pass
+    return counted
+
+
 most = 1
 for _ in range(10):
     run = subprocess.Popen([program, "dist", *words], stdin=open(source, "rb"), stdout=subprocess.DEVNULL)
     while run.poll() is None:
-        try:
-            with open(f"/proc/{run.pid}/status") as told:
-                most = max([most] + [int(line.split()[1]) for line in told if line.startswith("Threads:")])
-        except (FileNotFoundError, ProcessLookupError):
-            pass
+        most = max(most, count(f"/proc/{run.pid}/task"))
     if most >= int(wanted):
         break
 print(most)

@@ -17,7 +17,7 @@ CRATES = {
 }
 
 # Notes its words, its place, and what is kept of this crate and of those below; some seconds later
-# its end. Then keeps a file, and says what the file `says` of its crate has.
+# its end. Then keeps a file, says what the file `says` of its crate has, and ends as that says.
 RT = """#!/bin/sh
 crate=$(basename "$PWD")
 echo "$crate $*: $(cat ../../crates.txt | cut -d: -f1 | xargs), kept: $(echo ../*/out/kept)" >> "$NOTES"
@@ -27,6 +27,7 @@ for _ in $(seq $(cat seconds)); do sleep 1; done
 touch out/kept
 echo "$crate done" >> "$NOTES"
 cat says
+! grep -q not-proved says
 """
 
 
@@ -80,7 +81,7 @@ class Below(unittest.TestCase):
         self.assertEqual(said.count("clearmap: proved "), 3, said)
         below = "kept: ../low/out/kept"
         first, *rest = self.noted()
-        self.assertEqual(first, "low lib: low, kept: ../*/out/kept")
+        self.assertEqual(first, "low lib --jobs 3: low, kept: ../*/out/kept")
         self.assertEqual(sorted(rest), [
             f"long lib: low long, {below}",
             f"short lib --jobs 1: low short, {below}",
@@ -99,20 +100,21 @@ class Below(unittest.TestCase):
         kept.mkdir()
         (kept / "kept").touch()
         self.assertEqual(self.prove("--at-once", "2")[0], 0)
-        self.assertEqual(self.noted()[0], "low lib: low, kept: ../low/out/kept")
+        self.assertEqual(self.noted()[0], "low lib --jobs 2: low, kept: ../low/out/kept")
 
     def test_one_that_is_not_proved(self):
-        """rt ends with status 0 there too. What is at work is finished and kept."""
+        """What is at work is finished and kept."""
         (self.top / "crates/short/says").write_text("crate\nlogic=not-proved functions=1\n")
         (self.top / "crates/long/seconds").write_text("3")
         status, said = self.prove("--at-once", "2")
         self.assertEqual((status, self.kept(), self.left()), (1, ["long", "low", "short"], []))
         self.assertIn("clearmap: short isn't proved; no other proof begins\n", said)
 
-    def test_one_that_says_nothing(self):
+    def test_one_that_is_built_already(self):
+        """rt says nothing of it, and the others are proved."""
         (self.top / "crates/low/says").write_text("")
         status, said = self.prove("--at-once", "2")
-        self.assertEqual((status, self.kept(), len(self.noted())), (1, ["low"], 1), said)
+        self.assertEqual((status, self.kept()), (0, ["long", "low", "short"]), said)
 
     def test_an_end_by_a_signal(self):
         """What is proved stays, and so does what rt had kept of the crate at work."""
@@ -137,7 +139,7 @@ class Below(unittest.TestCase):
         self.assertEqual(self.prove("--at-once", "2")[0], 0)
         said = first.communicate(timeout=20)[1]
         self.assertEqual((first.returncode, said.count("Traceback")), (0, 0))
-        kept = "low lib: low, kept: ../low/out/kept"
+        kept = "low lib --jobs 2: low, kept: ../low/out/kept"
         self.assertEqual([line for line in self.noted()[1:] if line.startswith("low")], [kept])
 
     def test_one_at_a_time(self):
