@@ -100,7 +100,7 @@ expect 'a first run without a terminal' "$(fresh "$scratch/fresh/clearmap" one 2
     "$(printf '%s\n' "clearmap: the first run proves and builds all crates: half an hour on four cores" \
         'clearmap: proved 1 of 2 crates; low took so long' 'clearmap: proved 2 of 2 crates; high took so long' 'ran one')"
 forget
-sed -i 's/logic=proved/logic=not-proved/; s/ls .*/echo "what rt says"; exit 1/' "$scratch/fresh/bin/rt"
+sed -i 's/echo .logic=proved.*/exit 1/; s/ls .*/echo "what rt says"; exit 1/' "$scratch/fresh/bin/rt"
 expect 'a first run that fails' "$(fresh "$scratch/fresh/clearmap" one 2>&1; echo "status $?")" \
     "$(printf '%s\n' "clearmap: the first run proves and builds all crates: half an hour on four cores" \
         "clearmap: low isn't proved; no other proof begins" 'what rt says' \

@@ -83,8 +83,8 @@ class Below(unittest.TestCase):
         first, *rest = self.noted()
         self.assertEqual(first, "low lib --jobs 3: low, kept: ../*/out/kept")
         self.assertEqual(sorted(rest), [
-            f"long lib: low long, {below}",
-            f"short lib --jobs 1: low short, {below}",
+            f"long lib --jobs 2: low long, {below}",
+            f"short lib --jobs 2: low short, {below}",
         ])
 
     def test_two_are_at_work_at_once(self):

@@ -40,7 +40,7 @@ ALLOWED = {
     ("metric/src/refusal.rt", "Refusal::Memory"),
     ("metric/src/fault.rt", "PbmFault::Memory"),
     # Told to a connection for whose buffers there was none, which the line above it looks at.
-    ("engines/src/streams/socket.rt", '&& writeln!(stream, "{}", Refusal::Memory).is_ok()'),
+    ("streams/src/socket.rt", '&& writeln!(stream, "{}", Refusal::Memory).is_ok()'),
     # After 2^64 - 1 blocks of a source, which is never reached.
     ("pbm/src/source.rt", "Err(ImageStop::Memory)"),
 }

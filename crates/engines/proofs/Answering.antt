@@ -11,9 +11,9 @@ use Rattle.metric.specs.declared.stream.WriteFault.{WriteFault}
 use Rattle.metric.specs.Refusal.{image_text, refusal_text}
 use Rattle.metric.specs.Stream.{Appends, AppendsFront, Counts}
 use Rattle.engines.specs.declared.command_line.arguments.DistOptions.{DistOptions}
-use Rattle.engines.specs.dist.Table.{table_text}
-use Rattle.engines.proofs.KeptLemmas.{table_text-told}
-use Rattle.engines.specs.dist.Tabled.{IsTableOf, TableView}
+use Rattle.printing.specs.Table.{table_text}
+use Rattle.printing.proofs.KeptLemmas.{table_text-told}
+use Rattle.printing.specs.Tabled.{IsTableOf, TableView}
 use Rattle.bits.specs.Cells.{Cells}
 use Rattle.field.specs.Rows.{AreNears}
 use Rattle.metric.specs.Kind.{distance_of}
@@ -239,12 +239,3 @@ asked_of_reply options cells line reply given of =
       text_is = of.text_is;
       status_is = of.status_is;
     }))
-
--- where the lines of a map's table are written, an answer to an image of it is
-pub map_of_table : {E : Type 0} (result : Result ℕ E) (options : DistOptions) (cells : Cells)
-    (text : List ℕ) (before after : Option (List ℕ)) → IsMapAnswer options cells text 0
-    → IfOk result (λ status. status ≡ 0) → OnOk result (Appends before text after)
-    → IfOk result (AnswersMap options cells before after)
-map_of_table (Ok status) options cells text before after answer is whole =
-    (text, rw is answer, whole)
-map_of_table (Err fault) options cells text before after answer is whole = is

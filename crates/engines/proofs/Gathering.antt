@@ -1,45 +1,15 @@
 -- Bytes that are taken from a stream, and put into a buffer or written to another stream.
-use Rattle.std.proofs.Common.{◌≡◌, ◌≢◌, ℕ, List, [], ◌∷◌, ◌++◌, Option, Some, Result, Ok, Err, OnOk}
-use Rattle.std.proofs.Common.{OnErr, inl, inr, refl, ap, arith, ◌∙◌, append_assoc}
-use Rattle.metric.specs.Stream.{Takes, TakesByte, Appends, AppendsFront, Counts}
+use Rattle.std.proofs.Common.{◌≡◌, ◌≢◌, ℕ, List, [], ◌++◌, Option, Result, Ok, Err, OnOk, OnErr}
+use Rattle.std.proofs.Common.{inl, inr, refl, arith}
+use Rattle.metric.specs.Stream.{Takes, Appends, AppendsFront, Counts}
 use Rattle.metric.proofs.Appending.{Appends-nothing, Appends-more, AppendsFront-whole}
-use Rattle.metric.proofs.Taking.{Takes-nothing, Takes-more, Takes-behind}
-use Rattle.engines.specs.streams.Passing.{BreaksOff, EndsEarly, Gathers, IsEndLine, PassesOn}
-use Rattle.engines.specs.streams.Passing.{PassesFront, stop_text}
-use Rattle.engines.specs.words.Refusals.{memory_text, net_text}
+use Rattle.metric.proofs.Taking.{Takes-nothing, Takes-behind}
+use Rattle.engines.specs.ask.Passing.{BreaksOff, EndsEarly, IsEndLine, PassesOn, PassesFront}
+use Rattle.engines.specs.ask.Passing.{stop_text}
+use Rattle.streams.specs.Refusals.{memory_text, net_text}
 use Rattle.engines.specs.declared.ask.Stop.{Stop}
 use Rattle.engines.specs.declared.ask.Stop.TheVariants as stops
-use Rattle.engines.proofs.RefusalLines.{front_first, front_second}
-
--- a byte that was met is one that was taken
-pub Takes-byte : (old new : Option (List ℕ)) (byte : ℕ) → TakesByte old (Some byte) new
-    → Takes old (byte ∷ []) new
-Takes-byte old new byte next = Takes-more old old new [] byte (Takes-nothing old) next
-
--- what is gathered in two parts, one after the other, is gathered as one
-pub Gathers-both : (old between new : Option (List ℕ)) (before middle after : List ℕ)
-    → Gathers old before middle between → Gathers between middle after new
-    → Gathers old before after new
-Gathers-both old between new before middle after one two = record {
-  bytes = one.bytes ++ two.bytes;
-  taken = Takes-behind old between new one.bytes two.bytes one.taken two.taken;
-  after_is = two.after_is
-      ∙ (ap (λ t. t ++ two.bytes) one.after_is ∙ append_assoc before one.bytes two.bytes);
-}
-
--- where bytes were gathered, and then more were taken, all of them were taken
-pub taken_behind : (old between new : Option (List ℕ)) (before after : List ℕ)
-    → Gathers old before after between → ((bytes : List ℕ) × Takes between bytes new)
-    → (bytes : List ℕ) × Takes old bytes new
-taken_behind old between new before after one (bytes, two) =
-    (one.bytes ++ bytes, Takes-behind old between new one.bytes bytes one.taken two)
-
--- what is gathered in an empty buffer is what was taken
-pub Gathers-taken : (unread left : Option (List ℕ)) (before after : List ℕ) → before ≡ []
-    → Gathers unread before after left → Takes unread after left
-Gathers-taken unread left before after empty all =
-    let same : after ≡ all.bytes = all.after_is ∙ ap (λ t. t ++ all.bytes) empty in
-    rw same all.taken
+use Rattle.streams.proofs.RefusalLines.{front_first, front_second}
 
 -- where nothing is written, a prefix of any bytes is
 front_nothing : (held : Option (List ℕ)) (bytes : List ℕ) → AppendsFront held bytes held

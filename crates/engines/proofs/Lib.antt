@@ -1,15 +1,7 @@
 mod Answering
-mod Fours
-mod Lines
-mod MeasuredLines
-mod PartLemmas
-mod PuttingLemmas
-mod QuadLemmas
-mod RowLemmas
 mod CommandLines
 mod CutLines
 mod Gathering
-mod RefusalLines
 mod Hearing
 mod Keeping
 mod LineSplitting
@@ -19,5 +11,4 @@ mod Telling
 mod ServingLemmas
 mod Requests
 mod Talks
-mod KeptLemmas
 mod Sources

@@ -5,7 +5,7 @@ use Rattle.std.specs.Prelude.{position}
 use Rattle.std.specs.List.{slice_split}
 use Rattle.std.specs.Str.Lines.{strip_carriage_return}
 use Rattle.proto.proofs.Splitting.{parts-first, parts-one, parts-some}
-use Rattle.engines.specs.streams.TextLines.{ended_parts, lines_of}
+use Rattle.engines.specs.TextLines.{ended_parts, lines_of}
 
 -- a part before the parts of a text is a line before the lines of the text
 ended_parts-more : (part bytes : List ℕ)

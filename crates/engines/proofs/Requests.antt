@@ -1,89 +1,21 @@
 -- Requests that are read and sent.
-use Rattle.std.proofs.Common.{◌≡◌, ◌≢◌, ◌+◌, ◌<◌, ℕ, Bool, true, List, [], ◌∷◌, ◌++◌, Option}
-use Rattle.std.proofs.Common.{Result, Ok, Err, OnOk, inl, inr, refl, sym, ap, subst, length}
-use Rattle.std.proofs.Common.{◌∙◌, append_assoc}
+use Rattle.std.proofs.Common.{◌≡◌, ◌<◌, ℕ, Bool, true, List, [], ◌∷◌, ◌++◌, Option, Result, Ok}
+use Rattle.std.proofs.Common.{Err, OnOk, inl, inr, refl, sym, ap, subst, length, ◌∙◌, append_assoc}
 use Rattle.std.specs.Prelude.{◌⊎◌, bytes_eq}
 use Rattle.std.specs.List.{concat}
 use Rattle.std.specs.Str.Lines.{strip_carriage_return}
-use Rattle.std.proofs.lemmas.List.{append-nil, length-append}
+use Rattle.std.proofs.lemmas.List.{append-nil}
 use Rattle.std.proofs.lemmas.List.Elements.{All-append, All-cons, All-nil}
 use Rattle.std.proofs.lemmas.List.Folds.{concat-append}
 use Rattle.std.proofs.lemmas.Slice.Eq.{bytes_eq-Decides}
 use Rattle.metric.specs.Stream.{Appends, Takes}
 use Rattle.metric.proofs.Appending.{Appends-more, Appends-nothing}
 use Rattle.metric.proofs.Taking.{Takes-nothing, Takes-behind}
-use Rattle.engines.specs.ask.Asking.{IsCounted, IsRequest, IsUnended, counted_by}
-use Rattle.engines.specs.streams.Passing.{Asks, AsksAll, EndsByBye, EndsCut, Gathers, GathersAll}
-use Rattle.engines.specs.streams.Passing.{PassesOn, PutsCount, PutsFewer, PutsLine, PutsUnended}
-use Rattle.engines.specs.streams.Passing.{bye}
-use Rattle.engines.proofs.Gathering.{Gathers-both, Gathers-taken}
-
--- where a part was gathered, and then all that was left, all was gathered
-GathersAll-both : (unread between left : Option (List ℕ)) (before middle after : List ℕ)
-    → Gathers unread before middle between → GathersAll between middle after left
-    → GathersAll unread before after left
-GathersAll-both unread between left before middle after one two =
-    record { gathered = Gathers-both _ _ _ _ _ _ one two.gathered; ended = two.ended }
-
--- bytes in which no line ends stay so with one more byte that is no LF
-pub PutsUnended-more : (before middle after : List ℕ) (byte : ℕ) → PutsUnended before middle
-    → after ≡ middle ++ byte ∷ [] → byte ≢ 10 → PutsUnended before after
-PutsUnended-more before middle after byte part is other = record {
-  part = part.part ++ byte ∷ [];
-  unended = All-append (λ (b : ℕ). b ≢ 10) part.part (byte ∷ []) part.unended
-      (All-cons (λ (b : ℕ). b ≢ 10) byte [] other (All-nil (λ (b : ℕ). b ≢ 10)));
-  after_is = is
-      ∙ (ap (λ t. t ++ byte ∷ []) part.after_is ∙ append_assoc before part.part (byte ∷ []));
-}
-
--- bytes in which no line ends are a line once an LF is put after them
-pub PutsLine-end : (before middle after : List ℕ) (byte : ℕ) → PutsUnended before middle
-    → after ≡ middle ++ byte ∷ [] → byte ≡ 10 → PutsLine before after
-PutsLine-end before middle after byte part is end = record {
-  line = part.part;
-  unended = part.unended;
-  after_is = is
-      ∙ (ap (λ b. middle ++ b ∷ []) end
-      ∙ (ap (λ t. t ++ 10 ∷ []) part.after_is ∙ append_assoc before part.part (10 ∷ [])));
-}
-
--- where a stream ends before a line's LF, its bytes are in the buffer, no line ends in them, and
--- none is left
-pub ended_unended : (unread between left : Option (List ℕ)) (before middle after : List ℕ)
-    → Gathers unread before middle between → PutsUnended before middle → (after ≡ middle)
-    × GathersAll between middle after left
-    → PutsUnended before after × GathersAll unread before after left
-ended_unended unread between left before middle after one part (same, all) = (
-  subst (λ (t : List ℕ). PutsUnended before t) (sym same) part,
-  GathersAll-both unread between left before middle after one all,
-)
-
--- where bytes are put after others, as many are put as both are
-pub PutsCount-both : (count more : ℕ) (before middle after : List ℕ)
-    → PutsCount count before middle → PutsCount more middle after
-    → PutsCount (count + more) before after
-PutsCount-both count more before middle after one two = record {
-  part = one.part ++ two.part;
-  many = length-append one.part two.part
-      ∙ (ap (λ n. n + length two.part) one.many ∙ ap (λ n. count + n) two.many);
-  after_is = two.after_is
-      ∙ (ap (λ t. t ++ two.part) one.after_is ∙ append_assoc before one.part two.part);
-}
-
--- where a stream ends before this many bytes, the buffer has fewer, and none is left
-pub ended_fewer : (count so_far : ℕ) (unread between left : Option (List ℕ))
-    (before middle after : List ℕ) → so_far < count → Gathers unread before middle between
-    → PutsCount so_far before middle
-    → (after ≡ middle) × GathersAll between middle after left → PutsFewer count before after
-    × GathersAll unread before after left
-ended_fewer count so_far unread between left before middle after few one part (same, all) = (
-  record {
-    part = part.part;
-    few = subst (λ (n : ℕ). n < count) (sym part.many) few;
-    after_is = same ∙ part.after_is;
-  },
-  GathersAll-both unread between left before middle after one all,
-)
+use Rattle.streams.specs.Counted.{IsCounted, IsUnended}
+use Rattle.engines.specs.ask.Asking.{IsRequest, counted_by}
+use Rattle.engines.specs.ask.Passing.{Asks, AsksAll, EndsByBye, EndsCut, PassesOn, bye}
+use Rattle.streams.specs.Gathered.{Gathers, GathersAll, PutsCount, PutsFewer, PutsLine, PutsUnended}
+use Rattle.streams.proofs.Gathering.{Gathers-both, Gathers-taken}
 
 -- where a part was gathered, and then another, both were gathered
 pub gathered_both : {T E : Type 0} (unread between left : Option (List ℕ))

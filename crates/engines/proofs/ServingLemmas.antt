@@ -13,7 +13,7 @@ use Rattle.metric.specs.declared.stream.WriteFault.{WriteFault}
 use Rattle.engines.specs.serve.Serving.{BeginsServed, IsUnserved, WritesOnly, WritesServed}
 use Rattle.engines.specs.serve.Serving.{listening_text, served_text}
 use Rattle.engines.proofs.Gathering.{written_either, written_whole}
-use Rattle.engines.proofs.RefusalLines.{front_first, front_second}
+use Rattle.streams.proofs.RefusalLines.{front_first, front_second}
 
 -- a setting that is out of its limits is told in this line
 abbrev pub setting_line : Field → List ℕ

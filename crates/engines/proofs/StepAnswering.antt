@@ -9,7 +9,7 @@ use Rattle.metric.specs.Refusal.{refusal_text}
 use Rattle.metric.specs.Stream.{Appends, AppendsFront, Counts}
 use Rattle.engines.specs.steps.Opening.{judged, later_lines, opened_by, opening_told}
 use Rattle.engines.specs.steps.Steps.{AnswersText, BeginsToAnswerText, IsBegun}
-use Rattle.engines.specs.streams.TextLines.{lines_of}
+use Rattle.engines.specs.TextLines.{lines_of}
 use Rattle.engines.proofs.Sources.{told, AreAll-told}
 
 -- a prefix of the line for out of memory begins an answer to bytes whose first line opens a world

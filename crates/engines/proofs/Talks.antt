@@ -14,7 +14,8 @@ use Rattle.engines.specs.ask.Asking.{IsRequest, counted_by}
 use Rattle.engines.specs.ask.Talking.{Breaks, Completes, Converses, Exchange, Exchanges, IsCutOff}
 use Rattle.engines.specs.ask.Talking.{IsExchange, IsLastLine, IsReplyTo, RunsOut, SaysBye, Talk}
 use Rattle.engines.specs.ask.Talking.{counted_for}
-use Rattle.engines.specs.streams.Passing.{TakesAtMost, bye, stop_text}
+use Rattle.streams.specs.Gathered.{TakesAtMost}
+use Rattle.engines.specs.ask.Passing.{bye, stop_text}
 use Rattle.engines.specs.declared.ask.Stop.{Stop}
 use Rattle.engines.specs.declared.ask.Stop.TheVariants as stops
 

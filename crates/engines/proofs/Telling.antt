@@ -12,7 +12,7 @@ use Rattle.engines.specs.declared.steps.opening.OpenLine.{OpenLine}
 use Rattle.engines.specs.steps.Opening.{base_opened, judged, later_lines, opened_by, opening_told}
 use Rattle.engines.specs.steps.StepRuns.{AreLinesDone, IsDoneInPart, IsWorldTold, IsToldInPart}
 use Rattle.engines.specs.steps.Steps.{IsBegun, IsWorldText, written_lines}
-use Rattle.engines.specs.streams.TextLines.{lines_of}
+use Rattle.engines.specs.TextLines.{lines_of}
 
 -- the first answer line tells how many positions the map has
 abbrev pub opened_text : ℕ → List ℕ

@@ -1,4 +1,3 @@
 -- What the words of a command line mean, and the lines that refuse them.
 pub mod CommandLine
 pub mod ServeLine
-pub mod Refusals

@@ -4,19 +4,19 @@ ghost use Rattle.std.specs.Prelude.{◌≡◌, ◌≢◌, ◌≤◌, ◌+◌, �
 ghost use Rattle.std.specs.Prelude.{Err, Ok, true, false, bytes_eq};
 ghost use Rattle.metric.specs.Stream.{Appends, AppendsFront, CanFail, Counts};
 ghost use Rattle.engines.specs.ask.Talking.{Breaks, Completes, Converses, Exchanges, talk_at};
-ghost use Rattle.engines.specs.streams.Passing.{Asks, AsksAll, BreaksOff, EndsEarly, PassesFront};
-ghost use Rattle.engines.specs.streams.Passing.{PassesOn, bye, stop_text};
+ghost use Rattle.engines.specs.ask.Passing.{Asks, AsksAll, BreaksOff, EndsEarly, PassesFront};
+ghost use Rattle.engines.specs.ask.Passing.{PassesOn, bye, stop_text};
 ghost use Rattle.engines.specs.declared.ask.Stop.TheVariants.{Net, Standard};
 
 mod exchange;
 mod request;
 
-use crate::streams::output::{write_net_fault, write_refusal, write_text};
-use crate::{DONE, REFUSED};
+use crate::DONE;
 use exchange::exchange;
 use metric::{Refusal, Sink, Source, Stream, WriteFault};
 use request::read_request;
 use std::alloc::Global;
+use streams::{REFUSED, write_net_fault, write_refusal, write_text};
 
 /// Why a run of `ask` ended early.
 #[derive(Clone, Copy, PartialEq, Eq)]

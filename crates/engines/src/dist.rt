@@ -6,29 +6,19 @@ ghost use Rattle.metric.specs.Stream.{Counts, CanFail};
 ghost use Rattle.engines.specs.dist.Dist.{AnswersImage, AnswersMap, BeginsToAnswerImage};
 ghost use Rattle.engines.specs.dist.Dist.{BeginsToAnswerMap};
 
-mod decimals;
-mod distances;
-mod line;
-mod parts;
-mod printer;
-mod put;
-mod quad;
 mod query;
 mod reply;
-mod row_cells;
-mod table;
-mod table_writer;
 
-use crate::REFUSED;
+use crate::DONE;
 use crate::command_line::arguments::DistOptions;
 use crate::dist::reply::QueryReply;
-use crate::dist::table_writer::TableWriter;
-use crate::streams::output::{write_refusal, write_text};
 use bits::Bitmap;
 use metric::{Chess, City, Euclid2, Metric, MetricKind, Refusal, Sink, Source, WriteFault};
 use pbm::{ImageStop, read_source};
+use printing::TableWriter;
 use std::alloc::Global;
 use std::thread::Threads;
+use streams::{REFUSED, write_refusal, write_text};
 
 /// Reads an image, and the reader to its end, and writes its cells' distances to their nearest
 /// obstacles, one line per row, as the options ask. Returns the status.
@@ -122,10 +112,9 @@ fn write_map<M: Metric + Sync, W: Sink, T: Threads + Sync>(
 {
     let (edge, workers) = (options.edge, options.workers);
     match TableWriter::<M>::of(rt, alloc, map, edge, options.nearest, workers) {
-        Ok(mut table) => {
-            table
-                .printer
-                .write_turns(rt, writer, &mut table.full, &mut table.free)
+        Ok(table) => {
+            table.write(rt, writer)?;
+            Ok(DONE)
         }
         Err(refusal) => write_refusal(writer, refusal),
     }

@@ -5,7 +5,6 @@ ghost use Rattle.metric.specs.Stream.{CanFail};
 ghost use Rattle.engines.specs.words.CommandLine.{texts_of};
 ghost use Rattle.engines.specs.Runs.{Begins, BeginsFor, BeginsRunOf, IsDoneFor, IsRunOf};
 
-use crate::REFUSED;
 use crate::command_line::arguments::{Fault, Options};
 use crate::command_line::options;
 use crate::command_line::refusing::tell;
@@ -14,6 +13,7 @@ use crate::steps::steps_run;
 use metric::{Sink, Source};
 use std::alloc::Global;
 use std::thread::Threads;
+use streams::REFUSED;
 
 /// Runs what the words name, of which the first is the program's name. Returns the status.
 ///

@@ -11,7 +11,7 @@ pub mod net;
 mod run;
 mod serve;
 mod steps;
-mod streams;
+mod text;
 
 pub use ask::ask_run;
 pub use command_line::arguments::{AskOptions, DistOptions, Fault, Options, ServeOptions};
@@ -21,13 +21,10 @@ pub use engine::run_words;
 pub use run::run_process;
 pub use serve::{Listening, serve_run};
 pub use steps::steps_run;
-pub use streams::socket::{NoSocket, Socket};
+pub use streams::{NoSocket, Socket};
 
 /// The status of a run that did what was asked.
 const DONE: u8 = 0;
-
-/// The status of a run that was refused, or whose reader or writer failed.
-const REFUSED: u8 = 1;
 
 /// The status of a command line that was refused.
 const MISTAKEN: u8 = 2;

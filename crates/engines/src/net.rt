@@ -2,14 +2,11 @@
 
 ghost use Rattle.std.specs.Prelude.{◌≡◌, ◌≢◌, IfOk, IfErr, IfSome};
 ghost use Rattle.metric.specs.Stream.{CanFail};
-ghost use Rattle.engines.specs.words.Refusals.{HasWordsAlone};
+ghost use Rattle.streams.specs.Refusals.{HasWordsAlone};
 
-use crate::REFUSED;
 use crate::ask::ask_run;
 use crate::command_line::arguments::{AskOptions, ServeOptions};
 use crate::serve::{Listening, serve_run};
-use crate::streams::output::{write_net_fault, write_refusal};
-use crate::streams::socket::{NoSocket, Socket};
 use bits::Bitmap;
 use metric::{Refusal, Sink, Source};
 use pbm::{ImageStop, read_source};
@@ -19,6 +16,7 @@ use std::net::{Ipv4Addr, Net, SocketAddr, SocketAddrV4, TcpListener, TcpStream};
 use std::sync::Wait;
 use std::thread::Threads;
 use std::time::Clock;
+use streams::{NoSocket, REFUSED, Socket, write_net_fault, write_refusal};
 
 /// A port of this machine, which no other machine can reach.
 fn local(port: u16) -> SocketAddr {

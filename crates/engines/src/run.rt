@@ -3,16 +3,12 @@
 ghost use Rattle.std.specs.Prelude.{◌≡◌};
 ghost use Rattle.metric.specs.Stream.{CanFail};
 
-use crate::REFUSED;
 use crate::command_line::arguments::{Fault, Options};
 use crate::command_line::options;
 use crate::command_line::refusing::tell;
 use crate::engine::run_said;
 use crate::hints::{Asked, Typed, tell_cure, tell_waiting};
 use crate::net::{ask, serve};
-use crate::streams::errors::ErrorSink;
-use crate::streams::noted::Noted;
-use crate::streams::standard::Held;
 use metric::{ReaderSource, Refusal, Sink, Source, WriterSink};
 use std::alloc::Global;
 use std::fs::{File, Files};
@@ -22,6 +18,7 @@ use std::sync::Wait;
 use std::thread::Threads;
 use std::time::Clock;
 use std::{env, io};
+use streams::{ErrorSink, Held, Noted, REFUSED};
 
 /// Runs what the process's words name, on the standard streams. Returns the exit status. Standard
 /// streams that are closed stay closed: nothing that is opened takes their place.

@@ -14,9 +14,8 @@ mod accepted;
 mod lines;
 mod pause;
 
+use crate::DONE;
 use crate::command_line::arguments::ServeOptions;
-use crate::streams::output::{write_refusal, write_text};
-use crate::{DONE, REFUSED};
 use accepted::Accepted;
 use bits::Bitmap;
 use lines::{listening_line, served_line};
@@ -32,6 +31,7 @@ use std::net::TcpListener;
 use std::sync::Wait;
 use std::thread::Threads;
 use std::time::Clock;
+use streams::{REFUSED, write_refusal, write_text};
 
 /// A listener, and how many connections it serves.
 #[derive(Drop)]

@@ -9,12 +9,10 @@ mod line;
 mod opening;
 mod run;
 
-use crate::REFUSED;
-use crate::streams::input::{InputStop, read_to_end};
-use crate::streams::output::write_refusal;
 use metric::{Refusal, Sink, Source};
 use run::write_steps;
 use std::alloc::Global;
+use streams::{InputStop, REFUSED, read_to_end, write_refusal};
 
 /// Reads a text to the end of the reader, opens the world of its first line, and writes one answer
 /// line for it and for each line after it. Returns the status.

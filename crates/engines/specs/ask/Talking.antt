@@ -9,10 +9,11 @@ use Rattle.proto.specs.Said.{verb_in}
 use Rattle.proto.specs.Words.{words}
 use Rattle.proto.specs.declared.verb.Verb.{Verb}
 use Rattle.proto.specs.declared.verb.Verb.TheVariants as verbs
-use Rattle.engines.specs.ask.Asking.{IsAtMostCounted, IsCounted, IsRequest, counted_by}
-use Rattle.engines.specs.streams.Passing.{EndsCut, bye}
-use Rattle.engines.specs.streams.TextLines.{lines_of}
-use Rattle.engines.specs.words.Refusals.{memory_text, net_text}
+use Rattle.streams.specs.Counted.{IsAtMostCounted, IsCounted}
+use Rattle.engines.specs.ask.Asking.{IsRequest, counted_by}
+use Rattle.engines.specs.ask.Passing.{EndsCut, bye}
+use Rattle.engines.specs.TextLines.{lines_of}
+use Rattle.streams.specs.Refusals.{memory_text, net_text}
 
 -- the command is a dump
 abbrev pub is_dump : Option Verb → Bool

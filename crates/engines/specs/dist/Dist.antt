@@ -15,7 +15,7 @@ use Rattle.proto.specs.Replies.{reply_line}
 use Rattle.proto.specs.declared.answer.Answer.{Answer}
 use Rattle.engines.specs.dist.Query.{IsReplyTo, asked_in, status_of}
 use Rattle.engines.specs.declared.command_line.arguments.DistOptions.{DistOptions}
-use Rattle.engines.specs.dist.Table.{table_text}
+use Rattle.printing.specs.Table.{table_text}
 
 -- the bytes read as an image, and the text is its table, by the metric and with the edge asked for
 pub record IsTable (options : DistOptions) (bytes text : List ℕ) (status : ℕ) : Type 0 where

@@ -3,7 +3,7 @@ use Rattle.std.specs.Prelude.{◌≡◌, ℕ, ◌⊎◌, List, [], ◌∷◌, �
 use Rattle.std.specs.Fmt.{decimal}
 use Rattle.metric.specs.Stream.{Appends, AppendsFront}
 use Rattle.map_core.specs.declared.setting.Setting.{Setting}
-use Rattle.engines.specs.words.Refusals.{memory_text}
+use Rattle.streams.specs.Refusals.{memory_text}
 use Rattle.engines.specs.declared.command_line.arguments.ServeOptions.{ServeOptions}
 
 -- the setting of the store is what the options ask for, with a session per worker

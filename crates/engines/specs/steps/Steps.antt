@@ -21,7 +21,7 @@ use Rattle.engines.specs.steps.Opening.{base_opened, later_lines, opened_by}
 use Rattle.engines.specs.steps.StepAnswers.{step_text}
 use Rattle.engines.specs.steps.StepLines.{StepSaid, EventView, bad, event, keeps, refused}
 use Rattle.engines.specs.steps.StepLines.{step_said, told_event}
-use Rattle.engines.specs.streams.TextLines.{lines_of}
+use Rattle.engines.specs.TextLines.{lines_of}
 
 -- the current command has at least this many steps left, and this is at least one
 pub record CanKeep (count : ℕ) (w : State) : Type 0 where

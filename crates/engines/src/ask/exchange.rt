@@ -2,20 +2,20 @@
 
 ghost use Rattle.std.specs.Prelude.{◌≡◌, ◌≢◌, ◌⊎◌, ℕ, List, [], OnOk, OnErr, IfErr, Err};
 ghost use Rattle.metric.specs.Stream.{Appends, AppendsFront, CanFail, Takes};
-ghost use Rattle.engines.specs.ask.Asking.{IsCounted};
+ghost use Rattle.streams.specs.Counted.{IsCounted};
 ghost use Rattle.engines.specs.ask.Talking.{IsReplyTo, asks_for_bytes, bytes_promised};
 ghost use Rattle.engines.specs.ask.Talking.{counted_for};
-ghost use Rattle.engines.specs.streams.Passing.{Gathers, TakesAtMost};
-ghost use Rattle.engines.specs.streams.TextLines.{lines_of};
+ghost use Rattle.streams.specs.Gathered.{Gathers, TakesAtMost};
+ghost use Rattle.engines.specs.TextLines.{lines_of};
 ghost use Rattle.engines.specs.declared.ask.Stop.TheVariants.{Net, Standard};
-ghost use Rattle.engines.specs.declared.streams.gather.PartStop.TheVariants.{Failed};
+ghost use Rattle.streams.specs.declared.gather.PartStop.TheVariants.{Failed};
 
 use crate::ask::Stop;
 use crate::ask::request::without_end;
-use crate::streams::gather::{PartStop, read_count, read_line};
-use crate::streams::text::split_line;
+use crate::text::split_line;
 use metric::Stream;
 use proto::{Verb, only_number, split_word, verb_of};
+use streams::{PartStop, read_count, read_line};
 
 /// Sends a line with the bytes that it counts, and replaces the buffer by its reply, with the bytes
 /// that the reply counts.

@@ -5,14 +5,15 @@ ghost use Rattle.std.specs.Prelude.{false, true};
 ghost use Rattle.std.specs.Str.Lines.{strip_carriage_return};
 ghost use Rattle.metric.specs.Stream.{CanFail, Takes};
 ghost use Rattle.engines.specs.ask.Asking.{IsRequest, counted_by};
-ghost use Rattle.engines.specs.streams.Passing.{EndsCut, Gathers, TakesAtMost};
+ghost use Rattle.engines.specs.ask.Passing.{EndsCut};
+ghost use Rattle.streams.specs.Gathered.{Gathers, TakesAtMost};
 ghost use Rattle.engines.specs.declared.ask.Stop.TheVariants.{Standard};
-ghost use Rattle.engines.specs.declared.streams.gather.PartStop.TheVariants.{Ended, Failed};
+ghost use Rattle.streams.specs.declared.gather.PartStop.TheVariants.{Ended, Failed};
 
 use crate::ask::Stop;
-use crate::streams::gather::{PartStop, read_count, read_line};
 use metric::Source;
 use proto::{Line, MOST_COUNTED, Verb, read_stamp, split_verb, without_cr};
+use streams::{PartStop, read_count, read_line};
 
 /// Replaces the buffer by a line and the bytes that it counts. `false` if the reader ends before
 /// all of them.

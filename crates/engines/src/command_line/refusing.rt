@@ -7,10 +7,10 @@ ghost use Rattle.metric.specs.declared.refusal.Refusal.{Refusal};
 ghost use Rattle.engines.specs.Runs.{Begins, IsStatusOf, IsFaultTold};
 
 use crate::command_line::arguments::Fault;
-use crate::streams::output::{write_refusal, write_text};
-use crate::{DONE, MISTAKEN, REFUSED};
+use crate::{DONE, MISTAKEN};
 use metric::{Refusal, Sink};
 use std::alloc::{AllocError, Global};
+use streams::{REFUSED, write_refusal, write_text};
 
 /// The status of a run whose words are refused.
 fn status_of(fault: &Fault<'_>) -> u8

@@ -5,11 +5,12 @@ ghost use Rattle.metric.specs.declared.refusal.Refusal.{Refusal};
 ghost use Rattle.proto.specs.Asked.{asked_by, HasPoints};
 ghost use Rattle.engines.specs.dist.Query.{IsReplyTo, asked_in, status_of};
 
-use crate::{DONE, REFUSED};
+use crate::DONE;
 use bits::Bitmap;
 use metric::{Edge, Refusal};
 use proto::{Answer, Query, Verb, answer_query, read_query, split_verb};
 use std::alloc::Global;
+use streams::REFUSED;
 
 /// The answer to a line, which may be a refusal of the line or of its query.
 pub fn answer_query_line(alloc: Global, bitmap: &Bitmap, edge: Edge, line: &[u8]) -> Answer

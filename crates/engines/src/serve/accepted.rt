@@ -3,11 +3,11 @@
 ghost use Rattle.std.specs.Prelude.{◌≡◌, ◌≤◌, IfSome};
 
 use crate::serve::pause::Pause;
-use crate::streams::socket::Socket;
 use proto::Streams;
 use std::alloc::Global;
 use std::net::{TcpListener, TcpStream};
 use std::time::Clock;
+use streams::Socket;
 
 /// The next connections of a listener, up to a number. One that can't be accepted counts too, and a
 /// wait follows it.

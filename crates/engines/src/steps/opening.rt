@@ -7,7 +7,7 @@ ghost use Rattle.map_core.specs.Runs.{IsOpened};
 ghost use Rattle.map_core.specs.Words.{tiles};
 ghost use Rattle.proto.specs.Numbers.{numbers};
 ghost use Rattle.proto.specs.Words.{words_left};
-ghost use Rattle.engines.specs.words.Refusals.{HasWordsAlone};
+ghost use Rattle.streams.specs.Refusals.{HasWordsAlone};
 ghost use Rattle.engines.specs.steps.Opening.{base_opened, is_map_side, judged, opening_told};
 ghost use Rattle.engines.specs.steps.Opening.{setting_of};
 

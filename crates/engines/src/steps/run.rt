@@ -6,18 +6,18 @@ ghost use Rattle.engines.specs.steps.StepLines.{step_said};
 ghost use Rattle.engines.specs.steps.StepRuns.{IsAnswerLine, AreLinesDone, IsDoneInPart};
 ghost use Rattle.engines.specs.steps.StepRuns.{IsWorldTold, IsToldInPart};
 ghost use Rattle.engines.specs.steps.Steps.{IsBegun, IsAnsweredWhole, KeepsAll};
-ghost use Rattle.engines.specs.streams.TextLines.{lines_of};
+ghost use Rattle.engines.specs.TextLines.{lines_of};
 
 use crate::DONE;
 use crate::steps::answer::{bad_line, opened_line, step_line};
 use crate::steps::line::{StepLine, parse_step};
 use crate::steps::opening::Opened;
-use crate::streams::output::write_refusal;
-use crate::streams::text::split_line;
+use crate::text::split_line;
 use map_core::{Event, NotEnabled, StepReply, World};
 use metric::{Refusal, Sink, WriteFault};
 use proto::{Answer, Text, reply_text};
 use std::alloc::Global;
+use streams::write_refusal;
 
 /// Does this many steps of the keeper if all of them are enabled. Returns the answer to the last.
 fn keep(alloc: Global, world: &mut World, count: u32) -> Result<StepReply, NotEnabled>

@@ -1,7 +1,7 @@
 -- Each request so far went out whole, and its reply was written.
 use Rattle.std.proofs.Common.{◌≡◌}
 use Rattle.engines.specs.ask.Talking.{Exchanges, talk_at}
-use Rattle.engines.specs.streams.Passing.{Asks, PassesOn}
+use Rattle.engines.specs.ask.Passing.{Asks, PassesOn}
 use Rattle.engines.proofs.ask.ask_lines.Given as goal
 
 -- all lines so far were sent, all replies so far written, and no call has failed

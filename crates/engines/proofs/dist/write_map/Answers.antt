@@ -1,35 +1,32 @@
 -- A write that failed leaves a prefix of the answer: a table's lines, or the line for out of
 -- memory.
-use Rattle.std.proofs.lemmas.Result.{on_err_weaker}
-use Rattle.engines.specs.dist.Table.{table_text}
-use Rattle.engines.proofs.Answering.{asked_of_table, map_of_table}
-use Rattle.engines.proofs.Answering.{map_wanting_front, map_wanting_whole}
+use Rattle.std.proofs.lemmas.Result.{err_from_is_err_and}
+use Rattle.printing.specs.Table.{table_text}
+use Rattle.engines.proofs.Answering.{asked_of_table, map_wanting_front, map_wanting_whole}
 use Rattle.engines.proofs.dist.write_map.Goals as goal
 
-pub returns-in-Ok-clause-whole : goal.returns-in-Ok-clause-whole
-returns-in-Ok-clause-whole g c =
+pub returns-in_ok-write-in-Ok-clause-whole : goal.returns-in_ok-write-in-Ok-clause-whole
+returns-in_ok-write-in-Ok-clause-whole g c =
     let options = c.args.options.now in
-    let table = c.in-Ok.table.printer.table in
-    map_of_table c.write_turns.result options c.args.map.now
-    (table_text options.nearest table.width table.height table.nears) _ _
-    (asked_of_table options c.args.map.now g.M.Metric.distance table c.requires.table
-    c.requires.metric c.in-Ok.ensures.asked c.in-Ok.ensures.table)
-    c.write_turns.ensures.status
-    (rw c.in-Ok.ensures.nearest at c.write_turns.ensures.all)
+    let table = c.in-Ok.table.table in (
+      table_text options.nearest table.width table.height table.nears,
+      asked_of_table options c.args.map.now g.M.Metric.distance table c.requires.table
+          c.requires.metric c.in-Ok.ensures.nearest c.in-Ok.ensures.table,
+      rw c.in-Ok.ensures.nearest at c.in_ok-write-in-Ok.ensures.all,
+    )
 
-pub returns-in-Ok-clause-front : goal.returns-in-Ok-clause-front
-returns-in-Ok-clause-front g c =
+pub returns-in_err-write-in-Ok-clause-front : goal.returns-in_err-write-in-Ok-clause-front
+returns-in_err-write-in-Ok-clause-front g c =
     let options = c.args.options.now in
-    let table = c.in-Ok.table.printer.table in
-    on_err_weaker c.write_turns.result
-    (λ front. (
+    let table = c.in-Ok.table.table in
+    let p = err_from_is_err_and c.from_residual.result c.from_residual.ensures.1 in
+    rw p.1 (
       table_text options.nearest table.width table.height table.nears,
       0,
       asked_of_table options c.args.map.now g.M.Metric.distance table c.requires.table
-          c.requires.metric c.in-Ok.ensures.asked c.in-Ok.ensures.table,
-      front,
-    ))
-    (rw c.in-Ok.ensures.nearest at c.write_turns.ensures.front)
+          c.requires.metric c.in-Ok.ensures.nearest c.in-Ok.ensures.table,
+      rw c.in-Ok.ensures.nearest at c.in_err-write-in-Ok.ensures.front,
+    )
 
 pub returns-in-Err-clause-front : goal.returns-in-Err-clause-front
 returns-in-Err-clause-front g c =

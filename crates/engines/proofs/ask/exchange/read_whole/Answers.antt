@@ -4,7 +4,7 @@ use Rattle.std.proofs.Common.{◌∙◌}
 use Rattle.std.proofs.lemmas.Result.{err_from_is_err_and}
 use Rattle.engines.specs.ask.Talking.{bytes_promised}
 use Rattle.engines.proofs.CutLines.{TakesAtMost-line, counted_cut}
-use Rattle.engines.proofs.Gathering.{taken_behind}
+use Rattle.streams.proofs.Gathering.{taken_behind}
 use Rattle.engines.proofs.Requests.{counted_read, gathered_both}
 use Rattle.engines.proofs.ask.exchange.read_whole.Goals as goal
 

@@ -2,7 +2,7 @@
 use Rattle.std.proofs.Common.{◌∙◌, rules}
 use Rattle.std.proofs.lemmas.Result.{err_from_is_err_and}
 use Rattle.engines.specs.ask.Asking.{counted_by}
-use Rattle.engines.proofs.Gathering.{taken_behind}
+use Rattle.streams.proofs.Gathering.{taken_behind}
 use Rattle.engines.proofs.CutLines.{TakesAtMost-line, counted_cut}
 use Rattle.engines.proofs.Requests.{counted_read, cut_bytes, cut_line, gathered_both}
 use Rattle.engines.proofs.ask.request.read_whole.Goals as goal

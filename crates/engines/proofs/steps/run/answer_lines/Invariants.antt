@@ -1,6 +1,6 @@
 -- The lines so far were done and their answers written, and no write has failed.
 use Rattle.std.proofs.Common.{◌≡◌, length}
-use Rattle.engines.specs.streams.TextLines.{lines_of}
+use Rattle.engines.specs.TextLines.{lines_of}
 use Rattle.engines.proofs.Hearing.{IsHeard}
 use Rattle.engines.proofs.steps.run.answer_lines.Given as goal
 

@@ -1,3 +1,0 @@
--- What is read from streams and passed on to them.
-pub mod Passing
-pub mod TextLines
