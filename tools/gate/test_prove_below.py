@@ -84,7 +84,7 @@ class Below(unittest.TestCase):
         self.assertEqual(first, "low lib --jobs 3: low, kept: ../*/out/kept")
         self.assertEqual(sorted(rest), [
             f"long lib --jobs 2: low long, {below}",
-            f"short lib --jobs 2: low short, {below}",
+            f"short lib --jobs 1: low short, {below}",
         ])
 
     def test_two_are_at_work_at_once(self):
