@@ -60,7 +60,7 @@ def main():
     add_unproved(parser)
     given = parser.parse_args()
     with tempfile.TemporaryDirectory() as work:
-        uses = ["session", "shelf", "map_core", "pbm", "bits", "metric"]
+        uses = ["session", "shelf", "clearance", "events", "pbm", "bits", "metric"]
         own = build(work, (HERE / "pins" / "main.rt.in").read_text(), uses, answers=STORE_NAME, proved=not given.unproved)
         plan = pathlib.Path(work) / "plan.pbm"
         floor_plan(4096, random.Random(SEED)).write(plan)

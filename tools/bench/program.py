@@ -83,7 +83,7 @@ def build(folder, text, uses, root=ROOT, answers=None, proved=True):
 
 def build_over_sessions(folder, source, proved=True):
     """A program over a store's sessions, whose one answer names the store that it makes."""
-    uses = ["session", "shelf", "map_core", "bits", "metric"]
+    uses = ["session", "shelf", "events", "bits", "metric"]
     return build(folder, source.read_text(), uses, answers=STORE_NAME, proved=proved)
 
 

@@ -1,4 +1,5 @@
-"""Builds the twin of the queries: the sources of `clearance`, and of `pbm` the raw raster, in Rust.
+"""Builds the twin of the queries in Rust: the sources of `clearance`, and what it calls of `bits`
+and `pbm`.
 
 Comments, clauses and imports are left out, so that no change of theirs changes the twin. Which
 modules there are is read from the root of `clearance`.
@@ -52,7 +53,8 @@ def rust_of(source):
 def loops():
     """The sources of the twin, as paths below `crates`."""
     searches = (f"clearance/src/{name}" for name in module_names("clearance/src/lib.rt"))
-    return ["metric/src/limits", "metric/src/edge", *searches, "pbm/src/raw_row", "pbm/src/raw_raster"]
+    below = ["metric/src/limits", "metric/src/edge", "bits/src/word"]
+    return [*below, *searches, "pbm/src/raw_row", "pbm/src/raw_raster"]
 
 
 def build_twin(folder):

@@ -13,16 +13,17 @@ SCRIPT = pathlib.Path(__file__).resolve().parents[1] / "prove_below"
 
 # Each crate, what it stands on, and its lines.
 CRATES = {
-    "low": ("std_alloc", 2), "long": ("low", 9), "short": ("low", 1), "top": ("long short", 1),
+    "low": ("std_alloc", 2), "long": ("low", 3000), "short": ("low", 2999),
+    "top": ("long short", 1),
 }
 
 # Notes its words, its place, and what is kept of this crate and of those below; some seconds later
 # its end. Then keeps a file, says what the file `says` of its crate has, and ends as that says.
 RT = """#!/bin/sh
 crate=$(basename "$PWD")
-echo "$crate $*: $(cat ../../crates.txt | cut -d: -f1 | xargs), kept: $(echo ../*/out/kept)" >> "$NOTES"
 mkdir -p out
 trap 'echo "$crate ended" >> "$NOTES"; exit 1' TERM
+echo "$crate $*: $(cat ../../crates.txt | cut -d: -f1 | xargs), kept: $(echo ../*/out/kept)" >> "$NOTES"
 for _ in $(seq $(cat seconds)); do sleep 1; done
 touch out/kept
 echo "$crate done" >> "$NOTES"
@@ -87,6 +88,13 @@ class Below(unittest.TestCase):
             f"short lib --jobs 1: low short, {below}",
         ])
 
+    def test_a_small_one_gets_one_job(self):
+        """Also where more processors are free, unless nothing is below it."""
+        (self.top / "crates.txt").write_text("low: std_alloc\nshort: low\ntop: short\n")
+        self.assertEqual(self.prove("--at-once", "3")[0], 0)
+        jobs = [line.split(":")[0] for line in self.noted()]
+        self.assertEqual(jobs, ["low lib --jobs 3", "short lib --jobs 1"])
+
     def test_two_are_at_work_at_once(self):
         for name in ("long", "short"):
             (self.top / "crates" / name / "seconds").write_text("5")
@@ -148,7 +156,8 @@ class Below(unittest.TestCase):
         self.assertEqual(said.count("clearmap: proved "), 3, said)
         crates = [line.split()[0] for line in self.notes.read_text().splitlines()]
         self.assertEqual(crates, ["low", "low", "long", "long", "short", "short"])
-        self.assertEqual([line for line in self.noted() if "--jobs" in line], [])
+        jobs = [line.split(":")[0] for line in self.noted()]
+        self.assertEqual(jobs, ["low lib", "long lib", "short lib --jobs 1"])
 
 
 if __name__ == "__main__":

@@ -40,11 +40,7 @@ pub fn renewed(bits: u64, index: u16, word: u64) -> u64
     ensures here { (i : ℕ) → bit_at word i ≡ 1 → bit_at result index ≡ 1 }
     ensures kept { (k : ℕ) → k < 64 → k ≢ index → bit_at bits k ≡ 1 → bit_at result k ≡ 1 }
 {
-    if word != 0 {
-        with_bit(bits, u32::from(index), true)
-    } else {
-        with_bit(bits, u32::from(index), false)
-    }
+    with_bit(bits, u32::from(index), word != 0)
 }
 
 /// The bands after these words are written to row `y`, or to the rows of its band.

@@ -27,6 +27,15 @@ pub fn with_bit(word: u64, place: u32, bit: bool) -> u64
     }
 }
 
+/// Clears bit `place` of the word.
+pub fn without_bit(word: u64, place: u16) -> u64
+    requires { place < WORD_BITS }
+    ensures gone { bit_at result place ≡ 0 }
+    ensures kept { (i : ℕ) → i < WORD_BITS → i ≢ place → bit_at result i ≡ bit_at word i }
+{
+    word & !(1 << place)
+}
+
 /// Clears the bits of the word from bit `count` on.
 pub fn low_bits(word: u64, count: u16) -> u64
     ensures kept { (i : ℕ) → i < count → i < WORD_BITS → bit_at result i ≡ bit_at word i }

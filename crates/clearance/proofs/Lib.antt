@@ -15,7 +15,7 @@ mod NearestSearches
 mod PieceFirsts
 mod RectFirsts
 mod Rectangles
-pub mod Refusals
+mod Refusals
 mod RowSearches
 pub mod RowWords
 mod Searches

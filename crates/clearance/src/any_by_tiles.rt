@@ -6,7 +6,6 @@ ghost use Rattle.bits.specs.Cells.{IsBitmap, IsObstacle};
 ghost use Rattle.bits.specs.Words.{words_across};
 ghost use Rattle.clearance.specs.Spots.{IsAnyBelow, IsInBand, IsInTile, IsNearSpot};
 
-use crate::bit::without_bit;
 use crate::by_tiles::{bands_within, columns_apart, columns_outside, rows_met, rows_within};
 use crate::far_bands::rows_apart;
 use crate::far_columns::{are_tiles_far, joined_span};
@@ -17,6 +16,7 @@ use crate::rows::Rows;
 use crate::seed::LOOSE_GAP;
 use crate::spot::first_in_word;
 use crate::tiles::{NO_TILE, next_tile};
+use bits::without_bit;
 use metric::{BAND_ROWS, Metric, Rect};
 
 /// An obstacle in a tile of a band whose distance from the rectangle is below the limit; `None` if

@@ -1,6 +1,6 @@
 //! The lowest and the highest bit of a word.
 
-ghost use Rattle.std.specs.Prelude.{◌≡◌, ◌≢◌, ℕ, ◌+◌, ◌<◌, ◌≤◌};
+ghost use Rattle.std.specs.Prelude.{◌≡◌, ℕ, ◌+◌, ◌<◌, ◌≤◌};
 ghost use Rattle.std.specs.Int.{bit_at};
 
 /// The index of the lowest bit that is 1.
@@ -60,13 +60,4 @@ pub fn bits_between(word: u64, first: u16, last: u16) -> u64
     ensures { (i : ℕ) → first ≤ i → i ≤ last → bit_at result i ≡ bit_at word i }
 {
     bits_before(bits_from(word, first), last + 1)
-}
-
-/// Clears the bit `place` of the word.
-pub fn without_bit(word: u64, place: u16) -> u64
-    requires { place < 64 }
-    ensures gone { bit_at result place ≡ 0 }
-    ensures kept { (i : ℕ) → i < 64 → i ≢ place → bit_at result i ≡ bit_at word i }
-{
-    word & !(1 << place)
 }

@@ -6,7 +6,6 @@ ghost use Rattle.std.specs.Int.{bit_at};
 ghost use Rattle.bits.specs.Cells.{IsBitmap};
 ghost use Rattle.clearance.specs.Spots.{IsElsewhere, IsInTiles, IsSpotBelow};
 
-use crate::bit::without_bit;
 use crate::by_tiles::{bands_within, first_in_tile, rows_within};
 use crate::far_bands::rows_apart;
 use crate::far_columns::are_tiles_far;
@@ -15,6 +14,7 @@ use crate::rows::Rows;
 use crate::seed::Seed;
 use crate::spot::{limit_with, merged};
 use crate::tiles::{NO_TILE, next_tile};
+use bits::without_bit;
 use metric::{BAND_ROWS, Metric, Rect, WORD_CELLS};
 
 /// The first of the obstacles outside the tile of a seed, seen from the rectangle, if its distance

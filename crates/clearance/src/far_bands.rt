@@ -6,12 +6,12 @@ ghost use Rattle.clearance.specs.Bands.{IsBandFar, IsThinned};
 ghost use Rattle.clearance.specs.Search.{row_gap};
 
 use crate::band::STRETCH;
-use crate::bit::without_bit;
 use crate::far_columns::{are_columns_far, are_tiles_far};
 use crate::rows::Rows;
 use crate::search::{FAR_GAP, NO_LIMIT};
 use crate::soon::ends_soon;
 use crate::tiles::{NO_TILE, after_last_tile, are_few, next_tile};
+use bits::without_bit;
 use metric::{BAND_ROWS, LAST_FRAMED, MOST_SIDE, Metric, Rect};
 
 /// The bands without those above and below the rectangle whose obstacles, `gap` or more rows away,

@@ -26,6 +26,7 @@ mod nearest;
 mod part;
 mod path;
 mod piece;
+mod queried;
 mod queries;
 mod row;
 mod rows;
@@ -39,6 +40,7 @@ mod tiles;
 mod walk;
 mod words;
 
+pub use queried::{Bordered, Queried};
 pub use queries::{
     along, along_rows, at, at_rows, clear_of, clear_of_rows, least_in, least_in_rows,
 };

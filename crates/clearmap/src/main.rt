@@ -1,8 +1,12 @@
 //! The program `clearmap`: exact distances to the nearest obstacle of an occupancy grid.
 #![tactic(auto)]
 
+mod hints;
+mod run;
+
+use run::run_process;
 use std::process::ExitCode;
 
 fn main(rt: HostRuntime) -> ExitCode {
-    ExitCode::from(engines::run_process(&rt))
+    ExitCode::from(run_process(&rt))
 }

@@ -14,8 +14,8 @@ use Rattle.desk.proofs.Names.{KeepsScanned, signed, DeskView, story_told, base_p
 use Rattle.desk.proofs.Names.{entries_kept_after, IsDesk, IsSteady, IsByScan, IsAccepted, IsWhy}
 use Rattle.desk.proofs.Names.{IsCommandRefused, IsApplied}
 use mathlib.Core.List.{IsPrefix}
-use Rattle.map_core.proofs.logs.LogLemmas.{places_are, places-legal}
-use Rattle.map_core.proofs.logs.KeptAfter.{few_after}
+use Rattle.events.proofs.logs.LogLemmas.{places_are, places-legal}
+use Rattle.events.proofs.logs.KeptAfter.{few_after}
 use Rattle.shelf.proofs.seats.ReaderSeats.{hold_stays}
 use Rattle.shelf.proofs.logs.NowLemmas.{story-push}
 use Rattle.desk.proofs.ScanSteps.{kept_replied}

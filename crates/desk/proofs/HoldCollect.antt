@@ -8,11 +8,11 @@ use Rattle.desk.proofs.Names.{moved, refused_by_ledger, IsSummary, Base, story, 
 use Rattle.desk.proofs.Names.{freed_is, refused_next, ledger_collect, OldPiece, Sweeps}
 use Rattle.desk.proofs.Names.{retired_of}
 use Rattle.desk.proofs.Names.{retired_blocks, Holding, summary_of, Holds, Does, rules}
-use Rattle.map_core.specs.declared.blocks.RetiredBlock.{RetiredBlock}
-use Rattle.map_core.proofs.logs.SummaryCollect.{summary_swept}
-use Rattle.map_core.proofs.invariants.TidyCollect.{IsChoice, kept_of}
+use Rattle.events.specs.declared.blocks.RetiredBlock.{RetiredBlock}
+use Rattle.events.proofs.logs.SummaryCollect.{summary_swept}
+use Rattle.events.proofs.invariants.TidyCollect.{IsChoice, kept_of}
 use Rattle.grid.proofs.GridSweep.{contains_member}
-use Rattle.map_core.proofs.accounts.TimesLemmas.{length-filter}
+use Rattle.events.proofs.accounts.TimesLemmas.{length-filter}
 use Rattle.desk.proofs.HoldLemmas.{tidy_told, told_more}
 
 -- a version that is kept is one of those in the slots

@@ -13,12 +13,12 @@ use Rattle.desk.proofs.Names.{inside_told, told_draw, ledger_draw, ledger_revert
 use Rattle.desk.proofs.Names.{reply_is_answer, Draws, Reverts, draft, own_blocks, needed_by}
 use Rattle.desk.proofs.Names.{refused_by, block_if, Holding, Judged, IsJudged, summary_of, Holds}
 use Rattle.desk.proofs.Names.{IsToldByLog, Judges, Does}
-use Rattle.map_core.proofs.steps.DrawWorld.{reply_draw}
-use Rattle.map_core.proofs.logs.SummaryDraw.{IsDrawnOn, moved_draw, summary_draw, summary_revert}
-use Rattle.map_core.proofs.logs.SummaryDraw.{summary_checkpoint}
-use Rattle.map_core.proofs.invariants.TidyDraft.{free_is}
+use Rattle.events.proofs.steps.Events.{reply_draw}
+use Rattle.events.proofs.logs.SummaryDraw.{IsDrawnOn, moved_draw, summary_draw, summary_revert}
+use Rattle.events.proofs.logs.SummaryDraw.{summary_checkpoint}
+use Rattle.events.proofs.invariants.TidyDraft.{free_is}
 use Rattle.desk.proofs.HoldLemmas.{tidy_told, told_more, holds_draft}
-use Rattle.map_core.specs.Drawing.{touched, is_inside, draws as is_draw}
+use Rattle.events.specs.Drawing.{touched, is_inside, draws as is_draw}
 use Rattle.desk.specs.declared.holding.judged.Judged.TheVariants as kinds
 
 -- a paint or a stamp needs as many blocks by the grid as by the log

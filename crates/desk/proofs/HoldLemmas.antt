@@ -9,7 +9,7 @@ use Rattle.desk.proofs.Names.{moved, Base, story, blocks, IsTidy, IsSummary, sto
 use Rattle.desk.proofs.Names.{blocks-push, IsTidy-legal, IsLegal-push, Home, Tiled, draft}
 use Rattle.desk.proofs.Names.{bitmap_at, own_blocks, newest_blocks, retired_blocks, Holding}
 use Rattle.desk.proofs.Names.{summary_of, Holds, IsToldByLog, rules}
-use Rattle.map_core.proofs.logs.LedgerLemmas.{place_of_ledger}
+use Rattle.events.proofs.logs.LedgerLemmas.{place_of_ledger}
 
 -- the map of a log that is told, and its blocks, are tidy
 pub tidy_told : (k : Base) (log : List Entry) (h : Holding) → IsToldByLog k log h

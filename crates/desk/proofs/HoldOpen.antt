@@ -9,8 +9,8 @@ use Rattle.desk.proofs.Names.{own_blocks, newest_blocks, retired_of, Holding, Is
 use Rattle.desk.proofs.Names.{CanAnswer, rules}
 use Rattle.std.specs.List.{range_with_len}
 use Rattle.bits.specs.Tiles.{tile_count}
-use Rattle.map_core.specs.Setting.{bad_field}
-use Rattle.map_core.proofs.invariants.TidyOpened.{opened_at}
+use Rattle.events.specs.Setting.{bad_field}
+use Rattle.events.proofs.invariants.TidyOpened.{opened_at}
 use Rattle.desk.proofs.HoldLemmas.{tidy_told}
 
 -- the parts of a holding are these at its opening

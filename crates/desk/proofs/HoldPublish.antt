@@ -6,9 +6,9 @@ use Rattle.desk.proofs.Names.{moved, refused_by_ledger, IsSummary}
 use Rattle.desk.proofs.Names.{Base, story, blocks, IsTidy, refused_next, ledger_publish, Seals}
 use Rattle.desk.proofs.Names.{bitmap_at, own_blocks, retired_blocks, block_if}
 use Rattle.desk.proofs.Names.{Holding, summary_of, Holds, Does, rules}
-use Rattle.map_core.proofs.logs.SummaryPublish.{newest_published, slots_published, summary_publish}
-use Rattle.map_core.proofs.invariants.TidyPublish.{newest-publish, bitmap_of-publish, bitmap_of-new}
-use Rattle.map_core.proofs.invariants.TidyPublish.{directory_of-new, kept_published}
+use Rattle.events.proofs.logs.SummaryPublish.{newest_published, slots_published, summary_publish}
+use Rattle.events.proofs.invariants.TidyPublish.{newest-publish, bitmap_of-publish, bitmap_of-new}
+use Rattle.events.proofs.invariants.TidyPublish.{directory_of-new, kept_published}
 use Rattle.desk.proofs.HoldLemmas.{tidy_told, told_more}
 
 -- after a publish the grid has the bitmap of each version that is kept

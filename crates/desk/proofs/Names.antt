@@ -15,46 +15,46 @@ pub use Rattle.grid.specs.Grids.{Draws, OldPiece, Reverts, Seals, Sweeps, Tiled,
 pub use Rattle.grid.specs.Grids.{newest_blocks, own_blocks, refused_by, retired_blocks, retired_of}
 unfoldable pub use Rattle.grid.specs.Grids.{bitmap_at}
 pub use Rattle.grid.specs.Pieces.{block_if}
-pub use Rattle.map_core.proofs.accounts.FreedLemmas.{freed_is, reply_is_answer}
-pub use Rattle.map_core.proofs.invariants.TidyLog.{IsLegal-push, IsTidy-legal, slots_apart}
-pub use Rattle.map_core.proofs.logs.LedgerLemmas.{balanced, inside_told, ledger_checkpoint}
-pub use Rattle.map_core.proofs.logs.LedgerLemmas.{ledger_collect, ledger_draw, ledger_publish}
-pub use Rattle.map_core.proofs.logs.LedgerLemmas.{ledger_revert, place_of_ledger, refused_first}
-pub use Rattle.map_core.proofs.logs.LedgerLemmas.{refused_for_none, refused_next, told_draw}
-pub use Rattle.map_core.proofs.logs.Replies.{HasKept, the_reply}
-pub use Rattle.map_core.proofs.shared_words.PublishWords.{own_few, own_more}
-pub use Rattle.map_core.proofs.steps.OpenWorld.{bad_field-none, fits_ready}
-pub use Rattle.map_core.proofs.steps.StepLemmas.{blocks-push, story-push}
-pub use Rattle.map_core.specs.Blocks.{Blocks, drawn_blocks, is_used, mapped, own_after, own_list}
-unfoldable pub use Rattle.map_core.specs.Blocks.{directory_of, moved, opened_blocks}
-pub use Rattle.map_core.specs.Drawing.{IsDraw}
-pub use Rattle.map_core.specs.Kept.{IsIn, IsPartOfKept, announcements, first_free, first_kept}
-pub use Rattle.map_core.specs.Kept.{kept_after, least_kept, members, with_version}
-pub use Rattle.map_core.specs.Ledger.{IsBalanced, IsLedger, has_no_place, has_no_room, has_no_slot}
-pub use Rattle.map_core.specs.Ledger.{refused_draw_blocks, takes_room}
-unfoldable pub use Rattle.map_core.specs.Ledger.{refused_by_ledger}
-pub use Rattle.map_core.specs.Legal.{IsAnswer, IsLegal, after_draw, are_places_used, kept_told}
-pub use Rattle.map_core.specs.Legal.{refused_blocks}
-unfoldable pub use Rattle.map_core.specs.Legal.{needed, refused, told}
-unfoldable pub use Rattle.map_core.specs.Steps.{kept_scanned, steps_before}
-pub use Rattle.map_core.specs.Story.{Story, inuse, new_ones, trues, with_kept}
-unfoldable pub use Rattle.map_core.specs.Story.{IsKept, bitmap_of, kept, newest, opened}
-pub use Rattle.map_core.specs.Summary.{IsSummary, Summary, came_after, retired_by}
-pub use Rattle.map_core.specs.Tidy.{IsTidy}
-unfoldable pub use Rattle.map_core.specs.Views.{blocks, story}
-pub use Rattle.map_core.specs.Words.{Base, pin_word, seen_in, tiles}
-unfoldable pub use Rattle.map_core.specs.Words.{next_slot, slot_of}
-pub use Rattle.map_core.specs.declared.command.Command.{Command}
-pub use Rattle.map_core.specs.declared.command.Command.TheVariants.{Checkpoint, Collect, Paint}
-pub use Rattle.map_core.specs.declared.command.Command.TheVariants.{Publish, Revert, Stamp}
-pub use Rattle.map_core.specs.declared.command.Entry.{Entry}
-pub use Rattle.map_core.specs.declared.command.Reply.{Reply}
-pub use Rattle.map_core.specs.declared.command.Reply.TheVariants.{Checkpointed, Collected, Painted}
-pub use Rattle.map_core.specs.declared.command.Reply.TheVariants.{Published, Reverted}
-pub use Rattle.map_core.specs.declared.kept.Kept.{Kept}
-pub use Rattle.map_core.specs.declared.kept.Seen.{Seen}
-pub use Rattle.map_core.specs.declared.ledger.Ledger.{Ledger}
-pub use Rattle.map_core.specs.declared.setting.Setting.{Setting}
+pub use Rattle.events.proofs.accounts.FreedLemmas.{freed_is, reply_is_answer}
+pub use Rattle.events.proofs.invariants.TidyLog.{IsLegal-push, IsTidy-legal, slots_apart}
+pub use Rattle.events.proofs.logs.LedgerLemmas.{balanced, inside_told, ledger_checkpoint}
+pub use Rattle.events.proofs.logs.LedgerLemmas.{ledger_collect, ledger_draw, ledger_publish}
+pub use Rattle.events.proofs.logs.LedgerLemmas.{ledger_revert, place_of_ledger, refused_first}
+pub use Rattle.events.proofs.logs.LedgerLemmas.{refused_for_none, refused_next, told_draw}
+pub use Rattle.events.proofs.logs.Replies.{HasKept, the_reply}
+pub use Rattle.events.proofs.shared_words.PublishWords.{own_few, own_more}
+pub use Rattle.events.proofs.steps.OpenWorld.{bad_field-none, fits_ready}
+pub use Rattle.events.proofs.steps.StepLemmas.{blocks-push, story-push}
+pub use Rattle.events.specs.Blocks.{Blocks, drawn_blocks, is_used, mapped, own_after, own_list}
+unfoldable pub use Rattle.events.specs.Blocks.{directory_of, moved, opened_blocks}
+pub use Rattle.events.specs.Drawing.{IsDraw}
+pub use Rattle.events.specs.Kept.{IsIn, IsPartOfKept, announcements, first_free, first_kept}
+pub use Rattle.events.specs.Kept.{kept_after, least_kept, members, with_version}
+pub use Rattle.events.specs.Ledger.{IsBalanced, IsLedger, has_no_place, has_no_room, has_no_slot}
+pub use Rattle.events.specs.Ledger.{refused_draw_blocks, takes_room}
+unfoldable pub use Rattle.events.specs.Ledger.{refused_by_ledger}
+pub use Rattle.events.specs.Legal.{IsAnswer, IsLegal, after_draw, are_places_used, kept_told}
+pub use Rattle.events.specs.Legal.{refused_blocks}
+unfoldable pub use Rattle.events.specs.Legal.{needed, refused, told}
+unfoldable pub use Rattle.events.specs.Steps.{kept_scanned, steps_before}
+pub use Rattle.events.specs.Story.{Story, inuse, new_ones, trues, with_kept}
+unfoldable pub use Rattle.events.specs.Story.{IsKept, bitmap_of, kept, newest, opened}
+pub use Rattle.events.specs.Summary.{IsSummary, Summary, came_after, retired_by}
+pub use Rattle.events.specs.Tidy.{IsTidy}
+unfoldable pub use Rattle.events.specs.Views.{blocks, story}
+pub use Rattle.events.specs.Words.{Base, pin_word, seen_in, tiles}
+unfoldable pub use Rattle.events.specs.Words.{next_slot, slot_of}
+pub use Rattle.events.specs.declared.command.Command.{Command}
+pub use Rattle.events.specs.declared.command.Command.TheVariants.{Checkpoint, Collect, Paint}
+pub use Rattle.events.specs.declared.command.Command.TheVariants.{Publish, Revert, Stamp}
+pub use Rattle.events.specs.declared.command.Entry.{Entry}
+pub use Rattle.events.specs.declared.command.Reply.{Reply}
+pub use Rattle.events.specs.declared.command.Reply.TheVariants.{Checkpointed, Collected, Painted}
+pub use Rattle.events.specs.declared.command.Reply.TheVariants.{Published, Reverted}
+pub use Rattle.events.specs.declared.kept.Kept.{Kept}
+pub use Rattle.events.specs.declared.kept.Seen.{Seen}
+pub use Rattle.events.specs.declared.ledger.Ledger.{Ledger}
+pub use Rattle.events.specs.declared.setting.Setting.{Setting}
 pub use Rattle.metric.specs.declared.refusal.Refusal.{Refusal}
 pub use Rattle.metric.specs.declared.refusal.Refusal.TheVariants.{BlocksFull, LogFull, Memory}
 pub use Rattle.metric.specs.declared.refusal.Refusal.TheVariants.{OutOfRange, PlacesUsed}

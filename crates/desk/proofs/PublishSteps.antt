@@ -8,7 +8,7 @@ use Rattle.desk.proofs.Names.{steps_before, the_reply, own_more, is_own, Holding
 use Rattle.desk.proofs.Names.{IsInHand, IsWorked}
 use Rattle.bits.specs.TileWords.{tile_words}
 use Rattle.desk.proofs.HoldLemmas.{tidy_told}
-use Rattle.map_core.proofs.shared_words.PublishWords.{own_few}
+use Rattle.events.proofs.shared_words.PublishWords.{own_few}
 
 -- the draft has a place of its own for each position
 pub own_long : (z : Base) (k : KeeperView) (h : Holding) → IsToldByLog z (entries k.log) h

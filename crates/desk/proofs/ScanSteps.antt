@@ -7,7 +7,7 @@ use Rattle.desk.proofs.Names.{IsKept, kept_scanned, steps_before, Base, pin_word
 use Rattle.desk.proofs.Names.{story-push, the_reply, StoreId, readers_of, KeeperView, entries}
 use Rattle.desk.proofs.Names.{scanning, Holding, IsToldByLog, Does, IsInHand, IsWorked}
 use Rattle.desk.proofs.Names.{refused_by_ledger, place_of_ledger}
-use Rattle.map_core.proofs.logs.KeptLemmas.{seen_in-pin_word}
+use Rattle.events.proofs.logs.KeptLemmas.{seen_in-pin_word}
 use Rattle.desk.proofs.HoldOpen.{can_answer}
 use Rattle.desk.proofs.HoldLemmas.{tidy_told}
 use Rattle.desk.proofs.CarryLemmas.{has_task}

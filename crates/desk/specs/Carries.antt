@@ -1,12 +1,12 @@
 -- How a command that has been judged is carried out: this project's own rule.
 use Rattle.std.specs.Prelude.{◌≡◌, ℕ, List, [], ◌∷◌, ◌++◌, Option, Some, None}
-use Rattle.map_core.specs.declared.command.Command.{Command}
-use Rattle.map_core.specs.declared.command.Command.TheVariants.{Collect}
-use Rattle.map_core.specs.declared.command.Reply.{Reply}
-use Rattle.map_core.specs.declared.kept.Seen.{Seen}
-use Rattle.map_core.specs.Kept.{kept_after}
-use Rattle.map_core.specs.Steps.{reply_of, steps_before}
-use Rattle.map_core.specs.Views.{story, blocks}
+use Rattle.events.specs.declared.command.Command.{Command}
+use Rattle.events.specs.declared.command.Command.TheVariants.{Collect}
+use Rattle.events.specs.declared.command.Reply.{Reply}
+use Rattle.events.specs.declared.kept.Seen.{Seen}
+use Rattle.events.specs.Kept.{kept_after}
+use Rattle.events.specs.Steps.{reply_of, steps_before}
+use Rattle.events.specs.Views.{story, blocks}
 use Rattle.shelf.specs.declared.store_entry.StoreEntry.{StoreEntry}
 use Rattle.shelf.specs.Store.{StoreId, readers_of}
 use Rattle.shelf.specs.Roles.{Task, KeeperView, entries, resting}

@@ -4,15 +4,15 @@ use Rattle.std.specs.Prelude.{Option, Some, None, Result, Ok, Err, IfOk, IfErr, 
 use mathlib.Core.List.{IsPrefix}
 use Rattle.metric.specs.declared.refusal.Refusal.{Refusal}
 use Rattle.metric.specs.declared.refusal.Refusal.TheVariants.{Memory, PlacesUsed}
-use Rattle.map_core.specs.declared.command.Command.{Command}
-use Rattle.map_core.specs.declared.command.Command.TheVariants.{Stamp, Collect}
-use Rattle.map_core.specs.declared.command.Reply.{Reply}
-use Rattle.map_core.specs.declared.kept.Seen.{Seen}
-use Rattle.map_core.specs.Kept.{members, kept_after, AreExact, announcements}
-use Rattle.map_core.specs.Story.{Story, newest}
-use Rattle.map_core.specs.Ledger.{takes_room}
-use Rattle.map_core.specs.Legal.{refused, kept_told, IsAnswer, IsLegal}
-use Rattle.map_core.specs.Views.{story}
+use Rattle.events.specs.declared.command.Command.{Command}
+use Rattle.events.specs.declared.command.Command.TheVariants.{Stamp, Collect}
+use Rattle.events.specs.declared.command.Reply.{Reply}
+use Rattle.events.specs.declared.kept.Seen.{Seen}
+use Rattle.events.specs.Kept.{members, kept_after, AreExact, announcements}
+use Rattle.events.specs.Story.{Story, newest}
+use Rattle.events.specs.Ledger.{takes_room}
+use Rattle.events.specs.Legal.{refused, kept_told, IsAnswer, IsLegal}
+use Rattle.events.specs.Views.{story}
 use Rattle.shelf.specs.declared.store_entry.StoreEntry.{StoreEntry}
 use Rattle.shelf.specs.Store.{StoreId, readers_of}
 use Rattle.shelf.specs.Roles.{KeeperView, ReaderView, entries, resting}

@@ -3,18 +3,18 @@ use Rattle.std.specs.Prelude.{◌≡◌, ℕ, ◌+◌, ◌≤◌, ◌⊎◌, tru
 use Rattle.std.specs.Prelude.{Some, None}
 use Rattle.metric.specs.declared.refusal.Refusal.{Refusal}
 use Rattle.metric.specs.declared.refusal.Refusal.TheVariants.{Memory}
-use Rattle.map_core.specs.declared.command.Command.{Command}
-use Rattle.map_core.specs.declared.command.Command.TheVariants.{Publish, Collect}
-use Rattle.map_core.specs.declared.command.Reply.{Reply}
-use Rattle.map_core.specs.declared.command.Entry.{Entry}
-use Rattle.map_core.specs.Story.{Story, newest, bitmap_of, IsKept}
-use Rattle.map_core.specs.Legal.{refused, IsAnswer, IsLegal}
-use Rattle.map_core.specs.Blocks.{Blocks, directory_of, own_list}
-use Rattle.map_core.specs.Words.{Base}
-use Rattle.map_core.specs.Views.{story, blocks}
-use Rattle.map_core.specs.Tidy.{IsReady}
-use Rattle.map_core.specs.Ledger.{IsBalanced, takes_room}
-use Rattle.map_core.specs.Summary.{Summary, IsSummary}
+use Rattle.events.specs.declared.command.Command.{Command}
+use Rattle.events.specs.declared.command.Command.TheVariants.{Publish, Collect}
+use Rattle.events.specs.declared.command.Reply.{Reply}
+use Rattle.events.specs.declared.command.Entry.{Entry}
+use Rattle.events.specs.Story.{Story, newest, bitmap_of, IsKept}
+use Rattle.events.specs.Legal.{refused, IsAnswer, IsLegal}
+use Rattle.events.specs.Blocks.{Blocks, directory_of, own_list}
+use Rattle.events.specs.Words.{Base}
+use Rattle.events.specs.Views.{story, blocks}
+use Rattle.events.specs.Tidy.{IsReady}
+use Rattle.events.specs.Ledger.{IsBalanced, takes_room}
+use Rattle.events.specs.Summary.{Summary, IsSummary}
 use Rattle.grid.specs.Grids.{draft, bitmap_at, own_blocks, newest_blocks, retired_blocks}
 use Rattle.desk.specs.declared.holding.Holding.{Holding}
 

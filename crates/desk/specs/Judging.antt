@@ -1,10 +1,10 @@
 -- Commands judged by what a desk holds: this project's own rule.
 use Rattle.std.specs.Prelude.{◌≡◌, None}
-use Rattle.map_core.specs.declared.command.Command.{Command}
-use Rattle.map_core.specs.declared.command.Command.TheVariants.{Publish, Revert, Collect}
-use Rattle.map_core.specs.declared.command.Command.TheVariants.{Checkpoint}
-use Rattle.map_core.specs.Drawing.{IsDraw}
-use Rattle.map_core.specs.Ledger.{refused_by_ledger}
+use Rattle.events.specs.declared.command.Command.{Command}
+use Rattle.events.specs.declared.command.Command.TheVariants.{Publish, Revert, Collect}
+use Rattle.events.specs.declared.command.Command.TheVariants.{Checkpoint}
+use Rattle.events.specs.Drawing.{IsDraw}
+use Rattle.events.specs.Ledger.{refused_by_ledger}
 use Rattle.grid.specs.Strokes.{IsStroke}
 use Rattle.desk.specs.declared.holding.Holding.{Holding}
 use Rattle.desk.specs.declared.holding.judged.Judged.{Judged}

@@ -12,7 +12,7 @@ ghost use Rattle.desk.specs.Carries.{CanCarry, IsCarried, IsInHand, IsWorked, Ke
 use crate::carry::collect::carry_collect;
 use crate::carry::publish::carry_publish;
 use crate::holding::{Holding, Judged};
-use map_core::{Reply, Seen};
+use events::{Reply, Seen};
 use shelf::{KeeperSeat, Request, StoreName};
 
 /// Does all steps but the last of the current command, and its effect on what the desk holds.

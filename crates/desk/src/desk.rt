@@ -7,8 +7,8 @@ mod fresh;
 
 use crate::holding::Holding;
 pub use answers::{answered, stamp_answered};
+use events::Seen;
 pub use fresh::FreshDesk;
-use map_core::Seen;
 use shelf::{KeeperSeat, StoreEntry, StoreName};
 use std::marker::Model;
 

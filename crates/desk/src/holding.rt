@@ -8,16 +8,16 @@ mod judged;
 ghost use Rattle.std.specs.Prelude.{◌≡◌, ◌+◌, [], length, IfOk, IfErr};
 ghost use Rattle.bits.specs.Tiles.{tile_count};
 ghost use Rattle.metric.specs.declared.refusal.Refusal.TheVariants.{Memory};
-ghost use Rattle.map_core.specs.Blocks.{own_list};
-ghost use Rattle.map_core.specs.Setting.{bad_field};
+ghost use Rattle.events.specs.Blocks.{own_list};
+ghost use Rattle.events.specs.Setting.{bad_field};
 ghost use Rattle.grid.specs.Grids.{own_blocks};
 ghost use Rattle.desk.specs.Holdings.{IsToldByLog};
 
 use arena::Arena;
 use bits::Bitmap;
+use events::{Ledger, Setting};
 use grid::Grid;
 pub use judged::Judged;
-use map_core::{Ledger, Setting};
 use metric::Refusal;
 use std::alloc::Global;
 

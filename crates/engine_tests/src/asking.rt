@@ -1,7 +1,7 @@
 //! Lines that are asked: what is sent, what is printed, and servers that end early.
 
 use crate::compare::{holds, same};
-use engines::ask_run;
+use ask::ask_run;
 use metric::{MemorySink, MemorySource, MemoryStream, Sink, Source};
 use std::process::Abort;
 

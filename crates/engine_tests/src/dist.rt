@@ -1,7 +1,8 @@
 //! The worked rows through `dist`, and failed writes.
 
 use crate::compare::{holds, same};
-use engines::{DistOptions, dist_run};
+use command_line::DistOptions;
+use engines::dist_run;
 use field::Workers;
 use metric::{Edge, MemorySink, MemorySource, MetricKind, Sink, Source};
 use std::process::Abort;

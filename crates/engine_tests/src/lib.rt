@@ -1,9 +1,11 @@
-//! Tests of the crate `engines`: worked runs, texts, words of the command line, connections, and
+//! Tests of the commands' crates: worked runs, texts, words of the command line, connections, and
 //! failing streams.
 #![tactic(auto)]
 
 #[cfg(test)]
 mod asking;
+#[cfg(test)]
+mod command_words;
 #[cfg(test)]
 mod compare;
 #[cfg(test)]
@@ -17,6 +19,4 @@ mod serving;
 #[cfg(test)]
 mod sockets;
 #[cfg(test)]
-mod steps;
-#[cfg(test)]
-mod words;
+mod step_runs;

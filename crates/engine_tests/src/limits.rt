@@ -4,7 +4,8 @@
 ghost use Rattle.std.specs.Prelude.{◌<◌};
 
 use crate::compare::same;
-use engines::{DistOptions, dist_run};
+use command_line::DistOptions;
+use engines::dist_run;
 use field::Workers;
 use metric::{Edge, MemorySink, MemorySource, MetricKind, Sink};
 use std::alloc::Global;

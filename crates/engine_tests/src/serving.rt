@@ -1,11 +1,13 @@
 //! A server and its clients over loopback, in one process.
 
 use crate::compare::same;
+use ask::ask_run;
 use bits::Bitmap;
+use command_line::{AskOptions, ServeOptions};
 use crossbeam_channel::{Receiver, Sender, bounded};
-use engines::net::ask;
-use engines::{AskOptions, Listening, ServeOptions, Socket, ask_run, serve_run};
 use metric::{Edge, MemorySink, MemorySource};
+use serve::net::ask;
+use serve::{Listening, serve_run};
 use std::alloc::Global;
 use std::io::Write;
 use std::net::{Ipv4Addr, Net, SocketAddr, SocketAddrV4, TcpListener, TcpStream};
@@ -15,6 +17,7 @@ use std::test::Fail;
 use std::thread::Threads;
 use std::time::Clock;
 use std::{io, thread};
+use streams::Socket;
 
 /// The worked map of three columns and two rows.
 const ROOM: &[u8] = b"P1\n3 2\n100\n000\n";

@@ -1,7 +1,6 @@
 //! A connection as a stream: what is sent when, what a failed send counts as, and how it ends.
 
 use crate::compare::{holds, same};
-use engines::Socket;
 use metric::{ReadFault, Sink, Source, WriteFault};
 use std::alloc::Global;
 use std::io::{Read, Write};
@@ -11,6 +10,7 @@ use std::test::Fail;
 use std::thread::Threads;
 use std::time::Duration;
 use std::{io, thread};
+use streams::Socket;
 
 /// A reply of 40,000 bytes: two of them don't gather in a stream's buffer.
 const LONG: [u8; 40000] = [b'r'; 40000];

@@ -10,7 +10,7 @@ use Rattle.metric.specs.declared.refusal.Refusal.TheVariants as refusals
 use Rattle.metric.specs.declared.stream.WriteFault.{WriteFault}
 use Rattle.metric.specs.Refusal.{image_text, refusal_text}
 use Rattle.metric.specs.Stream.{Appends, AppendsFront, Counts}
-use Rattle.engines.specs.declared.command_line.arguments.DistOptions.{DistOptions}
+use Rattle.command_line.specs.declared.arguments.DistOptions.{DistOptions}
 use Rattle.printing.specs.Table.{table_text}
 use Rattle.printing.proofs.KeptLemmas.{table_text-told}
 use Rattle.printing.specs.Tabled.{IsTableOf, TableView}
@@ -19,7 +19,7 @@ use Rattle.field.specs.Rows.{AreNears}
 use Rattle.metric.specs.Kind.{distance_of}
 use Rattle.pbm.specs.Faults.{◌>>=◌, header, image}
 use Rattle.pbm.specs.Image.{Reads}
-use Rattle.engines.proofs.Sources.{told, AreAll-told}
+use Rattle.streams.proofs.Texts.{told, AreAll-told}
 use Rattle.pbm.proofs.Images.{reads-image}
 use Rattle.pbm.specs.Windows.{HasFault, HasImage}
 use Rattle.engines.specs.declared.dist.reply.QueryReply.{QueryReply}

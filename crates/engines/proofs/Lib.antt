@@ -1,14 +1,2 @@
 mod Answering
-mod CommandLines
-mod CutLines
-mod Gathering
-mod Hearing
-mod Keeping
-mod LineSplitting
-mod OpeningLemmas
-mod StepAnswering
-mod Telling
-mod ServingLemmas
-mod Requests
-mod Talks
-mod Sources
+mod Faults

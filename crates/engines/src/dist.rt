@@ -9,16 +9,15 @@ ghost use Rattle.engines.specs.dist.Dist.{BeginsToAnswerMap};
 mod query;
 mod reply;
 
-use crate::DONE;
-use crate::command_line::arguments::DistOptions;
 use crate::dist::reply::QueryReply;
 use bits::Bitmap;
+use command_line::DistOptions;
 use metric::{Chess, City, Euclid2, Metric, MetricKind, Refusal, Sink, Source, WriteFault};
 use pbm::{ImageStop, read_source};
 use printing::TableWriter;
 use std::alloc::Global;
 use std::thread::Threads;
-use streams::{REFUSED, write_refusal, write_text};
+use streams::{DONE, REFUSED, write_refusal, write_text};
 
 /// Reads an image, and the reader to its end, and writes its cells' distances to their nearest
 /// obstacles, one line per row, as the options ask. Returns the status.

@@ -2,17 +2,16 @@
 
 ghost use Rattle.std.specs.Prelude.{◌≡◌, ◌≢◌, ◌+◌, ◌≤◌, IsErr};
 ghost use Rattle.metric.specs.Stream.{CanFail};
-ghost use Rattle.engines.specs.words.CommandLine.{texts_of};
-ghost use Rattle.engines.specs.Runs.{Begins, BeginsFor, BeginsRunOf, IsDoneFor, IsRunOf};
+ghost use Rattle.command_line.specs.CommandLine.{texts_of};
+ghost use Rattle.command_line.specs.Told.{Begins};
+ghost use Rattle.engines.specs.Runs.{BeginsFor, BeginsRunOf, IsDoneFor, IsRunOf};
 
-use crate::command_line::arguments::{Fault, Options};
-use crate::command_line::options;
-use crate::command_line::refusing::tell;
 use crate::dist::dist_run;
-use crate::steps::steps_run;
+use command_line::{Fault, Options, options, tell};
 use metric::{Sink, Source};
 use std::alloc::Global;
 use std::thread::Threads;
+use steps::steps_run;
 use streams::REFUSED;
 
 /// Runs what the words name, of which the first is the program's name. Returns the status.

@@ -13,7 +13,8 @@ use borrow.Rule.Slice.PartMut.{post_of, put_mid, take_put}
 use Rattle.metric.specs.declared.edge.Edge.{Edge}
 use Rattle.metric.specs.declared.near.Near.{Near}
 use Rattle.bits.specs.Cells.{Cells}
-use Rattle.field.specs.Bands.{AreAnswers, HasRoom, row_behind}
+use Rattle.field.specs.Bands.{AreAnswers, HasRoom}
+use Rattle.metric.specs.Workers.{row_behind}
 use Rattle.field.specs.Rows.{AreNears}
 use Rattle.column.proofs.Places.{place_above}
 

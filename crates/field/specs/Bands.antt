@@ -1,21 +1,13 @@
 -- How workers share rows in bands: this project's own rule.
-use Rattle.std.specs.Prelude.{◌≡◌, ℕ, ◌+◌, ◌-◌, ◌*◌, ◌/◌, ◌<◌, ◌≤◌, List, length, slice_index_or}
+use Rattle.std.specs.Prelude.{◌≡◌, ℕ, ◌+◌, ◌-◌, ◌*◌, ◌<◌, ◌≤◌, List, length, slice_index_or}
 use Rattle.metric.specs.Nearest.{IsNear}
+use Rattle.metric.specs.Workers.{row_behind}
 use Rattle.metric.specs.declared.edge.Edge.{Edge}
 use Rattle.bits.specs.Cells.{Cells}
 use Rattle.bits.specs.Edges.{IsBlocked}
 use Rattle.column.specs.declared.batch.Batch.{Batch}
 use Rattle.envelope.specs.Answer.{Reading, Saying}
 use Rattle.envelope.specs.Rows.{SaysNear}
-
--- a computation is shared by one to sixteen workers
-pub record IsWorkers (count : ℕ) : Type 0 where
-  pub some : 1 ≤ count
-  pub few : count ≤ 16
-
--- the first row after `bands` bands from the top, if `count` bands share rows y0 to y1 - 1
-abbrev pub row_behind : ℕ → ℕ → ℕ → ℕ → ℕ
-row_behind y0 y1 count bands = y0 + bands * (y1 - y0) / count
 
 -- of `count` bands, those after the first `above`, up to band `below`: at least one
 pub record AreBands (count above below : ℕ) : Type 0 where

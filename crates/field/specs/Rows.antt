@@ -11,7 +11,7 @@ use Rattle.bits.specs.Cells.{Cells}
 use Rattle.bits.specs.Edges.{IsBlocked}
 use Rattle.column.specs.declared.batch.Batch.{Batch}
 pub use Rattle.envelope.specs.Rows.{AreRowNears}
-use Rattle.field.specs.Bands.{row_behind}
+use Rattle.metric.specs.Workers.{row_behind}
 
 -- the list has the nearest obstacle of each cell of rows y0 to y1 - 1, or none, in row-major order
 pub record AreNears (distance : ℕ → ℕ → ℕ) (cells : Cells) (edge : Edge) (y0 y1 : ℕ)

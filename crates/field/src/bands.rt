@@ -7,9 +7,8 @@ ghost use Rattle.field.specs.Bands.{AreBands, HasBandRoom};
 ghost use Rattle.field.specs.Rows.{AreBandNears, AreNears};
 
 use crate::filling::fill;
-use crate::workers::Workers;
 use column::Batch;
-use metric::{Gate, Metric, Near, Refusal};
+use metric::{Gate, Metric, Near, Refusal, Workers};
 use std::alloc::Global;
 use std::thread::{Threads, join_mut};
 

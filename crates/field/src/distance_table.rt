@@ -7,9 +7,8 @@ ghost use Rattle.field.specs.Distances.{IsFarAway, number_at};
 ghost use Rattle.metric.specs.declared.refusal.Refusal.TheVariants.{Memory};
 
 use crate::strips::Strips;
-use crate::workers::Workers;
 use column::Batch;
-use metric::{Gate, Metric, Refusal};
+use metric::{Gate, Metric, Refusal, Workers};
 use std::alloc::Global;
 use std::marker::Model;
 use std::thread::Threads;

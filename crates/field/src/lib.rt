@@ -13,13 +13,12 @@ mod obstacle_table;
 mod phases;
 mod strips;
 mod table;
-mod workers;
 
 pub use bands::rows_with;
 pub use column::Batch;
 pub use compact_distances::CompactDistances;
 pub use distance_table::DistanceTable;
 pub use filling::{fill, measure};
+pub use metric::Workers;
 pub use obstacle_table::ObstacleTable;
 pub use table::rows;
-pub use workers::Workers;

@@ -9,9 +9,8 @@ ghost use Rattle.metric.specs.declared.refusal.Refusal.TheVariants.{Memory};
 
 use crate::obstacle_cell::ObstacleCell;
 use crate::strips::Strips;
-use crate::workers::Workers;
 use column::Batch;
-use metric::{Gate, Metric, Near, Refusal};
+use metric::{Gate, Metric, Near, Refusal, Workers};
 use std::alloc::Global;
 use std::marker::{Model, PhantomData};
 use std::thread::Threads;

@@ -6,15 +6,15 @@ ghost use Rattle.std.specs.Prelude.{length, map, slice_index_or, vec_len};
 ghost use Rattle.metric.specs.declared.edge.Edge.{Edge};
 ghost use Rattle.metric.specs.declared.refusal.Refusal.TheVariants.{Memory};
 ghost use Rattle.bits.specs.Cells.{Cells};
-ghost use Rattle.field.specs.Bands.{AreValues, IsWorkers};
+ghost use Rattle.field.specs.Bands.{AreValues};
+ghost use Rattle.metric.specs.Workers.{IsWorkers};
 ghost use Rattle.field.specs.Strips.{AreStrips, AreStripsOf, HoldRows, IsStripOf, line_in};
 ghost use Rattle.field.specs.Strips.{strip_row};
 
 use crate::table::values;
-use crate::workers::Workers;
 use column::Batch;
 use envelope::CellValue;
-use metric::{Gate, Metric, Refusal};
+use metric::{Gate, Metric, Refusal, Workers};
 use std::alloc::Global;
 use std::thread::{Threads, map_indices};
 

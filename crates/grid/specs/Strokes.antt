@@ -1,7 +1,7 @@
 -- A paint or a stamp that has been judged: this project's own rule.
 use Rattle.std.specs.Prelude.{◌≡◌, ℕ, ◌≤◌, List, None}
-use Rattle.map_core.specs.declared.command.Command.{Command}
-use Rattle.map_core.specs.Drawing.{drawn}
+use Rattle.events.specs.declared.command.Command.{Command}
+use Rattle.events.specs.Drawing.{drawn}
 use Rattle.grid.specs.declared.stroke.Stroke.{Stroke}
 use Rattle.grid.specs.Grids.{Tiled, draft, full_by, refused_by}
 use Rattle.grid.specs.Inks.{with_ink}

@@ -1,6 +1,6 @@
 //! A world: its words, its keeper and its readers.
 
-ghost use Rattle.map_core.specs.Runs.{SafeStep};
+ghost use Rattle.events.specs.Runs.{SafeStep};
 
 mod commit;
 mod keep;
@@ -9,13 +9,8 @@ mod order;
 mod reads;
 mod words;
 
-use crate::blocks::RetiredBlock;
-use crate::command::{Command, Entry};
-use crate::event::{Event, NotEnabled, StepReply};
-use crate::ledger::Ledger;
-use crate::reader::Standing;
 use bits::Bitmap;
-pub use open::opening_words;
+use events::{Command, Entry, Event, Ledger, NotEnabled, RetiredBlock, Standing, StepReply};
 use std::alloc::Global;
 use std::collections::VecDeque;
 use std::marker::Model;
@@ -51,7 +46,7 @@ pub struct World {
 }
 
 impl Model for World {
-    ghost use Rattle.map_core.specs.Views.{State};
+    ghost use Rattle.events.specs.Views.{State};
 
     ghost Value = { State };
 

@@ -6,6 +6,7 @@ use crate::acts::{Act, Row, Told};
 use crate::compare::same;
 use crate::opened::{blank, close, hand_back, next, open, pin, unpin};
 use crate::seat::Seat;
+use clearance::Queried;
 use map_core::Setting;
 use metric::{Cell, City, Edge, Near, Refusal, Spot};
 use session::Blank;

@@ -6,6 +6,7 @@ ghost use Rattle.std.specs.Prelude.{◌≡◌};
 use crate::compare::{holds, same};
 use crate::opened::{blank, close, hand_back, next, open, pin, rect, unpin};
 use crate::told::{begin, end};
+use clearance::Queried;
 use map_core::Setting;
 use metric::{Cell, Edge, Euclid2, Near, Spot};
 use session::{Blank, Pinned};

@@ -1,9 +1,9 @@
 -- A decimal number is written two digits at a time.
 use Rattle.std.proofs.Common.{◌≡◌, ℕ, ◌+◌, ◌/◌, ◌%◌, ◌^◌, ◌<◌, ◌≤◌, ◌++◌, length, arith, ap, ◌∙◌}
-use Rattle.std.proofs.Common.{append_assoc, length-append, lit<}
+use Rattle.std.proofs.Common.{append_assoc, length-append, lit<, List, [], ◌∷◌, ◌-◌, ◌*◌, refl}
 use Rattle.std.specs.Fmt.{decimal}
 use Rattle.std.proofs.lemmas.Fmt.{decimal_digit, decimal_step, length-decimal-le}
-use Rattle.metric.specs.Digits.{two_digits}
+use Rattle.metric.specs.Digits.{two_digits, value_from}
 
 -- the decimal text of a number from 10 to 99 is its two digits
 pub decimal_two : (n : ℕ) → 10 ≤ n → n < 100 → decimal n ≡ two_digits n
@@ -73,3 +73,11 @@ length-decimal_16 n fits = length-decimal-le 5 n (lit< tt) (omega arith) (omega 
 -- a side of a bitmap has four digits at most
 pub length-decimal_side : (n : ℕ) → n ≤ 4096 → length (decimal n) ≤ 4
 length-decimal_side n few = length-decimal-le 4 n (lit< tt) (omega arith) (omega arith)
+
+-- a further digit makes the value ten times as large, and adds the digit
+pub value_from-push : (so_far : ℕ) (digits : List ℕ) (digit : ℕ)
+    → value_from so_far (digits ++ digit ∷ []) ≡ 10 * value_from so_far digits + (digit - 48)
+unfolding value_from
+value_from-push so_far [] digit = refl
+value_from-push so_far (first ∷ others) digit =
+    value_from-push (10 * so_far + (first - 48)) others digit

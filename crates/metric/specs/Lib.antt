@@ -12,3 +12,4 @@ pub mod Refusal
 pub mod Stream
 pub mod Told
 pub mod Wire
+pub mod Workers

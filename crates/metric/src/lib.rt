@@ -19,6 +19,7 @@ mod refusal;
 mod spot;
 mod std_streams;
 mod stream;
+mod workers;
 
 pub use cell::Cell;
 pub use decimal::push_decimal;
@@ -38,3 +39,4 @@ pub use refusal::{Field, Refusal};
 pub use spot::Spot;
 pub use std_streams::{ReaderSource, WriterSink};
 pub use stream::{ReadFault, Sink, Source, Stream, WriteFault};
+pub use workers::Workers;

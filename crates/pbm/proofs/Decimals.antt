@@ -1,7 +1,7 @@
 -- Decimal numbers, a digit at a time.
-use Rattle.metric.proofs.Decimals.{length-decimal_side}
-use Rattle.std.proofs.Common.{◌≡◌, ℕ, ◌+◌, ◌-◌, ◌*◌, ◌/◌, ◌%◌, ◌^◌, ◌<◌, ◌≤◌, true, List, [], ◌∷◌}
-use Rattle.std.proofs.Common.{◌++◌, refl, arith}
+use Rattle.metric.proofs.Decimals.{length-decimal_side, value_from-push}
+use Rattle.std.proofs.Common.{◌≡◌, ℕ, ◌+◌, ◌-◌, ◌/◌, ◌%◌, ◌^◌, ◌<◌, ◌≤◌, true, List, [], ◌∷◌, ◌++◌}
+use Rattle.std.proofs.Common.{arith}
 use Rattle.std.specs.Fmt.{decimal}
 use Rattle.std.proofs.lemmas.Bool.{and_from}
 use Rattle.std.proofs.lemmas.Bool.Decides.{nat_tests}
@@ -10,14 +10,6 @@ use Rattle.std.proofs.lemmas.List.Folds.{list_all-append}
 use Rattle.metric.specs.Digits.{is_digit, value_from}
 use Rattle.pbm.specs.Image.{IsNumber}
 use Rattle.std.proofs.lemmas.Grind.{common_steps}
-
--- a further digit makes the value ten times as large, and adds the digit
-value_from-push : (so_far : ℕ) (digits : List ℕ) (digit : ℕ)
-    → value_from so_far (digits ++ digit ∷ []) ≡ 10 * value_from so_far digits + (digit - 48)
-unfolding value_from
-value_from-push so_far [] digit = refl
-value_from-push so_far (first ∷ others) digit =
-    value_from-push (10 * so_far + (first - 48)) others digit
 
 -- a digit is a digit
 is_digit-below_ten : (n : ℕ) → n < 10 → is_digit (48 + n) ≡ true

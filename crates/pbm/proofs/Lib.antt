@@ -1,4 +1,4 @@
-pub mod Steps
+mod Steps
 mod Words
 mod RasterRows
 mod Eights

@@ -3,18 +3,18 @@ use Rattle.std.proofs.Common.{◌≡◌, ℕ, ◌-◌, ◌*◌, ◌<◌, ◌≤�
 use Rattle.std.proofs.Common.{Result, Ok, Err, refl, ap, subst, ◌∙◌, arith}
 use Rattle.std.specs.List.{range_with_len, flat_map}
 use Rattle.metric.specs.declared.refusal.Refusal.TheVariants.{NotPinned}
-use Rattle.proto.specs.Said.{LineView}
-use Rattle.proto.specs.Said as saids
+use Rattle.lines.specs.Said.{LineView}
+use Rattle.lines.specs.Said as saids
 use Rattle.metric.specs.declared.stream.WriteFault.{WriteFault}
 use Rattle.bits.specs.Cells.{Cells}
 use Rattle.pbm.specs.Writing.{plain_digit}
 use Rattle.pbm.proofs.Ranges.{flat_map-rows}
 use Rattle.shelf.specs.Store.{StoreId}
 use Rattle.shelf.specs.Roles.{ReaderView}
-use Rattle.proto.specs.declared.answer.Answer.{Answer}
-use Rattle.proto.specs.declared.answer.Answer.TheVariants as answers
+use Rattle.lines.specs.declared.answer.Answer.{Answer}
+use Rattle.lines.specs.declared.answer.Answer.TheVariants as answers
 use Rattle.proto.specs.declared.serve.end.End.{End}
-use Rattle.proto.specs.Replies.{reply_line}
+use Rattle.lines.specs.Replies.{reply_line}
 use Rattle.proto.specs.Callers.{CallerValue, bitmap_held}
 use Rattle.proto.specs.Exchanges.{IsDump, body_of}
 use Rattle.proto.specs.Served.{HasHeard, IsDumpSaid, IsSaid, IsServed, end_after}

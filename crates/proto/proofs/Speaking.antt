@@ -5,14 +5,14 @@ use Rattle.metric.specs.declared.edge.Edge.{Edge}
 use Rattle.metric.specs.declared.refusal.Refusal.{Refusal}
 use Rattle.metric.specs.declared.refusal.Refusal.TheVariants.{Memory, AlreadyPinned, NotPinned}
 use Rattle.shelf.specs.Store.{StoreId}
-use Rattle.proto.specs.declared.answer.Answer.{Answer}
-use Rattle.proto.specs.declared.answer.Answer.TheVariants as answers
-use Rattle.proto.specs.Asked.{QueryView}
-use Rattle.proto.specs.Asked as queries
-use Rattle.proto.specs.Queries.{IsAnswerBy}
+use Rattle.lines.specs.declared.answer.Answer.{Answer}
+use Rattle.lines.specs.declared.answer.Answer.TheVariants as answers
+use Rattle.lines.specs.Asked.{QueryView}
+use Rattle.lines.specs.Asked as queries
+use Rattle.lines.specs.Queries.{IsAnswerBy}
 use Rattle.bits.specs.Cells.{Cells}
-use Rattle.proto.specs.Said.{LineView}
-use Rattle.proto.specs.Said as saids
+use Rattle.lines.specs.Said.{LineView}
+use Rattle.lines.specs.Said as saids
 use Rattle.proto.specs.Callers.{CallerValue, HasPinned, HasUnpinned, IsRefusedAs}
 use Rattle.proto.specs.Exchanges.{IsLineAnswer, IsQueryAnswer, body_of}
 

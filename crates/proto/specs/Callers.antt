@@ -5,17 +5,17 @@ use mathlib.Core.List.{IsPrefix}
 use Rattle.bits.specs.Cells.{Cells}
 use Rattle.metric.specs.declared.refusal.Refusal.{Refusal}
 use Rattle.metric.specs.declared.refusal.Refusal.TheVariants.{Memory, AlreadyPinned, NotPinned}
-use Rattle.map_core.specs.declared.command.Command.{Command}
-use Rattle.map_core.specs.declared.command.Reply.{Reply}
-use Rattle.map_core.specs.Story.{newest, bitmap_of, no_bitmap}
-use Rattle.map_core.specs.Ledger.{takes_room}
-use Rattle.map_core.specs.Legal.{refused, IsAnswer, IsLegal}
+use Rattle.events.specs.declared.command.Command.{Command}
+use Rattle.events.specs.declared.command.Reply.{Reply}
+use Rattle.events.specs.Story.{newest, bitmap_of, no_bitmap}
+use Rattle.events.specs.Ledger.{takes_room}
+use Rattle.events.specs.Legal.{refused, IsAnswer, IsLegal}
 use Rattle.shelf.specs.declared.store_entry.StoreEntry.{StoreEntry}
 use Rattle.shelf.specs.Store.{StoreId}
 use Rattle.shelf.specs.Roles.{ReaderView, entries}
 use Rattle.desk.specs.Desks.{story_told}
-use Rattle.proto.specs.declared.answer.Answer.{Answer}
-use Rattle.proto.specs.declared.answer.Answer.TheVariants as answers
+use Rattle.lines.specs.declared.answer.Answer.{Answer}
+use Rattle.lines.specs.declared.answer.Answer.TheVariants as answers
 
 -- a caller has its session's seat, as it is after unpinning, and the version that it has pinned
 pub record CallerValue : Type 0 where

@@ -10,17 +10,17 @@ use Rattle.bits.specs.Cells.{Cells}
 use Rattle.pbm.specs.Image.{Reads}
 use Rattle.pbm.specs.Faults.{image}
 use Rattle.pbm.specs.Writing.{plain_text}
-use Rattle.map_core.specs.declared.command.Command.{Command}
-use Rattle.map_core.specs.declared.command.Command.TheVariants as commands
+use Rattle.events.specs.declared.command.Command.{Command}
+use Rattle.events.specs.declared.command.Command.TheVariants as commands
 use Rattle.shelf.specs.Store.{StoreId}
-use Rattle.proto.specs.declared.answer.Answer.{Answer}
-use Rattle.proto.specs.declared.answer.Answer.TheVariants as answers
-use Rattle.proto.specs.Asked.{QueryView, HasPoints}
-use Rattle.proto.specs.Queries.{IsAnswerBy, metric_asked}
-use Rattle.proto.specs.Told.{told_by}
-use Rattle.proto.specs.declared.line.Line.{Line}
-use Rattle.proto.specs.Said.{LineView, said, said_by}
-use Rattle.proto.specs.Said as saids
+use Rattle.lines.specs.declared.answer.Answer.{Answer}
+use Rattle.lines.specs.declared.answer.Answer.TheVariants as answers
+use Rattle.lines.specs.Asked.{QueryView, HasPoints}
+use Rattle.lines.specs.Queries.{IsAnswerBy, metric_asked}
+use Rattle.lines.specs.Told.{told_by}
+use Rattle.lines.specs.declared.line.Line.{Line}
+use Rattle.lines.specs.Said.{LineView, said, said_by}
+use Rattle.lines.specs.Said as saids
 use Rattle.proto.specs.Callers.{CallerValue, bitmap_held, IsCommanded, IsPinAnswer, IsRefusedAs}
 use Rattle.proto.specs.Callers.{IsUnpinAnswer}
 

@@ -1,12 +1,3 @@
-pub mod Corners
-pub mod Asked
-pub mod Numbers
-pub mod Queries
-pub mod Replies
-pub mod Said
-pub mod Words
-pub mod Told
-pub mod Hex
 pub mod Wire
 pub mod Callers
 pub mod Exchanges

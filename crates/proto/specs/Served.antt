@@ -11,11 +11,11 @@ use Rattle.metric.specs.declared.refusal.Refusal.TheVariants as refusals
 use Rattle.shelf.specs.Store.{StoreId}
 use Rattle.proto.specs.declared.serve.end.End.{End}
 use Rattle.proto.specs.declared.serve.end.End.TheVariants as ends
-use Rattle.proto.specs.declared.answer.Answer.{Answer}
-use Rattle.proto.specs.declared.answer.Answer.TheVariants as answers
-use Rattle.proto.specs.Replies.{reply_line}
-use Rattle.proto.specs.Said.{LineView, SaysPoints}
-use Rattle.proto.specs.Said as saids
+use Rattle.lines.specs.declared.answer.Answer.{Answer}
+use Rattle.lines.specs.declared.answer.Answer.TheVariants as answers
+use Rattle.lines.specs.Replies.{reply_line}
+use Rattle.lines.specs.Said.{LineView, SaysPoints}
+use Rattle.lines.specs.Said as saids
 use Rattle.proto.specs.Callers.{CallerValue, bitmap_held}
 use Rattle.proto.specs.Exchanges.{Exchange, IsDump, IsExchange, IsLine, line_said, counts}
 use Rattle.metric.specs.Wire.{Wire}

@@ -17,7 +17,6 @@ mod wire;
 use caller::Caller;
 pub use end::End;
 use metric::Stream;
-pub use service::MOST_COUNTED;
 use service::Service;
 use session::{Session, Store};
 use shelf::StoreName;

@@ -13,8 +13,8 @@ use Rattle.shelf.specs.Roles.{entries}
 use Rattle.shelf.specs.Store.{StoreId, readers_of}
 use Rattle.shelf.proofs.logs.LogParts.{length-entries}
 use Rattle.desk.specs.Desks.{story_told, base_place, kept_part}
-use Rattle.map_core.specs.Legal.{IsLegal}
-use Rattle.map_core.proofs.logs.LogLemmas.{places_are, places-legal}
+use Rattle.events.specs.Legal.{IsLegal}
+use Rattle.events.proofs.logs.LogLemmas.{places_are, places-legal}
 use Rattle.std.specs.Prelude.{drop}
 use Rattle.std.proofs.lemmas.List.{length-drop}
 

@@ -2,8 +2,8 @@
 use Rattle.std.proofs.Common.{◌≡◌, ap, ◌∙◌}
 use Rattle.std.specs.Prelude.{Result}
 use Rattle.metric.specs.declared.refusal.Refusal.{Refusal}
-use Rattle.map_core.specs.declared.command.Command.{Command}
-use Rattle.map_core.specs.declared.command.Reply.{Reply}
+use Rattle.events.specs.declared.command.Command.{Command}
+use Rattle.events.specs.declared.command.Reply.{Reply}
 use Rattle.shelf.specs.Store.{StoreId}
 use Rattle.shelf.specs.Roles.{ReaderView}
 use Rattle.desk.specs.Desks.{DeskView, IsApplied}

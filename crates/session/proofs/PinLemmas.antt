@@ -7,18 +7,18 @@ use mathlib.Core.List.{IsPrefix}
 use Rattle.metric.specs.declared.edge.Edge.{Edge}
 use Rattle.bits.specs.Cells.{Cells, IsBitmap}
 use Rattle.bits.specs.Tiles.{tiles_down}
-use Rattle.map_core.specs.declared.command.Entry.{Entry}
-use Rattle.map_core.specs.declared.kept.Seen.{Seen}
-use Rattle.map_core.specs.declared.kept.Seen.TheVariants.{From, Exact}
-use Rattle.map_core.specs.Story.{newest}
-use Rattle.map_core.specs.Words.{Base, slot_of}
-use Rattle.map_core.specs.Views.{Reader, story}
-use Rattle.map_core.specs.Views as core
-use Rattle.map_core.specs.Steps.{next_hold, to_confirm}
-use Rattle.map_core.specs.Legal.{IsLegal}
-use Rattle.map_core.specs.Tidy.{IsReady, IsOfMap}
-use Rattle.map_core.proofs.logs.LogLemmas.{newest-beginning, bitmap-beginning, slot-beginning}
-use Rattle.map_core.proofs.invariants.TidyLog.{IsTidy-legal}
+use Rattle.events.specs.declared.command.Entry.{Entry}
+use Rattle.events.specs.declared.kept.Seen.{Seen}
+use Rattle.events.specs.declared.kept.Seen.TheVariants.{From, Exact}
+use Rattle.events.specs.Story.{newest}
+use Rattle.events.specs.Words.{Base, slot_of}
+use Rattle.events.specs.Views.{Reader, story}
+use Rattle.events.specs.Views as core
+use Rattle.events.specs.Steps.{next_hold, to_confirm}
+use Rattle.events.specs.Legal.{IsLegal}
+use Rattle.events.specs.Tidy.{IsReady, IsOfMap}
+use Rattle.events.proofs.logs.LogLemmas.{newest-beginning, bitmap-beginning, slot-beginning}
+use Rattle.events.proofs.invariants.TidyLog.{IsTidy-legal}
 use Rattle.shelf.specs.declared.store_entry.StoreEntry.{StoreEntry}
 use Rattle.shelf.specs.Store.{StoreId}
 use Rattle.shelf.proofs.logs.LogParts.{prefix-entries}

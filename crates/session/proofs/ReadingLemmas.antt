@@ -4,8 +4,8 @@ use Rattle.std.proofs.lemmas.Nat.{mul-add-lt}
 use Rattle.bits.specs.Cells.{Cells}
 use Rattle.bits.specs.Words.{words_across}
 use Rattle.bits.specs.Tiles.{tile_count, tiles_down}
-use Rattle.map_core.specs.Words.{Base, tiles}
-use Rattle.map_core.specs.Tidy.{IsOfMap}
+use Rattle.events.specs.Words.{Base, tiles}
+use Rattle.events.specs.Tidy.{IsOfMap}
 
 -- the tile in which a word of a row stands is one of the map's
 pub position_inside : (z : Base) (cells : Cells) (y k across p : ℕ) → IsOfMap z cells

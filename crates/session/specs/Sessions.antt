@@ -6,17 +6,17 @@ use mathlib.Core.List.{IsPrefix}
 use Rattle.std.specs.Int.{bit_at}
 use Rattle.bits.specs.Cells.{Cells, has, IsBitmap, IsInside}
 use Rattle.metric.specs.declared.refusal.Refusal.{Refusal}
-use Rattle.map_core.specs.declared.command.Command.{Command}
-use Rattle.map_core.specs.declared.command.Reply.{Reply}
-use Rattle.map_core.specs.declared.kept.Seen.TheVariants.{Exact}
-use Rattle.map_core.specs.Story.{newest, bitmap_of}
-use Rattle.map_core.specs.Words.{slot_of}
-use Rattle.map_core.specs.Views.{story}
-use Rattle.map_core.specs.Tidy.{IsReady, IsOfMap}
+use Rattle.events.specs.declared.command.Command.{Command}
+use Rattle.events.specs.declared.command.Reply.{Reply}
+use Rattle.events.specs.declared.kept.Seen.TheVariants.{Exact}
+use Rattle.events.specs.Story.{newest, bitmap_of}
+use Rattle.events.specs.Words.{slot_of}
+use Rattle.events.specs.Views.{story}
+use Rattle.events.specs.Tidy.{IsReady, IsOfMap}
 use Rattle.shelf.specs.declared.store_entry.StoreEntry.{StoreEntry}
 use Rattle.shelf.specs.Store.{StoreId, readers_of}
 use Rattle.shelf.specs.Roles.{ReaderView, entries, reader_at_opening, made_by}
-use Rattle.map_core.specs.Legal.{IsLegal}
+use Rattle.events.specs.Legal.{IsLegal}
 use Rattle.desk.specs.Desks.{DeskView, IsApplied, base_place}
 
 -- a pin has its session's seat, and the version that it holds

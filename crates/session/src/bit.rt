@@ -1,6 +1,6 @@
 //! Single bits of a word.
 
-ghost use Rattle.std.specs.Prelude.{◌≡◌, ◌≢◌, ℕ, ◌<◌, ◌≤◌, false, true};
+ghost use Rattle.std.specs.Prelude.{◌≡◌, ℕ, ◌<◌, ◌≤◌, false, true};
 ghost use Rattle.std.specs.Int.{bit_at};
 
 /// Whether bit `place` is 1.
@@ -11,15 +11,6 @@ pub fn has_bit(word: u64, place: u16) -> bool
     ensures clear { result ≡ false → bit_at word place ≡ 0 }
 {
     (word >> place) & 1 == 1
-}
-
-/// Clears bit `place` of the word.
-pub fn without_bit(word: u64, place: u16) -> u64
-    requires { place < 64 }
-    ensures gone { bit_at result place ≡ 0 }
-    ensures kept { (i : ℕ) → i < 64 → i ≢ place → bit_at result i ≡ bit_at word i }
-{
-    word & !(1 << place)
 }
 
 /// The word with 1 in the first `count` bits.

@@ -3,12 +3,12 @@
 ghost use Rattle.std.specs.Prelude.{◌≡◌, MatchOption, IfOk, IfErr, Err};
 ghost use Rattle.bits.specs.Tiles.{tile_count};
 ghost use Rattle.metric.specs.declared.refusal.Refusal.TheVariants.{BadSetting, Memory};
-ghost use Rattle.map_core.specs.Setting.{bad_field};
+ghost use Rattle.events.specs.Setting.{bad_field};
 ghost use Rattle.shelf.specs.Open.{all_newcomers};
 
 use bits::Bitmap;
 use desk::FreshDesk;
-use map_core::Setting;
+use events::Setting;
 use metric::Refusal;
 use shelf::{FreshReader, Opening};
 use std::alloc::Global;

@@ -2,8 +2,8 @@
 
 ghost use Rattle.std.specs.Prelude.{◌≡◌, ◌≤◌, Some, None, IfSome};
 ghost use mathlib.Core.List.{IsPrefix};
-ghost use Rattle.map_core.specs.declared.kept.Seen.TheVariants.{Exact};
-ghost use Rattle.map_core.specs.Legal.{IsLegal};
+ghost use Rattle.events.specs.declared.kept.Seen.TheVariants.{Exact};
+ghost use Rattle.events.specs.Legal.{IsLegal};
 ghost use Rattle.shelf.specs.Roles.{entries};
 ghost use Rattle.shelf.specs.Steps.{leaving};
 ghost use Rattle.std.specs.Borrow.{sem};

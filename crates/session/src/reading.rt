@@ -5,7 +5,7 @@ ghost use Rattle.bits.specs.Cells.{has, IsBitmap, IsInside};
 ghost use Rattle.bits.specs.Tiles.{tiles_down};
 ghost use Rattle.bits.specs.Words.{words_across};
 ghost use Rattle.clearance.specs.Rows.{words_of_row};
-ghost use Rattle.map_core.specs.Tidy.{IsOfMap};
+ghost use Rattle.events.specs.Tidy.{IsOfMap};
 ghost use Rattle.session.specs.Sessions.{bitmap_seen, HasSlot};
 
 use bits::Bitmap;

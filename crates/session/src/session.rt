@@ -3,8 +3,8 @@
 ghost use Rattle.std.specs.Prelude.{◌≡◌, Some, None, IfOk, IfErr};
 ghost use mathlib.Core.List.{IsPrefix};
 ghost use Rattle.metric.specs.declared.refusal.Refusal.TheVariants.{Memory};
-ghost use Rattle.map_core.specs.declared.kept.Seen.TheVariants.{Exact};
-ghost use Rattle.map_core.specs.Legal.{IsLegal};
+ghost use Rattle.events.specs.declared.kept.Seen.TheVariants.{Exact};
+ghost use Rattle.events.specs.Legal.{IsLegal};
 ghost use Rattle.shelf.specs.Roles.{entries};
 ghost use Rattle.session.specs.Sessions.{newest_of_session};
 

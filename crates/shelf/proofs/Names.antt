@@ -3,33 +3,33 @@ pub use Rattle.atomic_table.proofs.Lists.{set_again, set_else}
 pub use Rattle.atomic_table.specs.Seated.{TableId}
 pub use Rattle.atomic_table.specs.Table.{Allows, Joins, Me, Splits, State, keeps, step}
 pub use Rattle.bits.specs.Tiles.{row_word}
-pub use Rattle.map_core.proofs.accounts.SpareLemmas.{slot-within}
-pub use Rattle.map_core.proofs.invariants.SoundReader.{version_of_now}
-pub use Rattle.map_core.proofs.invariants.TidyLog.{IsTidy-legal}
-pub use Rattle.map_core.proofs.logs.LogLemmas.{places_are}
-pub use Rattle.map_core.proofs.shared_words.PlaceLemmas.{map-within, now-within, pin-within}
-pub use Rattle.map_core.proofs.shared_words.PlaceLemmas.{tile-within}
-pub use Rattle.map_core.proofs.steps.StepLemmas.{story-push}
-pub use Rattle.map_core.specs.Blocks.{directory_of}
-pub use Rattle.map_core.specs.Legal.{IsLegal, refused}
-pub use Rattle.map_core.specs.Runs.{AreOpeningWords, fresh_reader}
-pub use Rattle.map_core.specs.Safe.{times}
-pub use Rattle.map_core.specs.Sound.{IsWhole}
-pub use Rattle.map_core.specs.Steps.{write_of}
-unfoldable pub use Rattle.map_core.specs.Steps.{steps_before}
-pub use Rattle.map_core.specs.Story.{bitmap_of}
-unfoldable pub use Rattle.map_core.specs.Story.{newest, opened}
-pub use Rattle.map_core.specs.Tidy.{IsReady}
-pub use Rattle.map_core.specs.Views.{Reader, blocks}
-unfoldable pub use Rattle.map_core.specs.Views.{story}
-pub use Rattle.map_core.specs.Words.{Base, map_at, now_at, now_word, pin_at, place_told, tile_at}
-pub use Rattle.map_core.specs.Words.{tiles, version_told}
-unfoldable pub use Rattle.map_core.specs.Words.{now_of, pin_word, slot_of}
-pub use Rattle.map_core.specs.declared.command.Command.TheVariants.{Collect, Publish}
-pub use Rattle.map_core.specs.declared.event.Event.{Event}
-pub use Rattle.map_core.specs.declared.event.StepReply.{StepReply}
-pub use Rattle.map_core.specs.declared.kept.Seen.{Seen}
-pub use Rattle.map_core.specs.declared.kept.Seen.TheVariants.{Exact, From}
+pub use Rattle.events.proofs.accounts.SpareLemmas.{slot-within}
+pub use Rattle.events.proofs.invariants.SoundReader.{version_of_now}
+pub use Rattle.events.proofs.invariants.TidyLog.{IsTidy-legal}
+pub use Rattle.events.proofs.logs.LogLemmas.{places_are}
+pub use Rattle.events.proofs.shared_words.PlaceLemmas.{map-within, now-within, pin-within}
+pub use Rattle.events.proofs.shared_words.PlaceLemmas.{tile-within}
+pub use Rattle.events.proofs.steps.StepLemmas.{story-push}
+pub use Rattle.events.specs.Blocks.{directory_of}
+pub use Rattle.events.specs.Legal.{IsLegal, refused}
+pub use Rattle.events.specs.Runs.{AreOpeningWords, fresh_reader}
+pub use Rattle.events.specs.Safe.{times}
+pub use Rattle.events.specs.Sound.{IsWhole}
+pub use Rattle.events.specs.Steps.{write_of}
+unfoldable pub use Rattle.events.specs.Steps.{steps_before}
+pub use Rattle.events.specs.Story.{bitmap_of}
+unfoldable pub use Rattle.events.specs.Story.{newest, opened}
+pub use Rattle.events.specs.Tidy.{IsReady}
+pub use Rattle.events.specs.Views.{Reader, blocks}
+unfoldable pub use Rattle.events.specs.Views.{story}
+pub use Rattle.events.specs.Words.{Base, map_at, now_at, now_word, pin_at, place_told, tile_at}
+pub use Rattle.events.specs.Words.{tiles, version_told}
+unfoldable pub use Rattle.events.specs.Words.{now_of, pin_word, slot_of}
+pub use Rattle.events.specs.declared.command.Command.TheVariants.{Collect, Publish}
+pub use Rattle.events.specs.declared.event.Event.{Event}
+pub use Rattle.events.specs.declared.event.StepReply.{StepReply}
+pub use Rattle.events.specs.declared.kept.Seen.{Seen}
+pub use Rattle.events.specs.declared.kept.Seen.TheVariants.{Exact, From}
 pub use Rattle.shelf.specs.Laws.{IsEvent, IsNoEvent, with_views}
 pub use Rattle.shelf.specs.Open.{Newcomer, newcomer, newcomers}
 pub use Rattle.shelf.specs.Roles.{KeeperView, ReaderView, Role, Task, as_keeper, as_reader, core_of}

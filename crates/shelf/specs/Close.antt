@@ -1,6 +1,6 @@
 -- Closing a store, reader by reader: this project's own rule.
 use Rattle.std.specs.Prelude.{◌≡◌, ℕ, ◌≤◌, List, length, sum_by, None}
-use Rattle.map_core.specs.Safe.{times}
+use Rattle.events.specs.Safe.{times}
 use Rattle.shelf.specs.declared.store_entry.StoreEntry.{StoreEntry}
 use Rattle.shelf.specs.Roles.{KeeperView, made_by}
 

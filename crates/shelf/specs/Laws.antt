@@ -1,27 +1,27 @@
 -- The rule of a table in the core's words: this project's own rule.
 use Rattle.shelf.specs.declared.store_entry.StoreEntry.{StoreEntry}
-use Rattle.map_core.specs.Blocks.{directory_of}
-use Rattle.map_core.specs.Legal.{refused}
-use Rattle.map_core.specs.declared.command.Command.{Command}
-use Rattle.map_core.specs.declared.kept.Seen.TheVariants.{From, Exact}
+use Rattle.events.specs.Blocks.{directory_of}
+use Rattle.events.specs.Legal.{refused}
+use Rattle.events.specs.declared.command.Command.{Command}
+use Rattle.events.specs.declared.kept.Seen.TheVariants.{From, Exact}
 use Rattle.std.specs.Prelude.{◌≡◌, ◌≢◌, ℕ, ◌<◌, true, [], ◌∷◌, ◌++◌, slice_get, slice_index}
 use Rattle.std.specs.Prelude.{slice_set, Option, Some, None, is_some, ◌⊎◌, List, ◌+◌}
 use mathlib.Core.Option as maybe
 use lib.ListN.{get_elem?}
 use Rattle.atomic_table.specs.Table.{State}
-use Rattle.map_core.specs.declared.command.Command.TheVariants.{Collect, Publish}
-use Rattle.map_core.specs.declared.event.Event.{Event}
-use Rattle.map_core.specs.declared.event.Event.TheVariants.{Announce, Leave, Confirm, Keep, Load}
-use Rattle.map_core.specs.declared.event.Event.TheVariants.{LookMap, LookTile, Order}
-use Rattle.map_core.specs.declared.event.StepReply.{StepReply}
-use Rattle.map_core.specs.declared.event.StepReply.TheVariants as says
-use Rattle.map_core.specs.Words.{Base, now_at, pin_at, now_of, pin_word, tiles, map_at, tile_at}
-use Rattle.map_core.specs.Words.{slot_of, place_told, version_told}
-use Rattle.map_core.specs.Steps.{does, to_confirm, steps_before, write_of}
-use Rattle.map_core.specs.Views.{Keeper, Reader, story, newest_seen, blocks}
-use Rattle.map_core.specs.Views as core
-use Rattle.map_core.specs.Sound.{IsWhole}
-use Rattle.map_core.specs.Safe.{IsSafe, SparesLive, IsBeginning}
+use Rattle.events.specs.declared.command.Command.TheVariants.{Collect, Publish}
+use Rattle.events.specs.declared.event.Event.{Event}
+use Rattle.events.specs.declared.event.Event.TheVariants.{Announce, Leave, Confirm, Keep, Load}
+use Rattle.events.specs.declared.event.Event.TheVariants.{LookMap, LookTile, Order}
+use Rattle.events.specs.declared.event.StepReply.{StepReply}
+use Rattle.events.specs.declared.event.StepReply.TheVariants as says
+use Rattle.events.specs.Words.{Base, now_at, pin_at, now_of, pin_word, tiles, map_at, tile_at}
+use Rattle.events.specs.Words.{slot_of, place_told, version_told}
+use Rattle.events.specs.Steps.{does, to_confirm, steps_before, write_of}
+use Rattle.events.specs.Views.{Keeper, Reader, story, newest_seen, blocks}
+use Rattle.events.specs.Views as core
+use Rattle.events.specs.Sound.{IsWhole}
+use Rattle.events.specs.Safe.{IsSafe, SparesLive, IsBeginning}
 use Rattle.shelf.specs.declared.request.Request.{Request}
 use Rattle.shelf.specs.Roles.{Task, KeeperView, ReaderView, Role, keeping, reading, meeting}
 use Rattle.shelf.specs.Roles.{entries, as_keeper, as_reader, learning, ticket, idle, resting}

@@ -5,11 +5,11 @@ use mathlib.Core.List.{IsPrefix}
 use mathlib.Core.Option as maybe
 use lib.ListN.{get_elem?}
 use Rattle.atomic_table.specs.Table.{State}
-use Rattle.map_core.specs.Story.{newest}
-use Rattle.map_core.specs.Legal.{IsLegal}
-use Rattle.map_core.specs.Words.{Base, now_at, now_word}
-use Rattle.map_core.specs.Views.{story}
-use Rattle.map_core.specs.Safe.{IsBeginning}
+use Rattle.events.specs.Story.{newest}
+use Rattle.events.specs.Legal.{IsLegal}
+use Rattle.events.specs.Words.{Base, now_at, now_word}
+use Rattle.events.specs.Views.{story}
+use Rattle.events.specs.Safe.{IsBeginning}
 use Rattle.shelf.specs.declared.store_entry.StoreEntry.{StoreEntry}
 use Rattle.shelf.specs.declared.request.Request.{Request}
 use Rattle.shelf.specs.Roles.{KeeperView, ReaderView, Role, keeping, reading, meeting, learning}

@@ -1,11 +1,11 @@
 -- What the seats at a store's table know: this project's own rule.
 use Rattle.std.specs.Prelude.{ℕ, cond, ◌==◌, List, [], map, Option, Some, None, option_map}
-use Rattle.map_core.specs.declared.command.Entry.{Entry}
-use Rattle.map_core.specs.declared.kept.Seen.{Seen}
-use Rattle.map_core.specs.Words.{Base}
-use Rattle.map_core.specs.Views.{Hand, Keeper, Reader}
-use Rattle.map_core.specs.Views as core
-use Rattle.map_core.specs.Safe.{times}
+use Rattle.events.specs.declared.command.Entry.{Entry}
+use Rattle.events.specs.declared.kept.Seen.{Seen}
+use Rattle.events.specs.Words.{Base}
+use Rattle.events.specs.Views.{Hand, Keeper, Reader}
+use Rattle.events.specs.Views as core
+use Rattle.events.specs.Safe.{times}
 use Rattle.shelf.specs.declared.store_entry.StoreEntry.{StoreEntry}
 
 -- a task is the core's current command, with its caller

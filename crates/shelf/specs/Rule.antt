@@ -4,12 +4,12 @@ use mathlib.Core.List.{IsPrefix}
 use mathlib.Core.Option as maybe
 use lib.ListN.{get_elem?}
 use Rattle.atomic_table.specs.Table.{State}
-use Rattle.map_core.specs.Story.{newest}
-use Rattle.map_core.specs.Words.{Base}
-use Rattle.map_core.specs.Views.{Reader, story}
-use Rattle.map_core.specs.Runs.{fresh_reader}
-use Rattle.map_core.specs.Safe.{times}
-use Rattle.map_core.specs.Sound.{IsWhole}
+use Rattle.events.specs.Story.{newest}
+use Rattle.events.specs.Words.{Base}
+use Rattle.events.specs.Views.{Reader, story}
+use Rattle.events.specs.Runs.{fresh_reader}
+use Rattle.events.specs.Safe.{times}
+use Rattle.events.specs.Sound.{IsWhole}
 use Rattle.shelf.specs.declared.request.Request.{Request}
 use Rattle.shelf.specs.Roles.{KeeperView, ReaderView, Role, idle, keeping, reading, meeting, ticket}
 use Rattle.shelf.specs.Roles.{learning, entries, made_by, unmet_by, as_reader, core_of}

@@ -3,18 +3,18 @@ use Rattle.std.specs.Prelude.{◌≡◌, ℕ, ◌<◌, Bool, true, false, List, 
 use Rattle.std.specs.Prelude.{is_some}
 use Rattle.atomic_table.specs.Seated.{TableId}
 use Rattle.atomic_table.specs.Table.{Me}
-use Rattle.map_core.specs.Story.{newest}
-use Rattle.map_core.specs.Words.{Base, IsPlan, word_count}
-use Rattle.map_core.specs.Views.{story}
-use Rattle.map_core.specs.Legal.{IsLegal, refused}
-use Rattle.map_core.specs.Tidy.{IsReady}
+use Rattle.events.specs.Story.{newest}
+use Rattle.events.specs.Words.{Base, IsPlan, word_count}
+use Rattle.events.specs.Views.{story}
+use Rattle.events.specs.Legal.{IsLegal, refused}
+use Rattle.events.specs.Tidy.{IsReady}
 use Rattle.shelf.specs.declared.store_entry.StoreEntry.{StoreEntry}
-use Rattle.map_core.specs.declared.command.Command.{Command}
-use Rattle.map_core.specs.declared.command.Command.TheVariants.{Publish}
+use Rattle.events.specs.declared.command.Command.{Command}
+use Rattle.events.specs.declared.command.Command.TheVariants.{Publish}
 use Rattle.shelf.specs.Store.{StoreId, readers_of}
 use Rattle.shelf.specs.declared.request.Request.{Request}
 use Rattle.shelf.specs.declared.table.Basis.{Basis}
-use Rattle.map_core.specs.declared.plan.Plan.{Plan}
+use Rattle.events.specs.declared.plan.Plan.{Plan}
 use Rattle.shelf.specs.Roles.{Task, KeeperView, ReaderView, Role, keeping, reading, ticket, entries}
 use Rattle.shelf.specs.Roles.{keeper_in, reader_in, reader_at_opening, resting}
 use Rattle.shelf.specs.Close.{IsClosing}

@@ -5,17 +5,17 @@ use mathlib.Core.List.{IsPrefix}
 use mathlib.Core.Option as maybe
 use Rattle.atomic_table.specs.Table.{Me, Step}
 use Rattle.bits.specs.Tiles.{row_word}
-use Rattle.map_core.specs.declared.command.Command.{Command}
-use Rattle.map_core.specs.declared.command.Command.TheVariants.{Publish, Collect}
-use Rattle.map_core.specs.declared.kept.Seen.TheVariants.{From, Exact}
-use Rattle.map_core.specs.Story.{newest, bitmap_of}
-use Rattle.map_core.specs.Legal.{IsLegal}
-use Rattle.map_core.specs.Blocks.{directory_of, own_list}
-use Rattle.map_core.specs.Words.{Base, tiles, map_at, tile_at, now_of, slot_of}
-use Rattle.map_core.specs.Views.{story, blocks, newest_seen}
-use Rattle.map_core.specs.Steps.{next_hold, steps_before, own_positions, write_of, entry_of}
-use Rattle.map_core.specs.Safe.{times}
-use Rattle.map_core.specs.Tidy.{IsReady}
+use Rattle.events.specs.declared.command.Command.{Command}
+use Rattle.events.specs.declared.command.Command.TheVariants.{Publish, Collect}
+use Rattle.events.specs.declared.kept.Seen.TheVariants.{From, Exact}
+use Rattle.events.specs.Story.{newest, bitmap_of}
+use Rattle.events.specs.Legal.{IsLegal}
+use Rattle.events.specs.Blocks.{directory_of, own_list}
+use Rattle.events.specs.Words.{Base, tiles, map_at, tile_at, now_of, slot_of}
+use Rattle.events.specs.Views.{story, blocks, newest_seen}
+use Rattle.events.specs.Steps.{next_hold, steps_before, own_positions, write_of, entry_of}
+use Rattle.events.specs.Safe.{times}
+use Rattle.events.specs.Tidy.{IsReady}
 use Rattle.shelf.specs.declared.store_entry.StoreEntry.{StoreEntry}
 use Rattle.shelf.specs.declared.request.Request.{Request}
 use Rattle.shelf.specs.Roles.{Task, KeeperView, ReaderView, Role, idle, keeping, reading, meeting}

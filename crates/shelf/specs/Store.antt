@@ -2,8 +2,8 @@
 use Rattle.std.specs.Prelude.{ℕ, []}
 use Rattle.atomic_table.specs.Seated.{TableId}
 use Rattle.metric.specs.declared.edge.Edge.TheVariants.{Open}
-use Rattle.map_core.specs.Story.{no_bitmap}
-use Rattle.map_core.specs.Words.{Base}
+use Rattle.events.specs.Story.{no_bitmap}
+use Rattle.events.specs.Words.{Base}
 
 -- a store: its table, and what it was opened with
 pub record StoreId : Type 0 where

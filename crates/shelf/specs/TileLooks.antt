@@ -1,10 +1,10 @@
 -- What looks at a tile show of the version that a reader holds: this project's own rule.
 use Rattle.std.specs.Prelude.{◌≡◌, ℕ, ◌<◌, List, slice_index, Some}
 use Rattle.bits.specs.Tiles.{row_word}
-use Rattle.map_core.specs.Story.{bitmap_of}
-use Rattle.map_core.specs.Blocks.{directory_of}
-use Rattle.map_core.specs.Words.{Base, tiles}
-use Rattle.map_core.specs.Views.{story, blocks}
+use Rattle.events.specs.Story.{bitmap_of}
+use Rattle.events.specs.Blocks.{directory_of}
+use Rattle.events.specs.Words.{Base, tiles}
+use Rattle.events.specs.Views.{story, blocks}
 use Rattle.shelf.specs.Roles.{ReaderView, entries}
 
 -- this word is the row of each tile of the version that a reader holds which has this block

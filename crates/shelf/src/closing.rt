@@ -2,7 +2,7 @@
 
 ghost use Rattle.std.specs.Prelude.{◌≡◌, ◌+◌, [], length, None};
 ghost use mathlib.Core.List.{IsPrefix};
-ghost use Rattle.map_core.specs.Legal.{IsLegal};
+ghost use Rattle.events.specs.Legal.{IsLegal};
 ghost use Rattle.shelf.specs.Roles.{keeping, resting, keeper_in, entries, made_by};
 ghost use Rattle.shelf.specs.Seats.{base_of, reader_on, AreAt, AreKeeperAndReader};
 ghost use Rattle.shelf.specs.Store.{readers_of};
@@ -15,7 +15,7 @@ use crate::plays::{Finish, GiveUp};
 use crate::reader::ReaderSeat;
 use crate::table::{TableSeat, View, Words};
 use atomic_table::Badge;
-use map_core::Plan;
+use events::Plan;
 use std::alloc::Global;
 use std::marker::{Model, PhantomData};
 use std::sync::Arc;

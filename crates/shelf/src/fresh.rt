@@ -2,7 +2,7 @@
 
 ghost use Rattle.std.specs.Prelude.{◌≡◌, []};
 ghost use Rattle.shelf.specs.Roles.{resting, reader_at_opening};
-ghost use Rattle.map_core.specs.Tidy.{IsReady};
+ghost use Rattle.events.specs.Tidy.{IsReady};
 ghost use Rattle.shelf.specs.Store.{readers_of};
 
 use crate::keeper::KeeperSeat;
@@ -10,7 +10,7 @@ use crate::name::StoreName;
 use crate::reader::ReaderSeat;
 use crate::table::{TableSeat, View, Words};
 use atomic_table::Badge;
-use map_core::Plan;
+use events::Plan;
 use std::alloc::Global;
 use std::marker::{Model, PhantomData};
 use std::sync::Arc;

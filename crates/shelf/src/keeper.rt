@@ -1,10 +1,10 @@
 //! The keeper's seat, and its steps.
 
 ghost use Rattle.std.specs.Prelude.{◌≡◌, ◌+◌, ◌*◌, ◌≤◌, None, Some};
-ghost use Rattle.map_core.specs.Legal.{IsLegal, refused};
-ghost use Rattle.map_core.specs.Story.{newest};
-ghost use Rattle.map_core.specs.Views.{story};
-ghost use Rattle.map_core.specs.Words.{IsPlan};
+ghost use Rattle.events.specs.Legal.{IsLegal, refused};
+ghost use Rattle.events.specs.Story.{newest};
+ghost use Rattle.events.specs.Views.{story};
+ghost use Rattle.events.specs.Words.{IsPlan};
 ghost use Rattle.shelf.specs.Seats.{is_publish};
 ghost use Rattle.shelf.specs.Roles.{Task, entries};
 ghost use Rattle.shelf.specs.Steps.{with_command, wrote, scanned, IsNextWrite, IsNextScan};
@@ -14,7 +14,7 @@ use crate::name::StoreName;
 use crate::plays::{Commit, Order, Scan, Write};
 use crate::request::Request;
 use crate::table::{TableSeat, Words};
-use map_core::{Command, Now, Plan};
+use events::{Command, Now, Plan};
 use std::alloc::Global;
 use std::marker::{Model, PhantomData};
 use std::sync::Arc;

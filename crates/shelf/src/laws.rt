@@ -2,7 +2,7 @@
 
 ghost use Rattle.std.specs.Prelude.{◌≡◌, ℕ, List};
 ghost use Rattle.atomic_table.specs.Table.{State};
-ghost use Rattle.map_core.specs.Words.{Base};
+ghost use Rattle.events.specs.Words.{Base};
 ghost use Rattle.shelf.specs.declared.request.Request.{Request};
 ghost use Rattle.shelf.specs.Laws.{IsAState, StepsAreEvents, HandingsAreNone, IsSchedule, IsOneRun};
 ghost use Rattle.shelf.specs.OneLog.{HasOneLog};

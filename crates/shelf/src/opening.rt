@@ -4,7 +4,7 @@ ghost use Rattle.std.specs.Prelude.{◌≡◌, ◌+◌, ◌<◌, [], None, OnOk,
 ghost use Rattle.std.specs.Arc.{arc_value};
 ghost use Rattle.bits.specs.Tiles.{tile_count};
 ghost use Rattle.metric.specs.declared.refusal.Refusal.TheVariants.{Memory};
-ghost use Rattle.map_core.specs.Setting.{bad_field};
+ghost use Rattle.events.specs.Setting.{bad_field};
 ghost use Rattle.shelf.specs.Roles.{keeping, resting};
 ghost use Rattle.shelf.specs.Seats.{store_at, base_of, IsOf};
 ghost use Rattle.shelf.specs.Store.{readers_of};
@@ -15,7 +15,7 @@ use crate::opened::Opening;
 use crate::plays::Deal;
 use crate::table::{Basis, TableSeat, Words};
 use bits::Bitmap;
-use map_core::{Plan, Setting, opening_words};
+use events::{Plan, Setting, opening_words};
 use metric::Refusal;
 use std::alloc::Global;
 use std::snapshot::Snapshot;

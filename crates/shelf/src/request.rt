@@ -1,6 +1,6 @@
 //! A command for the keeper, with its caller.
 
-use map_core::Command;
+use events::Command;
 
 /// A command for the keeper, and the number of the session whose seat was lent.
 #[derive(Debug, Drop)]

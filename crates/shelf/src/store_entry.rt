@@ -1,6 +1,6 @@
 //! An entry of a store's log, with its caller.
 
-use map_core::Entry;
+use events::Entry;
 
 /// An entry of a store's log: an accepted command, its reply, and the number of the session whose
 /// seat was lent.

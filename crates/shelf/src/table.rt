@@ -3,7 +3,7 @@
 use crate::request::Request;
 use atomic_table::{Seat, Table, TableRule};
 use bits::Bitmap;
-use map_core::Setting;
+use events::Setting;
 use std::alloc::Global;
 use std::marker::Model;
 use std::snapshot::Snapshot;

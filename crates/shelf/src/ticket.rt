@@ -2,10 +2,10 @@
 
 ghost use Rattle.std.specs.Prelude.{◌≡◌, ◌<◌, [], ◌∷◌, length};
 ghost use mathlib.Core.List.{IsPrefix};
-ghost use Rattle.map_core.specs.Story.{newest};
-ghost use Rattle.map_core.specs.Words.{word_count, place_told, version_told};
-ghost use Rattle.map_core.specs.Legal.{IsLegal};
-ghost use Rattle.map_core.specs.Views.{story};
+ghost use Rattle.events.specs.Story.{newest};
+ghost use Rattle.events.specs.Words.{word_count, place_told, version_told};
+ghost use Rattle.events.specs.Legal.{IsLegal};
+ghost use Rattle.events.specs.Views.{story};
 ghost use Rattle.shelf.specs.Roles.{reading, entries, ticket};
 ghost use Rattle.shelf.specs.Seats.{base_of, reader_on, ticket_on};
 ghost use Rattle.shelf.specs.Steps.{loaded, LearnsIt};
@@ -17,7 +17,7 @@ use crate::reader::ReaderSeat;
 use crate::request::Request;
 use crate::table::{View, Words};
 use atomic_table::Badge;
-use map_core::Now;
+use events::Now;
 use std::marker::{Model, PhantomData};
 use std::mem::replace;
 

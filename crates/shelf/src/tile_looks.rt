@@ -3,10 +3,10 @@
 ghost use Rattle.std.specs.Prelude.{◌≡◌, ◌+◌, ◌<◌, ◌≤◌, slice_index, Some};
 ghost use Rattle.bits.specs.Tiles.{row_word};
 ghost use Rattle.bits.specs.TileWords.{tile_words};
-ghost use Rattle.map_core.specs.Story.{bitmap_of};
-ghost use Rattle.map_core.specs.Blocks.{directory_of};
-ghost use Rattle.map_core.specs.Words.{tiles, slot_of};
-ghost use Rattle.map_core.specs.Views.{story, blocks};
+ghost use Rattle.events.specs.Story.{bitmap_of};
+ghost use Rattle.events.specs.Blocks.{directory_of};
+ghost use Rattle.events.specs.Words.{tiles, slot_of};
+ghost use Rattle.events.specs.Views.{story, blocks};
 ghost use Rattle.shelf.specs.Roles.{entries, reading, reader_in};
 ghost use Rattle.shelf.specs.Seats.{IsOf};
 ghost use Rattle.shelf.specs.TileLooks.{ShowsRow, ShowRows};
@@ -17,7 +17,7 @@ use crate::reader::ReaderSeat;
 use crate::request::Request;
 use crate::table::{TableSeat, Words};
 use atomic_table::Badge;
-use map_core::Plan;
+use events::Plan;
 use std::mem::replace;
 
 /// Loads the block of a position in the version that the seat's reader holds.

@@ -1,15 +1,11 @@
 //! Tests of the crates that keep a store and speak its protocol, where no clause says it: of
-//! events, sessions, lines and served streams.
+//! worlds, sessions, texts and served streams.
 #![tactic(auto)]
 
 #[cfg(test)]
 mod compare;
 #[cfg(test)]
-mod events;
-#[cfg(test)]
 mod keeping;
-#[cfg(test)]
-mod lines;
 #[cfg(test)]
 mod one_run;
 #[cfg(test)]
@@ -22,3 +18,7 @@ mod served;
 mod sessions;
 #[cfg(test)]
 mod settings;
+#[cfg(test)]
+mod texts;
+#[cfg(test)]
+mod worlds;

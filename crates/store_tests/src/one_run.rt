@@ -1,9 +1,9 @@
 //! The dangerous order of events, run by one call.
 
 use crate::compare::same;
-use crate::events::SMALL;
 use crate::keeping::kept;
 use crate::opened::rect;
+use crate::worlds::SMALL;
 use bits::Bitmap;
 use map_core::{Command, Event, NotEnabled, Reply, StepReply, run};
 use std::process::Abort;

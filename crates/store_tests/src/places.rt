@@ -1,10 +1,10 @@
 //! A log that has used up its places.
 
 ghost use Rattle.std.specs.Prelude.{IfOk};
-ghost use Rattle.map_core.specs.Ledger.{IsBalanced};
+ghost use Rattle.events.specs.Ledger.{IsBalanced};
 
 use crate::compare::same;
-use crate::events::SMALL;
+use crate::worlds::SMALL;
 use bits::Bitmap;
 use map_core::{Command, Ledger};
 use metric::{Rect, Refusal};

@@ -1,3 +1,4 @@
 pub mod CutLines
 pub mod Gathering
 pub mod RefusalLines
+pub mod Texts

@@ -19,3 +19,6 @@ pub use standard::Held;
 
 /// The status of a run that was refused, or whose reader or writer failed.
 pub const REFUSED: u8 = 1;
+
+/// The status of a run that did what was asked.
+pub const DONE: u8 = 0;

@@ -7,7 +7,7 @@ use crate::script::Script;
 use crate::served::{Turn, take_turns};
 use crate::size::Size;
 use crate::tables::take_table;
-use engines::DistOptions;
+use command_line::DistOptions;
 use field::Workers;
 use metric::{Edge, MetricKind};
 use std::alloc::{AllocError, Global};

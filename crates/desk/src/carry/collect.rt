@@ -2,12 +2,12 @@
 //! reader may still need.
 
 ghost use Rattle.std.specs.Prelude.{◌≡◌, ◌+◌, ◌<◌, ◌^◌, [], length, map, None};
-ghost use Rattle.map_core.specs.declared.command.Command.TheVariants.{Collect};
-ghost use Rattle.map_core.specs.Ledger.{refused_by_ledger};
-ghost use Rattle.map_core.specs.Steps.{kept_scanned};
-ghost use Rattle.map_core.specs.Story.{newest};
-ghost use Rattle.map_core.specs.Words.{pin_word};
-ghost use Rattle.map_core.specs.Views.{story};
+ghost use Rattle.events.specs.declared.command.Command.TheVariants.{Collect};
+ghost use Rattle.events.specs.Ledger.{refused_by_ledger};
+ghost use Rattle.events.specs.Steps.{kept_scanned};
+ghost use Rattle.events.specs.Story.{newest};
+ghost use Rattle.events.specs.Words.{pin_word};
+ghost use Rattle.events.specs.Views.{story};
 ghost use Rattle.shelf.specs.Store.{readers_of};
 ghost use Rattle.shelf.specs.Roles.{entries};
 ghost use Rattle.shelf.specs.Steps.{scanning};
@@ -15,7 +15,7 @@ ghost use Rattle.desk.specs.Carries.{IsInHand, IsWorked, KeepsScanned};
 
 use crate::holding::Holding;
 use epoch::kept_after;
-use map_core::{Reply, Seen};
+use events::{Reply, Seen};
 use shelf::{KeeperSeat, StoreName};
 
 /// Loads each reader's word, by number, and stores what it announces in `announced`.

@@ -3,20 +3,20 @@
 
 ghost use Rattle.std.specs.Prelude.{◌≡◌, ℕ, ◌+◌, ◌*◌, ◌<◌, length, take, None};
 ghost use Rattle.bits.specs.TileWords.{tile_words};
-ghost use Rattle.map_core.specs.declared.command.Command.TheVariants.{Publish};
-ghost use Rattle.map_core.specs.Blocks.{own_list};
-ghost use Rattle.map_core.specs.Kept.{members};
-ghost use Rattle.map_core.specs.Ledger.{refused_by_ledger};
-ghost use Rattle.map_core.specs.Words.{tiles};
-ghost use Rattle.map_core.specs.Views.{story, blocks};
+ghost use Rattle.events.specs.declared.command.Command.TheVariants.{Publish};
+ghost use Rattle.events.specs.Blocks.{own_list};
+ghost use Rattle.events.specs.Kept.{members};
+ghost use Rattle.events.specs.Ledger.{refused_by_ledger};
+ghost use Rattle.events.specs.Words.{tiles};
+ghost use Rattle.events.specs.Views.{story, blocks};
 ghost use Rattle.shelf.specs.Roles.{entries};
-ghost use Rattle.map_core.specs.Words.{IsPlan};
+ghost use Rattle.events.specs.Words.{IsPlan};
 ghost use Rattle.shelf.specs.Steps.{writing, one_own, IsOwn};
 ghost use Rattle.desk.specs.Holdings.{IsToldByLog};
 ghost use Rattle.desk.specs.Carries.{IsInHand, IsWorked};
 
 use crate::holding::Holding;
-use map_core::{Plan, Reply};
+use events::{Plan, Reply};
 use shelf::{KeeperSeat, StoreName};
 
 /// Stores the rows of one of the draft's own blocks, counted from 0.

@@ -2,11 +2,11 @@
 
 ghost use Rattle.std.specs.Prelude.{◌≡◌, ℕ, IfErr};
 ghost use Rattle.bits.specs.Cells.{Cells};
-ghost use Rattle.map_core.specs.declared.command.Command.TheVariants.{Stamp};
+ghost use Rattle.events.specs.declared.command.Command.TheVariants.{Stamp};
 ghost use Rattle.desk.specs.Desks.{IsStamp, outcome_of};
 
 use bits::Bitmap;
-use map_core::{Command, Reply};
+use events::{Command, Reply};
 use metric::Refusal;
 
 /// The answer to a command; a command that was returned is dropped.

@@ -4,12 +4,12 @@
 //! Each requires that a seat that has announced a version holds one.
 
 ghost use Rattle.std.specs.Prelude.{◌≡◌, ◌<◌, true, Some, vec_len, vec_capacity, IfOk, IfErr, OnOk};
-ghost use Rattle.map_core.specs.declared.command.Command.TheVariants.{Paint, Stamp, Publish};
-ghost use Rattle.map_core.specs.declared.command.Command.TheVariants.{Revert, Collect, Checkpoint};
-ghost use Rattle.map_core.specs.Ledger.{takes_room};
+ghost use Rattle.events.specs.declared.command.Command.TheVariants.{Paint, Stamp, Publish};
+ghost use Rattle.events.specs.declared.command.Command.TheVariants.{Revert, Collect, Checkpoint};
+ghost use Rattle.events.specs.Ledger.{takes_room};
 ghost use Rattle.desk.specs.Holdings.{CanAnswer, Refuses};
 ghost use Rattle.desk.specs.Judging.{IsJudged};
-ghost use Rattle.map_core.specs.Legal.{IsLegal};
+ghost use Rattle.events.specs.Legal.{IsLegal};
 ghost use Rattle.shelf.specs.Roles.{entries};
 ghost use Rattle.desk.specs.Desks.{IsApplied, IsSteady, outcome_of, base_place, entries_kept_after};
 ghost use Rattle.desk.specs.Desks.{kept_part};
@@ -19,7 +19,7 @@ use crate::desk::Desk;
 use crate::desk::answers::{answered, stamp_answered};
 use crate::holding::{Holding, Judged};
 use bits::Bitmap;
-use map_core::{Command, Entry, Reply};
+use events::{Command, Entry, Reply};
 use metric::{Rect, Refusal};
 use shelf::{ReaderSeat, Request, StoreEntry, StoreName, Ticket, meet};
 

@@ -3,12 +3,12 @@
 ghost use Rattle.std.specs.Prelude.{◌≡◌, [], None, IfOk, IfErr};
 ghost use Rattle.bits.specs.Tiles.{tile_count};
 ghost use Rattle.metric.specs.declared.refusal.Refusal.TheVariants.{Memory};
-ghost use Rattle.map_core.specs.Setting.{bad_field};
+ghost use Rattle.events.specs.Setting.{bad_field};
 
 use crate::desk::Desk;
 use crate::holding::Holding;
 use bits::Bitmap;
-use map_core::{Seen, Setting};
+use events::{Seen, Setting};
 use metric::Refusal;
 use shelf::{FreshKeeper, StoreEntry, StoreName};
 use std::alloc::Global;

@@ -1,19 +1,19 @@
 //! The effect of commands that have been judged on what a desk holds.
 
 ghost use Rattle.std.specs.Prelude.{◌≡◌, None};
-ghost use Rattle.map_core.specs.declared.command.Command.{Command};
-ghost use Rattle.map_core.specs.declared.command.Command.TheVariants.{Publish, Revert, Collect};
-ghost use Rattle.map_core.specs.declared.command.Command.TheVariants.{Checkpoint};
-ghost use Rattle.map_core.specs.Kept.{IsIn, IsPartOfKept};
-ghost use Rattle.map_core.specs.Ledger.{refused_by_ledger};
+ghost use Rattle.events.specs.declared.command.Command.{Command};
+ghost use Rattle.events.specs.declared.command.Command.TheVariants.{Publish, Revert, Collect};
+ghost use Rattle.events.specs.declared.command.Command.TheVariants.{Checkpoint};
+ghost use Rattle.events.specs.Kept.{IsIn, IsPartOfKept};
+ghost use Rattle.events.specs.Ledger.{refused_by_ledger};
 ghost use Rattle.desk.specs.declared.holding.judged.Judged.TheVariants as kinds;
 ghost use Rattle.desk.specs.Holdings.{CanAnswer, Does};
 ghost use Rattle.desk.specs.Judging.{IsJudged};
 
 use crate::holding::Holding;
 use epoch::collect;
+use events::{Kept, Reply};
 use grid::Stroke;
-use map_core::{Kept, Reply};
 
 #[tactic(auto, using(crate::proofs::HoldLemmas::places_left))]
 impl Holding {

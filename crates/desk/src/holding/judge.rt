@@ -1,12 +1,12 @@
 //! Why what a desk holds refuses a command, and what a command does otherwise.
 
 ghost use Rattle.std.specs.Prelude.{◌≡◌, Some, None, IfOk, IfErr};
-ghost use Rattle.map_core.specs.Ledger.{refused_by_ledger};
+ghost use Rattle.events.specs.Ledger.{refused_by_ledger};
 ghost use Rattle.desk.specs.Holdings.{CanAnswer, Judges};
 ghost use Rattle.desk.specs.Judging.{IsJudged, IsKind};
 
 use crate::holding::{Holding, Judged};
-use map_core::Command;
+use events::Command;
 use metric::Refusal;
 
 impl Holding {

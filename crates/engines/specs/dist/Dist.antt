@@ -11,10 +11,10 @@ use Rattle.bits.specs.Cells.{Cells}
 use Rattle.pbm.specs.Faults.{header, image}
 use Rattle.pbm.specs.Image.{Reads}
 use Rattle.field.specs.Rows.{AreNears}
-use Rattle.proto.specs.Replies.{reply_line}
-use Rattle.proto.specs.declared.answer.Answer.{Answer}
+use Rattle.lines.specs.Replies.{reply_line}
+use Rattle.lines.specs.declared.answer.Answer.{Answer}
 use Rattle.engines.specs.dist.Query.{IsReplyTo, asked_in, status_of}
-use Rattle.engines.specs.declared.command_line.arguments.DistOptions.{DistOptions}
+use Rattle.command_line.specs.declared.arguments.DistOptions.{DistOptions}
 use Rattle.printing.specs.Table.{table_text}
 
 -- the bytes read as an image, and the text is its table, by the metric and with the edge asked for

@@ -2,8 +2,8 @@
 use Rattle.std.specs.Prelude.{◌≡◌, ℕ, List}
 use Rattle.metric.specs.declared.edge.Edge.{Edge}
 use Rattle.bits.specs.Cells.{Cells}
-use Rattle.proto.specs.Replies.{reply_line}
-use Rattle.proto.specs.declared.answer.Answer.{Answer}
+use Rattle.lines.specs.Replies.{reply_line}
+use Rattle.lines.specs.declared.answer.Answer.{Answer}
 use Rattle.engines.specs.dist.Query.{IsReplyTo, asked_in, status_of}
 use Rattle.engines.specs.declared.dist.reply.QueryReply.{QueryReply}
 

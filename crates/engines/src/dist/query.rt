@@ -2,15 +2,14 @@
 
 ghost use Rattle.std.specs.Prelude.{◌≡◌, ◌≢◌, IfOk, IfErr, IsOkAnd, Ok, Err};
 ghost use Rattle.metric.specs.declared.refusal.Refusal.{Refusal};
-ghost use Rattle.proto.specs.Asked.{asked_by, HasPoints};
+ghost use Rattle.lines.specs.Asked.{asked_by, HasPoints};
 ghost use Rattle.engines.specs.dist.Query.{IsReplyTo, asked_in, status_of};
 
-use crate::DONE;
 use bits::Bitmap;
+use lines::{Answer, Query, Verb, answer_query, read_query, split_verb};
 use metric::{Edge, Refusal};
-use proto::{Answer, Query, Verb, answer_query, read_query, split_verb};
 use std::alloc::Global;
-use streams::REFUSED;
+use streams::{DONE, REFUSED};
 
 /// The answer to a line, which may be a refusal of the line or of its query.
 pub fn answer_query_line(alloc: Global, bitmap: &Bitmap, edge: Edge, line: &[u8]) -> Answer

@@ -5,8 +5,8 @@ ghost use Rattle.metric.specs.declared.refusal.Refusal.TheVariants.{Memory};
 
 use crate::dist::query::{answer_query_line, status};
 use bits::Bitmap;
+use lines::{Text, reply_text};
 use metric::{Edge, Refusal};
-use proto::{Text, reply_text};
 use std::alloc::Global;
 
 /// The text of a reply, and the status of a run that ends with it.

@@ -1,21 +1,20 @@
 //! The last steps of commands: each stores NOW, and appends an entry to the log.
 
 ghost use Rattle.std.specs.Prelude.{◌≡◌, ◌<◌, [], ◌∷◌, ◌++◌, Ok, vec_len, vec_capacity};
-ghost use Rattle.map_core.specs.Runs.{SafeStep};
-ghost use Rattle.map_core.specs.declared.event.Event.TheVariants.{Keep};
-ghost use Rattle.map_core.specs.declared.event.StepReply.TheVariants.{Committed};
-ghost use Rattle.map_core.specs.declared.command.Command.TheVariants.{Publish, Revert, Collect};
-ghost use Rattle.map_core.specs.declared.command.Command.TheVariants.{Checkpoint};
-ghost use Rattle.map_core.specs.Ledger.{HasNowRoom};
-ghost use Rattle.map_core.specs.Words.{now_word};
+ghost use Rattle.events.specs.Runs.{SafeStep};
+ghost use Rattle.events.specs.declared.event.Event.TheVariants.{Keep};
+ghost use Rattle.events.specs.declared.event.StepReply.TheVariants.{Committed};
+ghost use Rattle.events.specs.declared.command.Command.TheVariants.{Publish, Revert, Collect};
+ghost use Rattle.events.specs.declared.command.Command.TheVariants.{Checkpoint};
+ghost use Rattle.events.specs.Ledger.{HasNowRoom};
+ghost use Rattle.events.specs.Words.{now_word};
 ghost use Rattle.map_core.specs.Consistent.{IsLastOf, IsDrawing};
 
-use crate::blocks::{give_back_own, give_back_retired, publish_own, take_blocks};
-use crate::command::{Command, Entry};
-use crate::event::StepReply;
-use crate::ledger::Ledger;
 use crate::world::World;
 use crate::world::words::NOW_AT;
+use events::{
+    Command, Entry, Ledger, StepReply, give_back_own, give_back_retired, publish_own, take_blocks,
+};
 
 /// Appends an entry to the log, which has capacity for it, and stores NOW as the ledger has it
 /// then.

@@ -2,20 +2,17 @@
 //! loads, and which step is next.
 
 ghost use Rattle.std.specs.Prelude.{◌≡◌, ◌<◌, length, Ok, None};
-ghost use Rattle.map_core.specs.Legal.{refused};
-ghost use Rattle.map_core.specs.Words.{tiles};
-ghost use Rattle.map_core.specs.Views.{story_of, blocks_of_state};
-ghost use Rattle.map_core.specs.Steps.{steps_before, tile_steps, tile_write, map_write, write_of};
-ghost use Rattle.map_core.specs.Runs.{SafeStep};
-ghost use Rattle.map_core.specs.declared.event.Event.TheVariants.{Keep};
-ghost use Rattle.map_core.specs.declared.command.Command.TheVariants.{Publish, Collect};
+ghost use Rattle.events.specs.Legal.{refused};
+ghost use Rattle.events.specs.Words.{tiles};
+ghost use Rattle.events.specs.Views.{story_of, blocks_of_state};
+ghost use Rattle.events.specs.Steps.{steps_before, tile_steps, tile_write, map_write, write_of};
+ghost use Rattle.events.specs.Runs.{SafeStep};
+ghost use Rattle.events.specs.declared.event.Event.TheVariants.{Keep};
+ghost use Rattle.events.specs.declared.command.Command.TheVariants.{Publish, Collect};
 ghost use Rattle.map_core.specs.Consistent.{IsStepOf};
 
-use crate::command::Command;
-use crate::event::{NotEnabled, StepReply};
-use crate::plan::Plan;
-use crate::tiles::{count_own, nth_own};
 use crate::world::World;
+use events::{Command, NotEnabled, Plan, StepReply, count_own, nth_own};
 
 impl World {
     /// A step of a collect: loads the next reader's word.

@@ -3,20 +3,17 @@
 ghost use Rattle.std.specs.Prelude.{◌≡◌, Some, is_some};
 ghost use Rattle.shelf.specs.Steps.{leaving};
 ghost use Rattle.desk.specs.Desks.{outcome_of};
-ghost use Rattle.proto.specs.Asked.{asked_by};
+ghost use Rattle.lines.specs.Asked.{asked_by};
 ghost use Rattle.proto.specs.Callers.{IsCommanded, IsPinAnswer, IsUnpinAnswer, free, told_as};
-ghost use Rattle.proto.specs.declared.answer.Answer.TheVariants as answers;
+ghost use Rattle.lines.specs.declared.answer.Answer.TheVariants as answers;
 ghost use Rattle.proto.specs.Exchanges.{IsQueryAnswer, WithPin, with_pin};
 ghost use Rattle.proto.specs.Served.{IsDumpSaid};
 ghost use Rattle.proto.specs.Wire.{CanGoOn};
 
-use crate::answer::Answer;
-use crate::answering::answer_of;
-use crate::query::Query;
 use crate::serve::dump::say_dump;
 use crate::serve::say::say;
-use crate::text::Text;
-use map_core::{Command, Reply};
+use events::{Command, Reply};
+use lines::{Answer, Query, Text, answer_of};
 use metric::{Refusal, Stream, WriteFault};
 use session::{Pinned, Session, Store};
 use shelf::StoreName;

@@ -5,14 +5,13 @@ ghost use Rattle.std.specs.List.{range_with_len, flat_map};
 ghost use Rattle.pbm.specs.declared.header.Form.TheVariants.{Plain};
 ghost use Rattle.pbm.specs.Writing.{front_text, plain_digit, plain_text};
 ghost use Rattle.proto.specs.Served.{IsDumped};
-ghost use Rattle.proto.specs.Replies.{reply_line};
+ghost use Rattle.lines.specs.Replies.{reply_line};
 ghost use Rattle.proto.specs.Wire.{CanGoOn, HasPut};
 
-use crate::answer::Answer;
 use crate::serve::say::say;
 use crate::serve::wire::put;
-use crate::text::Text;
 use bits::Bitmap;
+use lines::{Answer, Text};
 use metric::{Stream, WriteFault};
 use pbm::{first_piece, next_piece, plain_length};
 use std::alloc::Global;

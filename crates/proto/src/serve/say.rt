@@ -1,14 +1,12 @@
 //! Writes reply lines to a client.
 
-ghost use Rattle.proto.specs.Replies.{reply_line};
+ghost use Rattle.lines.specs.Replies.{reply_line};
 ghost use Rattle.proto.specs.Served.{HasSaid};
 ghost use Rattle.proto.specs.Wire.{CanGoOn, HasPut};
 
-use crate::answer::Answer;
-use crate::reply::reply_text;
 use crate::serve::end::End;
 use crate::serve::wire::{pass_on, put};
-use crate::text::Text;
+use lines::{Answer, Text, reply_text};
 use metric::{Stream, WriteFault};
 
 /// Writes a reply line.

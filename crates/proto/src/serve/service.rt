@@ -2,31 +2,26 @@
 
 ghost use Rattle.std.specs.Prelude.{◌≡◌, ℕ, List, Ok};
 ghost use Rattle.proto.specs.Exchanges.{IsStampAnswer, line_said, line_seen_in};
-ghost use Rattle.proto.specs.Replies.{reply_line};
-ghost use Rattle.proto.specs.Said as saids;
+ghost use Rattle.lines.specs.Replies.{reply_line};
+ghost use Rattle.lines.specs.Said as saids;
 ghost use Rattle.proto.specs.Served.{AreKept, HasHeard, IsHeard, IsSaid, IsServed, end_after};
 ghost use Rattle.metric.specs.Wire.{Wire};
 ghost use Rattle.proto.specs.Wire.{CanGoOn};
 
-use crate::answer::Answer;
-use crate::line::{Line, parse_line};
 use crate::serve::caller::Caller;
 use crate::serve::counted::{Counted, read_counted};
 use crate::serve::end::End;
 use crate::serve::line_buffer::LineBuffer;
 use crate::serve::say::{say, say_last};
-use crate::split::without_cr;
-use crate::text::Text;
-use map_core::Command;
+use events::Command;
+use lines::{Answer, Line, MOST_COUNTED, Text, parse_line};
 use metric::{PbmFault, Refusal, Stream, WriteFault};
 use pbm::read_image;
 use session::Store;
 use shelf::StoreName;
 use std::alloc::{AllocError, Global};
 use std::sync::Wait;
-
-/// The most bytes of a stamp's image: the plain image of the largest map fits.
-pub const MOST_COUNTED: u32 = 17_100_000;
+use words::without_cr;
 
 /// What serves the lines of a stream: the store, and the buffers of a line and of a reply line.
 #[derive(Drop)]

@@ -1,15 +1,15 @@
 //! The commands of a pin are those of its session. The pin keeps its version and its bitmap.
 
 ghost use Rattle.std.specs.Prelude.{◌≡◌, IfErr};
-ghost use Rattle.map_core.specs.declared.command.Command.TheVariants.{Paint, Stamp, Publish};
-ghost use Rattle.map_core.specs.declared.command.Command.TheVariants.{Revert, Collect, Checkpoint};
+ghost use Rattle.events.specs.declared.command.Command.TheVariants.{Paint, Stamp, Publish};
+ghost use Rattle.events.specs.declared.command.Command.TheVariants.{Revert, Collect, Checkpoint};
 ghost use Rattle.desk.specs.Desks.{outcome_of};
 ghost use Rattle.session.specs.Sessions.{IsPinApplied};
 
 use crate::pinned::Pinned;
 use bits::Bitmap;
 use desk::{Desk, answered, stamp_answered};
-use map_core::{Command, Reply};
+use events::{Command, Reply};
 use metric::{Rect, Refusal};
 use shelf::StoreName;
 

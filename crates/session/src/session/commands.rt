@@ -1,14 +1,14 @@
 //! The commands of a session.
 
 ghost use Rattle.std.specs.Prelude.{◌≡◌, IfErr};
-ghost use Rattle.map_core.specs.declared.command.Command.TheVariants.{Paint, Stamp, Publish};
-ghost use Rattle.map_core.specs.declared.command.Command.TheVariants.{Revert, Collect, Checkpoint};
+ghost use Rattle.events.specs.declared.command.Command.TheVariants.{Paint, Stamp, Publish};
+ghost use Rattle.events.specs.declared.command.Command.TheVariants.{Revert, Collect, Checkpoint};
 ghost use Rattle.desk.specs.Desks.{IsApplied, outcome_of};
 
 use crate::session::Session;
 use bits::Bitmap;
 use desk::{Desk, answered, stamp_answered};
-use map_core::{Command, Reply};
+use events::{Command, Reply};
 use metric::{Rect, Refusal};
 use shelf::StoreName;
 

@@ -5,8 +5,8 @@ use Rattle.shelf.proofs.Names.{◌++◌, length, ap, sym, ◌∙◌, arith, All,
 use Rattle.shelf.proofs.Names.{IsPrefix, StoreEntry, entries, made_by}
 use Rattle.std.proofs.Common.{append-nil, append_assoc}
 use Rattle.std.proofs.lemmas.List.Elements.{All-append}
-use Rattle.map_core.specs.Safe.{IsBeginning}
-use Rattle.map_core.proofs.accounts.TimesLemmas.{times-append}
+use Rattle.events.specs.Safe.{IsBeginning}
+use Rattle.events.proofs.accounts.TimesLemmas.{times-append}
 
 -- a seat's log is a prefix of itself
 pub prefix-itself : (log : List StoreEntry) → IsPrefix log log

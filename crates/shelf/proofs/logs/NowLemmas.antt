@@ -3,13 +3,13 @@ use Rattle.shelf.proofs.Names.{rules, ◌≡◌, ◌+◌, ◌<◌, ◌≤◌, co
 use Rattle.shelf.proofs.Names.{length-append, opened, newest, IsLegal, Base, now_word, now_of}
 use Rattle.shelf.proofs.Names.{slot_of, story, IsReady, places_are, StoreEntry, entries, is_publish}
 use Rattle.shelf.proofs.Names.{newest_slot}
-use Rattle.map_core.specs.declared.command.Command.{Command}
-use Rattle.map_core.specs.declared.command.Reply.{Reply}
-use Rattle.map_core.specs.declared.command.Entry.{Entry}
-use Rattle.map_core.specs.Story.{Story}
-use Rattle.map_core.specs.Legal.{told, after}
-use Rattle.map_core.proofs.logs.LogLemmas.{places-legal}
-use Rattle.map_core.proofs.invariants.TidyLog.{after-push}
+use Rattle.events.specs.declared.command.Command.{Command}
+use Rattle.events.specs.declared.command.Reply.{Reply}
+use Rattle.events.specs.declared.command.Entry.{Entry}
+use Rattle.events.specs.Story.{Story}
+use Rattle.events.specs.Legal.{told, after}
+use Rattle.events.proofs.logs.LogLemmas.{places-legal}
+use Rattle.events.proofs.invariants.TidyLog.{after-push}
 use Rattle.shelf.proofs.logs.LogParts.{entries-push, length-entries}
 
 -- the newest version of a story is one more after a publish, and the same after any other entry

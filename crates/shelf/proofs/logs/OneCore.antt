@@ -6,12 +6,12 @@ use Rattle.shelf.proofs.Names.{meeting, as_keeper, core_of, ticket, learning, Ar
 use Rattle.shelf.proofs.Names.{Knows, HasReader, HasKeeper, slice_get, Some}
 use Rattle.shelf.proofs.logs.LogParts.{prefix-entries}
 use Rattle.shelf.proofs.steps.KeeperSteps.{some_reader}
-use Rattle.map_core.proofs.invariants.SafeLemmas.{IsSafe-whole}
+use Rattle.events.proofs.invariants.SafeLemmas.{IsSafe-whole}
 use Rattle.shelf.specs.Rule.{IsSomeSeat}
 use Rattle.shelf.specs.Laws.{ShowsReader, ShowsKeeper, IsStateOf, IsAState}
 use Rattle.shelf.proofs.seats.Owners.{readers_apart, keepers_one}
 use Rattle.std.proofs.lemmas.Bool.{cases_lt}
-use Rattle.map_core.proofs.steps.StepLemmas.{number_inside}
+use Rattle.events.proofs.steps.StepLemmas.{number_inside}
 
 -- where no seat has a reader's number, since it isn't dealt yet or is given up, its word is 0
 quiet_words : (z : Base) (words : List ℕ) (k : KeeperView) (readers : List Reader)

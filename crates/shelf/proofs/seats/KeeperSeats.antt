@@ -4,14 +4,14 @@ use Rattle.shelf.proofs.Names.{None, length-append, bool_byte, opened, IsLegal, 
 use Rattle.shelf.proofs.Names.{now_word, now_of, slot-within, story, blocks, IsReady, IsTidy-legal}
 use Rattle.shelf.proofs.Names.{is_publish, Request, Task, KeeperView, entries, with_command}
 use Rattle.shelf.proofs.Names.{IsNextWrite, MayCommit, signed_of, committed, newest_slot}
-use Rattle.map_core.specs.Words.{word_count}
+use Rattle.events.specs.Words.{word_count}
 use Rattle.std.proofs.Common.{true, ◌^◌, Bool}
 use Rattle.shelf.specs.Seats.{KeeperSays}
 use Rattle.std.proofs.lemmas.Option.{same_Some}
-use Rattle.map_core.proofs.accounts.SpareLemmas.{spare_write}
-use Rattle.map_core.proofs.accounts.FreedLemmas.{reply_is_answer}
-use Rattle.map_core.proofs.invariants.TidyLog.{IsLegal-push}
-use Rattle.map_core.proofs.accounts.TileCounts.{as_count}
+use Rattle.events.proofs.accounts.SpareLemmas.{spare_write}
+use Rattle.events.proofs.accounts.FreedLemmas.{reply_is_answer}
+use Rattle.events.proofs.invariants.TidyLog.{IsLegal-push}
+use Rattle.events.proofs.accounts.TileCounts.{as_count}
 use Rattle.shelf.proofs.logs.LogParts.{entries-push}
 use Rattle.shelf.proofs.logs.NowLemmas.{newest-push, now_of_log, room}
 

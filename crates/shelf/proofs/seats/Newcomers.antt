@@ -9,7 +9,7 @@ use Rattle.std.proofs.Common.{map}
 use Rattle.std.specs.List.{range_with_len}
 use Rattle.std.proofs.lemmas.List.FromFn.{length-range_with_len}
 use Rattle.std.proofs.Math.Seq.{get_or-append_seam}
-use Rattle.map_core.proofs.shared_words.OpenWords.{range_with_len-push}
+use Rattle.events.proofs.shared_words.OpenWords.{range_with_len-push}
 use Rattle.shelf.specs.Open.{all_newcomers}
 
 -- the first n readers of a store and its next one are its first n + 1 readers

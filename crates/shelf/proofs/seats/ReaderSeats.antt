@@ -4,9 +4,9 @@ use Rattle.shelf.proofs.Names.{Base, place_told, version_told, slot_of, story, p
 use Rattle.shelf.proofs.Names.{slot-within, IsTidy-legal, StoreEntry, ReaderView, entries}
 use Rattle.shelf.proofs.Names.{as_reader, loaded, newest_slot}
 use Rattle.shelf.specs.Seats.{ReaderSays}
-use Rattle.map_core.specs.Steps.{next_hold}
-use Rattle.map_core.specs.Words.{slot_told}
-use Rattle.map_core.proofs.invariants.SoundReader.{now_tells}
+use Rattle.events.specs.Steps.{next_hold}
+use Rattle.events.specs.Words.{slot_told}
+use Rattle.events.proofs.invariants.SoundReader.{now_tells}
 use Rattle.shelf.proofs.logs.LogParts.{length-entries}
 use Rattle.shelf.specs.Steps.{Sees}
 

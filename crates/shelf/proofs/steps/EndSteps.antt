@@ -2,11 +2,11 @@
 use Rattle.shelf.proofs.Names.{rules, ◌≡◌, ℕ, List, length, none, TableId, Me, step, keeps, Allows}
 use Rattle.shelf.proofs.Names.{Base, now_at, AreOpeningWords, IsReady, Request, KeeperView, Role}
 use Rattle.shelf.proofs.Names.{keeping, Agrees, store_at}
-use Rattle.map_core.specs.declared.plan.Plan.{Plan}
+use Rattle.events.specs.declared.plan.Plan.{Plan}
 use Rattle.shelf.specs.declared.table.Basis.{Basis}
 use Rattle.shelf.specs.Seats.{IsOf, base_of}
 use Rattle.shelf.proofs.seats.Bridge.{seat_knows}
-use Rattle.map_core.specs.Words.{IsPlan}
+use Rattle.events.specs.Words.{IsPlan}
 use Rattle.shelf.specs.Steps.{ends}
 use Rattle.shelf.proofs.steps.LookSteps.{nothing_moves}
 

@@ -13,18 +13,18 @@ use Rattle.shelf.specs.Laws.{after_step, StepsAreEvents}
 use Rattle.shelf.proofs.steps.KeeperSteps.{task_seats, commit_seats}
 use Rattle.shelf.proofs.steps.ReaderSteps.{reader_seats, seats_loaded}
 use Rattle.shelf.proofs.steps.LookSteps.{block_seen, same_slot}
-use Rattle.map_core.proofs.steps.ReaderWorld.{look_map_does, look_tile_does, is_mapped_found}
-use Rattle.map_core.specs.declared.event.Event.TheVariants.{Announce, Leave, Confirm, Keep, Load}
-use Rattle.map_core.specs.declared.event.Event.TheVariants.{LookMap, LookTile, Order}
-use Rattle.map_core.specs.Steps.{does}
-use Rattle.map_core.proofs.steps.DoesLemmas.{does-keeps}
+use Rattle.events.proofs.steps.Events.{look_map_does, look_tile_does, is_mapped_found}
+use Rattle.events.specs.declared.event.Event.TheVariants.{Announce, Leave, Confirm, Keep, Load}
+use Rattle.events.specs.declared.event.Event.TheVariants.{LookMap, LookTile, Order}
+use Rattle.events.specs.Steps.{does}
+use Rattle.events.proofs.steps.DoesLemmas.{does-keeps}
 use Rattle.shelf.proofs.logs.LogParts.{entries-push}
 use Rattle.shelf.proofs.seats.Bridge.{set_get}
-use Rattle.map_core.proofs.steps.Events.{does_announce, does_confirm, does_leave, does_step}
-use Rattle.map_core.proofs.steps.Events.{does_commit, does_load, does_order}
+use Rattle.events.proofs.steps.Events.{does_announce, does_confirm, does_leave, does_step}
+use Rattle.events.proofs.steps.Events.{does_commit, does_load, does_order}
 use Rattle.shelf.proofs.logs.OneCore.{core_at}
 use Rattle.shelf.proofs.steps.MeetingSteps.{met_seats}
-use Rattle.map_core.specs.declared.event.StepReply.TheVariants as says
+use Rattle.events.specs.declared.event.StepReply.TheVariants as says
 
 -- where the core does an event, and the seats agree after it, the step of the table is that event
 event_at : (z : Base) (s : State Request Role) (r : Agrees z s) (e : Event) (answer : StepReply)

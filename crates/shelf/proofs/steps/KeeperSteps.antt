@@ -11,8 +11,8 @@ use Rattle.shelf.proofs.Names.{MayCommit}
 use Rattle.shelf.proofs.seats.Bridge.{seat_knows, set_get, seated_set, seats_keeper}
 use prog.Atomic.{either}
 use Rattle.atomic_table.proofs.Lists.{exchanged}
-use Rattle.map_core.proofs.steps.StepLemmas.{in_hand, keeps-order, keeps-write, keeps-scan}
-use Rattle.map_core.proofs.steps.StepLemmas.{keeps-commit}
+use Rattle.events.proofs.steps.StepLemmas.{in_hand, keeps-order, keeps-write, keeps-scan}
+use Rattle.events.proofs.steps.StepLemmas.{keeps-commit}
 use Rattle.shelf.proofs.logs.LogParts.{prefix-push, entries-push, made_by-append, callers-push}
 use Rattle.shelf.specs.Steps.{orders, writes, scans, commits}
 

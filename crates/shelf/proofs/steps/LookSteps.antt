@@ -5,12 +5,12 @@ use Rattle.shelf.proofs.Names.{directory_of, Base, tiles, map_at, tile_at, slot_
 use Rattle.shelf.proofs.Names.{IsTidy-legal, Request, ReaderView, Role, reading, entries, as_reader}
 use Rattle.shelf.proofs.Names.{Fits, Agrees}
 use Rattle.shelf.proofs.seats.Bridge.{seat_knows, set_get}
-use Rattle.map_core.proofs.logs.LogLemmas.{slot-beginning, bitmap-beginning}
-use Rattle.map_core.specs.Sound.{Shows}
-use Rattle.map_core.proofs.invariants.SoundBlocks.{block_within}
+use Rattle.events.proofs.logs.LogLemmas.{slot-beginning, bitmap-beginning}
+use Rattle.events.specs.Sound.{Shows}
+use Rattle.events.proofs.invariants.SoundBlocks.{block_within}
 use Rattle.shelf.proofs.logs.LogParts.{prefix-entries}
 use Rattle.shelf.specs.Steps.{looks}
-use Rattle.map_core.proofs.accounts.SeenBlocks.{directory-beginning}
+use Rattle.events.proofs.accounts.SeenBlocks.{directory-beginning}
 
 -- a load that leaves its seat's view keeps the rule
 pub nothing_moves : (z : Base) (s : State Request Role) (r : Agrees z s) (id i : ℕ) (v : Role)

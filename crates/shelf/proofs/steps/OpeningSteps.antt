@@ -8,10 +8,10 @@ use Rattle.shelf.specs.Roles.{reader_at_opening}
 use Rattle.shelf.proofs.seats.HandedSeats.{one_new}
 use Rattle.std.specs.Prelude.{replicate}
 use Rattle.atomic_table.specs.Table.{opening}
-use Rattle.map_core.proofs.steps.OpenWorld.{IsWhole-opening}
+use Rattle.events.proofs.steps.OpenWorld.{IsWhole-opening}
 use Rattle.shelf.proofs.seats.Moved.{moved, moved-each, moved-here, moved-else}
 use Rattle.shelf.proofs.seats.Bridge.{seated_set, seated_longer, seated_last}
-use Rattle.map_core.specs.Runs as core
+use Rattle.events.specs.Runs as core
 
 -- a list of one reader again and again has it at each place
 get_replicate : (n i : ℕ) (x : Reader) → i < n → slice_get (replicate n x) i ≡ Some x

@@ -5,12 +5,12 @@ use Rattle.shelf.proofs.Names.{now_at, pin_at, pin_word, Reader, IsWhole, versio
 use Rattle.shelf.proofs.Names.{KeeperView, ReaderView, Role, reading, entries, as_reader, core_of}
 use Rattle.shelf.proofs.Names.{Fits, HasReader, HasKeeper, AreSeats, Agrees, loaded}
 use Rattle.shelf.proofs.seats.Bridge.{seat_knows, set_get, there_set, seats_reader}
-use Rattle.map_core.specs.Views.{newest_seen}
-use Rattle.map_core.specs.Steps.{to_confirm}
+use Rattle.events.specs.Views.{newest_seen}
+use Rattle.events.specs.Steps.{to_confirm}
 use Rattle.shelf.specs.Steps.{announcing, confirming, leaving, announces, confirms, leaves, taken}
-use Rattle.map_core.proofs.logs.LogLemmas.{newest-beginning}
-use Rattle.map_core.proofs.invariants.SoundReader.{next_hold_cases}
-use Rattle.map_core.proofs.steps.StepLemmas.{keeps-announce, keeps-confirm, keeps-leave, keeps-load}
+use Rattle.events.proofs.logs.LogLemmas.{newest-beginning}
+use Rattle.events.proofs.invariants.SoundReader.{next_hold_cases}
+use Rattle.events.proofs.steps.StepLemmas.{keeps-announce, keeps-confirm, keeps-leave, keeps-load}
 use Rattle.shelf.proofs.logs.LogParts.{prefix-itself, prefix-entries, made_by-prefix}
 
 -- a reader fits the keeper also with another announcement, where it holds nothing else

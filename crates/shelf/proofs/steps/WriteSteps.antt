@@ -4,10 +4,10 @@ use Rattle.shelf.proofs.Names.{refl, sym, arith, row_word, Publish, newest, dire
 use Rattle.shelf.proofs.Names.{tiles, map_at, tile_at, story, blocks, steps_before, write_of}
 use Rattle.shelf.proofs.Names.{KeeperView, entries, IsNextWrite}
 use Rattle.std.proofs.Common.{take}
-use Rattle.map_core.specs.Blocks.{own_list, mapped}
-use Rattle.map_core.specs.Words.{next_slot}
-use Rattle.map_core.specs.Steps.{map_write}
-use Rattle.map_core.proofs.shared_words.PublishWords.{write_of-tile, write_of-map, own_at}
+use Rattle.events.specs.Blocks.{own_list, mapped}
+use Rattle.events.specs.Words.{next_slot}
+use Rattle.events.specs.Steps.{map_write}
+use Rattle.events.proofs.shared_words.PublishWords.{write_of-tile, write_of-map, own_at}
 use Rattle.shelf.specs.Steps.{writing, IsOwn}
 
 -- where a publish has stored n words, its n-th word is the next to store

@@ -5,6 +5,7 @@ ghost use Rattle.std.specs.Prelude.{◌≡◌};
 
 use crate::compare::{holds, same};
 use crate::opened::{blank, close, hand_back, next, open, pin, rect};
+use clearance::Queried;
 use map_core::Setting;
 use metric::{Cell, City, Edge, Near, Spot};
 use session::{Blank, Session, Store};

@@ -6,6 +6,7 @@ ghost use Rattle.std.specs.Prelude.{◌≡◌, ◌<◌};
 use crate::compare::{holds, same};
 use crate::opened::{blank, close, hand_back, next, open, pin, rect};
 use bits::Bitmap;
+use clearance::Queried;
 use map_core::{Command, Setting};
 use metric::{Cell, Chess, Edge, Refusal};
 use session::{Blank, Session, Store};

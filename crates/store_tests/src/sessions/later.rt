@@ -6,6 +6,7 @@ ghost use Rattle.std.specs.Prelude.{◌≡◌};
 use crate::compare::{holds, same};
 use crate::opened::{Spotted, blank, close, hand_back, next, open, pin, rect, spotted};
 use crate::sessions::fresh::{ask, cells};
+use clearance::Queried;
 use map_core::Setting;
 use metric::{Cell, City, Edge, Euclid2, MetricKind, Near, Spot};
 use proto::{Bordered, Text, answer_of, reply_text};

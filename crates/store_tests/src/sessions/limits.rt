@@ -6,6 +6,7 @@ ghost use Rattle.std.specs.Prelude.{◌≡◌};
 use crate::compare::same;
 use crate::opened::{blank, close, hand_back, next, open, pin, rect};
 use bits::Bitmap;
+use clearance::Queried;
 use map_core::{Reply, Setting};
 use metric::{Cell, Chess, City, Edge, Euclid2, Near, Spot};
 use session::{Blank, Pinned};

@@ -6,6 +6,7 @@ ghost use Rattle.std.specs.Prelude.{◌≡◌};
 use crate::compare::{holds, same};
 use crate::opened::{Spotted, blank, close, hand_back, next, open, pin};
 use crate::sessions::fresh::{SETTING, ask};
+use clearance::Queried;
 use metric::{Cell, City};
 use proto::{Line, parse_line};
 use session::{Blank, Session};

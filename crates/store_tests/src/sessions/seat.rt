@@ -4,6 +4,7 @@ ghost use Rattle.std.specs.Prelude.{◌≡◌};
 
 use crate::opened::{pin, rect, spotted};
 use crate::sessions::acts::{Act, Told, answered};
+use clearance::Queried;
 use map_core::Command;
 use metric::{Cell, Euclid2};
 use session::{Pinned, Session, Store};

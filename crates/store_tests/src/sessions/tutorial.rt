@@ -3,7 +3,8 @@
 ghost use Rattle.std.specs.Prelude.{◌≡◌};
 
 use bits::Bitmap;
-use map_core::{Reply, Setting};
+use clearance::Queried;
+use events::{Reply, Setting};
 use metric::{Cell, Edge, Euclid2, Near, Rect, Refusal};
 use session::{Blank, Session, Store};
 use shelf::StoreName;

@@ -4,7 +4,7 @@ use Rattle.std.proofs.Common.{◌++◌, ◌∷◌, [], OnOk, OnErr}
 use Rattle.metric.specs.Refusal.{image_text}
 use Rattle.metric.specs.Stream.{Appends, AppendsFront}
 use Rattle.pbm.specs.Windows.{HasFault}
-use Rattle.engines.proofs.Sources.{IsFaultOf-fault}
+use Rattle.engines.proofs.Faults.{IsFaultOf-fault}
 use Rattle.engines.proofs.Answering.{answered, begun, fault_whole, fault_in_part, memory_whole}
 use Rattle.engines.proofs.Answering.{memory_in_part}
 use Rattle.engines.proofs.dist.dist_run.Goals as goal

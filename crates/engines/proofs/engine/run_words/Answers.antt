@@ -1,5 +1,5 @@
 -- What words ask for is done or begun as they say it.
-use Rattle.engines.proofs.CommandLines.{said_so}
+use Rattle.command_line.proofs.CommandLines.{said_so}
 use Rattle.engines.proofs.engine.run_words.Goals as goal
 
 pub returns-clause-done : goal.returns-clause-done

@@ -1,6 +1,6 @@
 -- The upper bands and the lower ones are all bands.
 use Rattle.std.proofs.Common.{◌≡◌, ◌+◌, ◌-◌, ◌*◌, ◌/◌, length, arith, rules}
-use Rattle.field.specs.Bands.{row_behind}
+use Rattle.metric.specs.Workers.{row_behind}
 use Rattle.field.proofs.BandLemmas.{AreNears-join, on_ok_both, room_above, room_below}
 use Rattle.field.proofs.BandLemmas.{row_behind-grows}
 use Rattle.field.proofs.bands.+bands.Goals as goal

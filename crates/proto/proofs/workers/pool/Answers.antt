@@ -1,7 +1,7 @@
 -- Each session that is returned is the one of its place, led on by fresh streams, since seats keep
 -- their order.
 use Rattle.std.proofs.Common.{◌≡◌, ◌∙◌, ap, drop, length}
-use Rattle.map_core.proofs.steps.DrawWorld.{written_back}
+use Rattle.events.proofs.steps.Events.{written_back}
 use Rattle.proto.proofs.Pooling.{AreRelated-seats}
 use Rattle.proto.proofs.workers.pool.Goals as goal
 

@@ -1,12 +1,12 @@
 -- The one step of a checkpoint is safe: NOW has room for it, and what is kept tells the log with
 -- its entry.
 use Rattle.map_core.proofs.Names.{ap, arith, refl, Ledger}
-use Rattle.map_core.proofs.steps.CommitWorld.{last_known, last_does, consistent_commit}
-use Rattle.map_core.proofs.steps.CommitWorld.{place_of_last, reply_checkpoint}
-use Rattle.map_core.proofs.logs.JudgeLemmas.{balanced_ledger}
-use Rattle.map_core.proofs.logs.LedgerLemmas.{ledger_checkpoint, now_of_ledger}
-use Rattle.map_core.proofs.logs.SummaryDraw.{summary_checkpoint}
-use Rattle.map_core.proofs.steps.WorldLemmas.{safe_done, now_word_there, now_room_same}
+use Rattle.map_core.proofs.CommitWorld.{last_known, last_does, consistent_commit, place_of_last}
+use Rattle.map_core.proofs.CommitWorld.{reply_checkpoint}
+use Rattle.map_core.proofs.JudgeLemmas.{balanced_ledger}
+use Rattle.events.proofs.logs.LedgerLemmas.{ledger_checkpoint, now_of_ledger}
+use Rattle.events.proofs.logs.SummaryDraw.{summary_checkpoint}
+use Rattle.map_core.proofs.WorldLemmas.{safe_done, now_word_there, now_room_same}
 use Rattle.map_core.proofs.world.World.checkpoint.Goals as goal
 
 pub enter_checkpoint-reply-requires : goal.enter_checkpoint-reply-requires

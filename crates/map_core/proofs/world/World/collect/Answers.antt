@@ -1,14 +1,14 @@
 -- The last step of a collect is safe: what is kept after the blocks went back tells the log with
 -- its entry.
 use Rattle.map_core.proofs.Names.{ap, ◌≡◌, ◌-◌, arith, refl, length, Ledger}
-use Rattle.map_core.proofs.steps.CommitWorld.{kept_collect, reply_collect, room_retired, stay_few}
-use Rattle.map_core.proofs.steps.CommitWorld.{choice_collect, last_known, last_does, place_of_last}
-use Rattle.map_core.proofs.steps.CommitWorld.{consistent_commit}
-use Rattle.map_core.proofs.logs.JudgeLemmas.{balanced_ledger}
-use Rattle.map_core.proofs.logs.LedgerLemmas.{ledger_collect, now_of_ledger}
-use Rattle.map_core.proofs.steps.StepLemmas.{tidy_of}
-use Rattle.map_core.proofs.logs.SummaryCollect.{summary_collect, freed_collect}
-use Rattle.map_core.proofs.steps.WorldLemmas.{safe_done, now_word_there, now_room_same}
+use Rattle.map_core.proofs.CommitWorld.{kept_collect, reply_collect, room_retired, stay_few}
+use Rattle.map_core.proofs.CommitWorld.{choice_collect, last_known, last_does, place_of_last}
+use Rattle.map_core.proofs.CommitWorld.{consistent_commit}
+use Rattle.map_core.proofs.JudgeLemmas.{balanced_ledger}
+use Rattle.events.proofs.logs.LedgerLemmas.{ledger_collect, now_of_ledger}
+use Rattle.events.proofs.steps.StepLemmas.{tidy_of}
+use Rattle.events.proofs.logs.SummaryCollect.{summary_collect, freed_collect}
+use Rattle.map_core.proofs.WorldLemmas.{safe_done, now_word_there, now_room_same}
 use Rattle.map_core.proofs.world.World.collect.Goals as goal
 
 pub give_back_retired-requires : goal.give_back_retired-requires

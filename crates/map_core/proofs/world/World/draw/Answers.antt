@@ -1,17 +1,17 @@
 -- The step of a paint or a stamp is safe: the command finds its blocks, and what is kept tells the
 -- log with its entry.
 use Rattle.map_core.proofs.Names.{◌≡◌, arith, refl, ap, subst, sym, ◌∙◌, length, Cells, IsBitmap}
-use Rattle.map_core.proofs.Names.{Ledger, drawn}
-use Rattle.map_core.proofs.steps.CommitWorld.{last_does, consistent_commit, place_in_hand}
-use Rattle.map_core.proofs.steps.DrawWorld.{drawing_known, hand_inside, reply_draw, count_draw}
-use Rattle.map_core.proofs.steps.DrawWorld.{written_back}
-use Rattle.map_core.proofs.logs.JudgeLemmas.{balanced_ledger, draft_of_map, same_width, same_height}
-use Rattle.map_core.proofs.logs.JudgeLemmas.{drawn_of_map, own_long}
-use Rattle.map_core.proofs.logs.LedgerLemmas.{ledger_draw, now_of_ledger}
-use Rattle.map_core.proofs.steps.StepLemmas.{tidy_of}
-use Rattle.map_core.proofs.logs.SummaryDraw.{summary_draw}
-use Rattle.map_core.proofs.invariants.TidyDraft.{tile_count-of_map}
-use Rattle.map_core.proofs.steps.WorldLemmas.{safe_done, now_word_there, now_room}
+use Rattle.map_core.proofs.Names.{drawn, Ledger}
+use Rattle.map_core.proofs.CommitWorld.{last_does, consistent_commit, place_in_hand}
+use Rattle.events.proofs.steps.Events.{reply_draw, written_back}
+use Rattle.map_core.proofs.DrawWorld.{drawing_known, hand_inside, count_draw}
+use Rattle.map_core.proofs.JudgeLemmas.{balanced_ledger, draft_of_map, same_width, same_height}
+use Rattle.map_core.proofs.JudgeLemmas.{drawn_of_map, own_long}
+use Rattle.events.proofs.logs.LedgerLemmas.{ledger_draw, now_of_ledger}
+use Rattle.events.proofs.steps.StepLemmas.{tidy_of}
+use Rattle.events.proofs.logs.SummaryDraw.{summary_draw}
+use Rattle.events.proofs.invariants.TidyDraft.{tile_count-of_map}
+use Rattle.map_core.proofs.WorldLemmas.{safe_done, now_word_there, now_room}
 use Rattle.map_core.proofs.world.World.draw.Goals as goal
 
 pub copy_from-requires-clause-width : goal.copy_from-requires-clause-width

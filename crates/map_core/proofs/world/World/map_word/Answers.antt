@@ -1,9 +1,9 @@
 -- The word of the next version's directory is the draft's own block, or newest's where the draft
 -- has none.
 use Rattle.std.proofs.Common.{arith, refl, sym, ◌∙◌}
-use Rattle.map_core.proofs.steps.ReaderWorld.{word_read}
-use Rattle.map_core.proofs.steps.KeepWorld.{consistent_of, newest_kept, own_within_tiles, next_at}
-use Rattle.map_core.proofs.steps.KeepWorld.{word_own, word_newest}
+use Rattle.map_core.proofs.ReaderWorld.{word_read}
+use Rattle.map_core.proofs.KeepWorld.{consistent_of, newest_kept, own_within_tiles, next_at}
+use Rattle.map_core.proofs.KeepWorld.{word_own, word_newest}
 use Rattle.map_core.proofs.world.World.map_word.Goals as goal
 
 pub index-requires : goal.index-requires

@@ -1,7 +1,7 @@
 -- The rows come first, then the directory.
 use Rattle.map_core.proofs.Names.{arith, ap, ◌∙◌, length, own_list}
-use Rattle.map_core.proofs.steps.OrderWorld.{own_few, publish_rest}
-use Rattle.map_core.proofs.steps.KeepWorld.{consistent_of}
+use Rattle.map_core.proofs.OrderWorld.{own_few, publish_rest}
+use Rattle.map_core.proofs.KeepWorld.{consistent_of}
 use Rattle.map_core.proofs.world.World.next_word.Goals as goal
 
 pub overflow_mul-rows : goal.overflow_mul-rows

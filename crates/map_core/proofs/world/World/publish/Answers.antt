@@ -1,18 +1,18 @@
 -- The last step of a publish is safe: the directory is stored, and what is kept tells the log with
 -- its entry.
 use Rattle.map_core.proofs.Names.{arith, refl, ap, sym, ◌∙◌, length, Publish, Ledger}
-use Rattle.map_core.proofs.steps.CommitWorld.{last_known, last_does, consistent_commit, newest_part}
-use Rattle.map_core.proofs.steps.CommitWorld.{published_of_map, place_of_last, version_in_hand}
-use Rattle.map_core.proofs.steps.CommitWorld.{reply_publish, room_replaced, came_back, came_and_own}
-use Rattle.map_core.proofs.steps.CommitWorld.{own_few_places, directory_long, part_within, part_is}
-use Rattle.map_core.proofs.steps.CommitWorld.{part_small}
-use Rattle.map_core.proofs.accounts.GiveBack.{cleared_back}
-use Rattle.map_core.proofs.logs.JudgeLemmas.{draft_of_map, balanced_ledger}
-use Rattle.map_core.proofs.logs.LedgerLemmas.{ledger_publish, now_of_ledger}
-use Rattle.map_core.proofs.steps.StepLemmas.{tidy_of}
-use Rattle.map_core.proofs.logs.SummaryPublish.{summary_publish, newest_published, slots_published}
-use Rattle.map_core.proofs.steps.WorldLemmas.{safe_done, next_room, accepted_in, now_room_published}
-use Rattle.map_core.proofs.steps.KeepWorld.{consistent_of, newest_few, newest_kept}
+use Rattle.map_core.proofs.CommitWorld.{last_known, last_does, consistent_commit, newest_part}
+use Rattle.map_core.proofs.CommitWorld.{published_of_map, place_of_last, version_in_hand}
+use Rattle.map_core.proofs.CommitWorld.{reply_publish, room_replaced, came_back, came_and_own}
+use Rattle.map_core.proofs.CommitWorld.{own_few_places, directory_long, part_within, part_is}
+use Rattle.map_core.proofs.CommitWorld.{part_small}
+use Rattle.events.proofs.accounts.GiveBack.{cleared_back}
+use Rattle.map_core.proofs.JudgeLemmas.{draft_of_map, balanced_ledger}
+use Rattle.events.proofs.logs.LedgerLemmas.{ledger_publish, now_of_ledger}
+use Rattle.events.proofs.steps.StepLemmas.{tidy_of}
+use Rattle.events.proofs.logs.SummaryPublish.{summary_publish, newest_published, slots_published}
+use Rattle.map_core.proofs.WorldLemmas.{safe_done, next_room, accepted_in, now_room_published}
+use Rattle.map_core.proofs.KeepWorld.{consistent_of, newest_few, newest_kept}
 use Rattle.map_core.proofs.world.World.publish.Goals as goal
 
 pub map_at-first-requires-clause-kept : goal.map_at-first-requires-clause-kept

@@ -1,13 +1,13 @@
 -- The last step of a revert is safe: its blocks go back, and what is kept tells the log with its
 -- entry.
 use Rattle.map_core.proofs.Names.{ap, arith, refl, sym, ◌∙◌, Ledger}
-use Rattle.map_core.proofs.steps.CommitWorld.{last_known, last_does, consistent_commit, room_back}
-use Rattle.map_core.proofs.steps.CommitWorld.{published_of_map, place_of_last, reply_revert}
-use Rattle.map_core.proofs.accounts.GiveBack.{cleared_back}
-use Rattle.map_core.proofs.logs.JudgeLemmas.{draft_of_map, balanced_ledger}
-use Rattle.map_core.proofs.logs.LedgerLemmas.{ledger_revert, now_of_ledger}
-use Rattle.map_core.proofs.logs.SummaryDraw.{summary_revert}
-use Rattle.map_core.proofs.steps.WorldLemmas.{safe_done, now_word_there, now_room}
+use Rattle.map_core.proofs.CommitWorld.{last_known, last_does, consistent_commit, room_back}
+use Rattle.map_core.proofs.CommitWorld.{published_of_map, place_of_last, reply_revert}
+use Rattle.events.proofs.accounts.GiveBack.{cleared_back}
+use Rattle.map_core.proofs.JudgeLemmas.{draft_of_map, balanced_ledger}
+use Rattle.events.proofs.logs.LedgerLemmas.{ledger_revert, now_of_ledger}
+use Rattle.events.proofs.logs.SummaryDraw.{summary_revert}
+use Rattle.map_core.proofs.WorldLemmas.{safe_done, now_word_there, now_room}
 use Rattle.map_core.proofs.world.World.revert.Goals as goal
 
 pub copy_from-requires-clause-width : goal.copy_from-requires-clause-width

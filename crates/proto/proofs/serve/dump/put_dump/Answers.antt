@@ -2,7 +2,7 @@
 use Rattle.std.proofs.lemmas.Result.{err_from_is_err_and}
 use Rattle.pbm.specs.declared.header.Form.TheVariants.{Plain}
 use Rattle.pbm.specs.Writing.{front_text, plain_text}
-use Rattle.proto.specs.Replies.{reply_line}
+use Rattle.lines.specs.Replies.{reply_line}
 use Rattle.proto.proofs.Dumping.{rows_text}
 use Rattle.proto.proofs.Wires.{failed_first, failed_on, put_on}
 use Rattle.proto.proofs.serve.dump.put_dump.Goals as goal

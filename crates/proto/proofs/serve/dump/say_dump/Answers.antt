@@ -1,8 +1,8 @@
 -- The image was counted and written, or there was no memory for a piece.
 use Rattle.std.proofs.Common.{[], refl, ap}
 use Rattle.pbm.specs.Writing.{plain_text}
-use Rattle.proto.specs.declared.answer.Answer.TheVariants as answers
-use Rattle.proto.specs.Replies.{reply_line}
+use Rattle.lines.specs.declared.answer.Answer.TheVariants as answers
+use Rattle.lines.specs.Replies.{reply_line}
 use Rattle.proto.proofs.Wires.{put_alone}
 use Rattle.proto.proofs.serve.dump.say_dump.Goals as goal
 

@@ -1,5 +1,5 @@
 -- A text that was written and couldn't be passed on counts as a failed write.
-use Rattle.proto.specs.Replies.{reply_line}
+use Rattle.lines.specs.Replies.{reply_line}
 use Rattle.proto.proofs.Wires.{put_last}
 use Rattle.proto.proofs.serve.say.say_now.Goals as goal
 

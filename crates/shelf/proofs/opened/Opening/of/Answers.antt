@@ -1,6 +1,6 @@
 -- The rule holds of the table as it is made, and the seats are at it.
 use Rattle.shelf.proofs.Names.{rules, Base}
-use Rattle.map_core.proofs.steps.OpenWorld.{fits_ready}
+use Rattle.events.proofs.steps.OpenWorld.{fits_ready}
 use Rattle.shelf.proofs.steps.EndSteps.{is_of_new}
 use Rattle.shelf.proofs.steps.OpeningSteps.{rule_at_first}
 use Rattle.shelf.proofs.opened.Opening.of.Goals as goal

@@ -1,0 +1,4 @@
+mod CutLines
+mod Gathering
+mod Requests
+mod Talks

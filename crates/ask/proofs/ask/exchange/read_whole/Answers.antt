@@ -1,0 +1,37 @@
+-- What is read is a line and then the bytes that it counts, each gathered after what the buffer
+-- held.
+use Rattle.std.proofs.Common.{◌∙◌}
+use Rattle.std.proofs.lemmas.Result.{err_from_is_err_and}
+use Rattle.ask.specs.Talking.{bytes_promised}
+use Rattle.ask.proofs.CutLines.{TakesAtMost-line, counted_cut}
+use Rattle.streams.proofs.Gathering.{taken_behind}
+use Rattle.ask.proofs.Requests.{counted_read, gathered_both}
+use Rattle.ask.proofs.ask.exchange.read_whole.Goals as goal
+
+pub returns-clause-all : goal.returns-clause-all
+returns-clause-all g c =
+    gathered_both _ _ _ _ _ _ c.read_count.result c.in_ok-read_line.ensures.all
+    c.read_count.ensures.all
+
+pub returns-clause-taken : goal.returns-clause-taken
+returns-clause-taken g c =
+    taken_behind _ _ _ _ _ c.in_ok-read_line.ensures.all c.read_count.ensures.taken
+
+pub returns-clause-reply : goal.returns-clause-reply
+returns-clause-reply g c = λ empty.
+    counted_read _ _ _ _ c.without_end.result.now _ c.read_count.result empty
+    c.in_ok-read_line.ensures.line
+    (λ front is. c.without_end.ensures front (c.as_slice.ensures.value ∙ is))
+    c.promised-count.ensures c.read_count.ensures.count
+
+pub returns-in_err-read_line-clause-part : goal.returns-in_err-read_line-clause-part
+returns-in_err-read_line-clause-part g c =
+    λ empty. let p = err_from_is_err_and c.from_residual.result c.from_residual.ensures.1 in
+    rw p.1 (TakesAtMost-line (bytes_promised c.args.dump) _ _ c.in_err-read_line.ensures.part)
+
+pub returns-clause-part : goal.returns-clause-part
+returns-clause-part g c = λ empty.
+    counted_cut (bytes_promised c.args.dump) _ _ _ _ _ c.without_end.result.now _
+    c.read_count.result empty c.in_ok-read_line.ensures.line c.in_ok-read_line.ensures.all
+    (λ front is. c.without_end.ensures front (c.as_slice.ensures.value ∙ is))
+    c.promised-count.ensures c.read_count.ensures.part

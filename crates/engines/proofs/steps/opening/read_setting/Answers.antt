@@ -1,7 +1,0 @@
--- Where no number is left for the blocks there is no setting.
-use Rattle.engines.proofs.OpeningLemmas.{setting_of-none}
-use Rattle.engines.proofs.steps.opening.read_setting.Goals as goal
-
-pub returns-in_err-blocks : goal.returns-in_err-blocks
-returns-in_err-blocks c =
-    rw c.from_residual.ensures (setting_of-none _ c.in_err-blocks.ensures.numbers)

@@ -1,6 +1,0 @@
--- This many steps were done, of which the last has this answer.
-use Rattle.engines.specs.steps.Steps.{Keeps}
-use Rattle.engines.proofs.steps.run.keep.Given as goal
-
-abbrev pub invariant-steps : goal.invariant-steps
-invariant-steps l = Keeps l.counter l.fn.world l.answer l.world

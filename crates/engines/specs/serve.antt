@@ -1,2 +1,0 @@
--- What the command `serve` writes.
-pub mod Serving

@@ -1,0 +1,6 @@
+pub mod accounts
+pub mod invariants
+pub mod logs
+pub mod shared_words
+pub mod steps
+mod Names

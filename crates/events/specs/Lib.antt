@@ -1,0 +1,15 @@
+pub mod Setting
+pub mod Drawing
+pub mod Kept
+pub mod Story
+pub mod Legal
+pub mod Blocks
+pub mod Words
+pub mod Views
+pub mod Steps
+pub mod Safe
+pub mod Runs
+pub mod Tidy
+pub mod Sound
+pub mod Ledger
+pub mod Summary

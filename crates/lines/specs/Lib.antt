@@ -1,0 +1,7 @@
+pub mod Corners
+pub mod Asked
+pub mod Queries
+pub mod Replies
+pub mod Said
+pub mod Told
+pub mod Hex

@@ -1,0 +1,117 @@
+//! Queries, and what they ask.
+
+ghost use Rattle.std.specs.Prelude.{◌≡◌, ◌≢◌, option_map, option_and_then, IfOk, IfErr, IsOkAnd};
+ghost use Rattle.std.specs.Prelude.{Ok, Err};
+ghost use Rattle.metric.specs.declared.refusal.Refusal.{Refusal};
+ghost use Rattle.lines.specs.Asked.{arguments_asked, asked_by, query_asked, rect_of, HasPoints};
+ghost use Rattle.words.specs.Numbers.{points, pair};
+ghost use Rattle.words.specs.Words.{words_left};
+
+use crate::arguments::{read_metric, read_rect};
+use crate::verb::QueryKind;
+use metric::{Cell, MetricKind, Rect, Refusal};
+use std::alloc::Global;
+use words::{next_number, read_path, read_point};
+
+/// A query on a bitmap. A coordinate over 16 bits reads as 65535, which is outside every map too.
+#[derive(Debug, Drop)]
+pub enum Query {
+    /// The distance of a cell.
+    At {
+        metric: MetricKind,
+        cell: Cell,
+    },
+    /// The least distance in a rectangle.
+    Rect {
+        metric: MetricKind,
+        rect: Rect,
+    },
+    /// The least distance along a path.
+    Path {
+        metric: MetricKind,
+        points: Vec<Cell>,
+    },
+    /// Whether each cell of a path has a distance of at least `d`.
+    ClearOf {
+        metric: MetricKind,
+        d: u32,
+        points: Vec<Cell>,
+    },
+}
+
+impl Query {
+    ghost use Rattle.lines.specs.Queries.{metric_asked};
+
+    /// The metric that the query asks for.
+    pub fn metric(&self) -> MetricKind
+        ensures { result ≡ metric_asked (asked_by self.now) }
+    {
+        match self {
+            Query::At { metric, .. }
+            | Query::Rect { metric, .. }
+            | Query::Path { metric, .. }
+            | Query::ClearOf { metric, .. } => *metric,
+        }
+    }
+}
+
+/// The query of this name, with the rest of the line as its arguments, a metric first.
+///
+/// Refuses, in this order: arguments of the wrong number or form; a path of no points or over 1000;
+/// and out of memory, which only the points of a path can meet.
+pub fn read_query(alloc: Global, kind: QueryKind, rest: Option<&[u8]>) -> Result<Query, Refusal>
+    ensures query { IfOk result (λ query. arguments_asked kind (words_left rest.entry)
+        ≡ Ok (asked_by query)) }
+    ensures refusal { IfErr result (λ refusal. refusal ≢ Refusal.Memory
+        → arguments_asked kind (words_left rest.entry) ≡ Err refusal) }
+    ensures memory { result ≡ Err Refusal.Memory
+        → IsOkAnd (arguments_asked kind (words_left rest.entry)) HasPoints }
+{
+    let Some((metric, rest)) = read_metric(rest) else {
+        return Err(Refusal::BadArguments);
+    };
+    query_by(alloc, kind, metric, rest)
+}
+
+/// The query of the rectangle in the rest of a line.
+fn rect_query(metric: MetricKind, rest: Option<&[u8]>) -> Option<Query>
+    ensures { option_map asked_by result ≡ option_and_then (λ corners. rect_of metric corners)
+        (pair (points (words_left rest.entry))) }
+{
+    let rect = read_rect(rest)?;
+    Some(Query::Rect { metric, rect })
+}
+
+/// The query in the rest of a line after the metric.
+fn query_by(
+    alloc: Global,
+    kind: QueryKind,
+    metric: MetricKind,
+    rest: Option<&[u8]>,
+) -> Result<Query, Refusal>
+    ensures query { IfOk result (λ query. query_asked kind metric (words_left rest.entry)
+        ≡ Ok (asked_by query)) }
+    ensures refusal { IfErr result (λ refusal. refusal ≢ Refusal.Memory
+        → query_asked kind metric (words_left rest.entry) ≡ Err refusal) }
+    ensures memory { result ≡ Err Refusal.Memory
+        → IsOkAnd (query_asked kind metric (words_left rest.entry)) HasPoints }
+{
+    match kind {
+        QueryKind::At => match read_point(rest) {
+            Some(cell) => Ok(Query::At { metric, cell }),
+            None => Err(Refusal::BadArguments),
+        },
+        QueryKind::Rect => rect_query(metric, rest).ok_or(Refusal::BadArguments),
+        QueryKind::Path => {
+            let points = read_path(alloc, rest)?;
+            Ok(Query::Path { metric, points })
+        }
+        QueryKind::ClearOf => {
+            let Some((d, rest)) = next_number(rest) else {
+                return Err(Refusal::BadArguments);
+            };
+            let points = read_path(alloc, rest)?;
+            Ok(Query::ClearOf { metric, d, points })
+        }
+    }
+}

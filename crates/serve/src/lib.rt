@@ -1,0 +1,7 @@
+//! The command `serve`, and how it and `ask` reach the network.
+#![tactic(auto)]
+
+pub mod net;
+mod serve;
+
+pub use serve::{Listening, serve_run};

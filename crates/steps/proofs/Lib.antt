@@ -1,0 +1,5 @@
+mod Hearing
+mod Keeping
+mod OpeningLemmas
+mod StepAnswering
+mod Telling

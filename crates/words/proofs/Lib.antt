@@ -1,0 +1,5 @@
+mod Fronts
+mod LineSplitting
+mod Numbering
+mod Pointing
+pub mod Splitting

@@ -1,0 +1,85 @@
+//! The number at the front of the rest of a line.
+
+ghost use Rattle.std.specs.Prelude.{◌≡◌, ◌<◌, ◌≤◌, ◌^◌, length, take, true, Some, None, IfSome};
+ghost use Rattle.std.specs.Prelude.{MatchOption};
+ghost use Rattle.std.specs.List.{list_all};
+ghost use Rattle.metric.specs.Digits.{is_digit, value_from};
+ghost use Rattle.words.specs.Numbers.{first_of};
+ghost use Rattle.words.specs.Numbers.{number};
+ghost use Rattle.words.specs.Words.{bytes_left, words, words_left};
+
+use crate::number::read_number;
+use crate::split::next_word;
+
+/// The most digits that are read as they come. Any number of that many fits 32 bits.
+const FEW_DIGITS: usize = 9;
+
+/// The value of the digits at the front of the bytes, and how many they are, at most nine.
+#[inline(always)]
+fn front_digits(bytes: &[u8]) -> (u32, usize)
+    ensures few { result.1 ≤ 9 }
+    ensures within { result.1 ≤ length bytes.now }
+    ensures digits { list_all is_digit (take result.1 bytes.now) ≡ true }
+    ensures value { result.0 ≡ value_from 0 (take result.1 bytes.now) }
+    ensures small { result.0 < 2 ^ 32 }
+{
+    let (mut value, mut count) = (0u32, 0);
+    'digits: while count < FEW_DIGITS && count < bytes.len() {
+        let digit = bytes[count];
+        if !digit.is_ascii_digit() {
+            return (value, count);
+        }
+        value = 10 * value + u32::from(digit - b'0');
+        count += 1;
+    }
+    (value, count)
+}
+
+/// The number that up to nine digits at the front of a line spell, up to its first blank or its
+/// end, and the rest after it.
+#[inline(always)]
+fn short_number(bytes: &[u8]) -> Option<(u32, Option<&[u8]>)>
+    ensures first { IfSome result (λ found. first_of number (words bytes.now)
+        ≡ Some (found.0, words_left found.1)) }
+    ensures fewer { IfSome result (λ found. bytes_left found.1 ≤ length bytes.now) }
+{
+    let (value, count) = front_digits(bytes);
+    if count == 0 {
+        return None;
+    }
+    if count == bytes.len() {
+        return Some((value, None));
+    }
+    if bytes[count] != b' ' {
+        return None;
+    }
+    Some((value, Some(&bytes[count + 1..])))
+}
+
+/// The number that the next word spells, and the rest after it, by the word alone.
+fn word_number(rest: Option<&[u8]>) -> Option<(u32, Option<&[u8]>)>
+    ensures first { MatchOption result (first_of number (words_left rest.entry) ≡ None)
+        (λ found. first_of number (words_left rest.entry) ≡ Some (found.0, words_left found.1)) }
+    ensures fewer { IfSome result (λ found. bytes_left found.1 < bytes_left rest.entry) }
+    ensures small { bytes_left rest.entry ≤ 2 ^ 64 }
+{
+    let (word, rest) = next_word(rest)?;
+    let number = read_number(word)?;
+    Some((number, rest))
+}
+
+/// The number that the next word spells, and the rest after it: in one pass over its digits if they
+/// are few.
+pub fn front_number(rest: Option<&[u8]>) -> Option<(u32, Option<&[u8]>)>
+    ensures first { MatchOption result (first_of number (words_left rest.entry) ≡ None)
+        (λ found. first_of number (words_left rest.entry) ≡ Some (found.0, words_left found.1)) }
+    ensures fewer { IfSome result (λ found. bytes_left found.1 < bytes_left rest.entry) }
+    ensures small { bytes_left rest.entry ≤ 2 ^ 64 }
+{
+    if let Some(bytes) = rest {
+        if let Some(found) = short_number(bytes) {
+            return Some(found);
+        }
+    }
+    word_number(rest)
+}
