@@ -95,6 +95,33 @@ class Below(unittest.TestCase):
         jobs = [line.split(":")[0] for line in self.noted()]
         self.assertEqual(jobs, ["low lib --jobs 3", "short lib --jobs 1"])
 
+    def test_a_very_large_one_gets_two_jobs(self):
+        """Also where only one processor is left to it. It begins first, by its source."""
+        very_large = self.top / "crates/long"
+        (very_large / "proofs").mkdir()
+        (very_large / "proofs/Lib.antt").write_text("\n" * 9000)
+        self.assertEqual(self.prove("--at-once", "2")[0], 0)
+        jobs = [line.split(":")[0] for line in self.noted()]
+        self.assertEqual(jobs[:2], ["low lib --jobs 2", "long lib --jobs 2"])
+
+    def test_the_longest_way_comes_first(self):
+        """By lines of source, and what each crate on the way takes before them: proofs don't count,
+        and three short crates are longer than a crate of 1,000 lines."""
+        lines = {"low": 1, "long": 1000, "short": 1, "next": 1, "last": 1, "top": 1}
+        uses = "low: std\nlong: low\nshort: low\nnext: short\nlast: next\ntop: long last\n"
+        (self.top / "crates.txt").write_text(uses)
+        for name, count in lines.items():
+            folder = self.top / "crates" / name
+            (folder / "src").mkdir(parents=True, exist_ok=True)
+            (folder / "src/lib.rt").write_text("\n" * count)
+            (folder / "says").write_text("crate\nlogic=proved functions=1\n")
+            (folder / "seconds").write_text("0")
+        (self.top / "crates/long/proofs").mkdir()
+        (self.top / "crates/long/proofs/Lib.antt").write_text("\n" * 5000)
+        self.assertEqual(self.prove("--at-once", "1")[0], 0)
+        order = [line.split()[0] for line in self.noted()]
+        self.assertEqual(order, ["low", "short", "long", "next", "last"])
+
     def test_two_are_at_work_at_once(self):
         for name in ("long", "short"):
             (self.top / "crates" / name / "seconds").write_text("5")
