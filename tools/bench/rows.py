@@ -79,7 +79,8 @@ def program_text(root):
         text = without_batches(text)
     if not (field / "src" / "obstacle_table.rt").exists():
         text = without_table(text)
-    return text if (field / "src" / "workers.rt").exists() else alone(text)
+    homes = [root / "crates" / crate / "src" / "workers.rt" for crate in ("field", "metric")]
+    return text if any(home.exists() for home in homes) else alone(text)
 
 
 def figures(program, source, edge="open"):
