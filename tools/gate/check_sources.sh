@@ -9,7 +9,7 @@ cd "$(dirname "$0")/../.." || exit 1
 export PYTHONDONTWRITEBYTECODE=1
 for test in check_memory prove_below try_edits; do
     echo "tools/gate/test_$test.py"
-    timeout 120 python3 "tools/gate/test_$test.py" || exit 1
+    timeout 60 python3 "tools/gate/test_$test.py" || exit 1
 done
 found=$(find crates -name out -prune -o -path '*_tests' -prune -o -path '*/src/*.rt' -print | xargs grep -nwE 'ManuallyDrop|forget|leak' | grep -vE '^[^:]*:[0-9]+: *//')
 if [ -n "$found" ]; then

@@ -42,15 +42,20 @@ class Below(unittest.TestCase):
         lines = [f"{name}: {uses}\n" for name, (uses, _) in CRATES.items()]
         (self.top / "crates.txt").write_text("# Each crate: what it stands on.\n" + "".join(lines))
         for name, (_, count) in CRATES.items():
-            folder = self.top / "crates" / name
-            (folder / "src").mkdir(parents=True)
-            (folder / "src/lib.rt").write_text("\n" * count)
-            (folder / "says").write_text("crate\nlogic=proved functions=1\n")
-            (folder / "seconds").write_text("1")
+            self.make(name, count)
         (self.top / "rt").write_text(RT)
         (self.top / "rt").chmod(0o755)
         self.notes = self.top / "notes"
         self.notes.touch()
+
+    def make(self, name, count, proofs=0, seconds=1):
+        """A crate with this many lines of source and of proofs, which takes these seconds."""
+        folder = self.top / "crates" / name
+        for part, lines in (("src/lib.rt", count), ("proofs/Lib.antt", proofs)):
+            (folder / part).parent.mkdir(parents=True, exist_ok=True)
+            (folder / part).write_text("\n" * lines)
+        (folder / "says").write_text("crate\nlogic=proved functions=1\n")
+        (folder / "seconds").write_text(str(seconds))
 
     def start(self, *words):
         path = f"{self.top}:{os.environ['PATH']}"
@@ -96,13 +101,12 @@ class Below(unittest.TestCase):
         self.assertEqual(jobs, ["low lib --jobs 3", "short lib --jobs 1"])
 
     def test_a_very_large_one_gets_two_jobs(self):
-        """Also where only one processor is left to it. It begins first, by its source."""
-        very_large = self.top / "crates/long"
-        (very_large / "proofs").mkdir()
-        (very_large / "proofs/Lib.antt").write_text("\n" * 9000)
+        """Also where only one processor is left to it."""
+        self.make("long", 3000, proofs=9000, seconds=0)
         self.assertEqual(self.prove("--at-once", "2")[0], 0)
-        jobs = [line.split(":")[0] for line in self.noted()]
-        self.assertEqual(jobs[:2], ["low lib --jobs 2", "long lib --jobs 2"])
+        low, *jobs = [line.split(":")[0] for line in self.noted()]
+        self.assertEqual(low, "low lib --jobs 2")
+        self.assertEqual(sorted(jobs), ["long lib --jobs 2", "short lib --jobs 1"])
 
     def test_the_longest_way_comes_first(self):
         """By lines of source, and what each crate on the way takes before them: proofs don't count,
@@ -111,13 +115,7 @@ class Below(unittest.TestCase):
         uses = "low: std\nlong: low\nshort: low\nnext: short\nlast: next\ntop: long last\n"
         (self.top / "crates.txt").write_text(uses)
         for name, count in lines.items():
-            folder = self.top / "crates" / name
-            (folder / "src").mkdir(parents=True, exist_ok=True)
-            (folder / "src/lib.rt").write_text("\n" * count)
-            (folder / "says").write_text("crate\nlogic=proved functions=1\n")
-            (folder / "seconds").write_text("0")
-        (self.top / "crates/long/proofs").mkdir()
-        (self.top / "crates/long/proofs/Lib.antt").write_text("\n" * 5000)
+            self.make(name, count, proofs=5000 if name == "long" else 0, seconds=0)
         self.assertEqual(self.prove("--at-once", "1")[0], 0)
         order = [line.split()[0] for line in self.noted()]
         self.assertEqual(order, ["low", "short", "long", "next", "last"])
