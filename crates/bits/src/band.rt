@@ -26,7 +26,7 @@ pub fn with_mark(bits: u64, index: u16, word: u64) -> u64
     ensures kept { (k : ℕ) → k < 64 → bit_at bits k ≡ 1 → bit_at result k ≡ 1 }
 {
     if word != 0 {
-        with_bit(bits, u32::from(index), true)
+        with_bit(bits, index, true)
     } else {
         bits
     }
@@ -40,7 +40,7 @@ pub fn renewed(bits: u64, index: u16, word: u64) -> u64
     ensures here { (i : ℕ) → bit_at word i ≡ 1 → bit_at result index ≡ 1 }
     ensures kept { (k : ℕ) → k < 64 → k ≢ index → bit_at bits k ≡ 1 → bit_at result k ≡ 1 }
 {
-    with_bit(bits, u32::from(index), word != 0)
+    with_bit(bits, index, word != 0)
 }
 
 /// The bands after these words are written to row `y`, or to the rows of its band.
@@ -50,7 +50,7 @@ pub fn marked_by(bands: u64, y: u16, words: &[u64]) -> u64
         → bit_at result (y / BAND_ROWS) ≡ 1 }
     ensures kept { (band : ℕ) → band < BAND_ROWS → bit_at bands band ≡ 1 → bit_at result band ≡ 1 }
 {
-    if has_bit(bands, u32::from(y / BAND_ROWS)) {
+    if has_bit(bands, y / BAND_ROWS) {
         return bands;
     }
     marked(bands, y, all_bits(words))

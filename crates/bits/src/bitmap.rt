@@ -100,13 +100,13 @@ impl Bitmap {
     }
 
     /// The word that has the cell, and its bit there.
-    fn place_of(&self, cell: Cell) -> (usize, u32)
+    fn place_of(&self, cell: Cell) -> (usize, u16)
         requires { IsInside self.now cell.x cell.y }
         ensures index { result.0 ≡ cell.y * words_across self.now.width + cell.x / 64 }
         ensures place { result.1 ≡ cell.x % 64 }
     {
         let index = usize::from(cell.y) * self.words_across() + usize::from(cell.x) / WORD_BITS;
-        (index, u32::from(cell.x) % 64)
+        (index, cell.x % WORD_CELLS)
     }
 
     /// The number of words of a row.

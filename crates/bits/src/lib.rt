@@ -20,4 +20,4 @@ pub use laws::{
     words_count_changes,
 };
 pub use tile_bits::TileBits;
-pub use word::without_bit;
+pub use word::{has_bit, low_bits, without_bit};

@@ -77,7 +77,7 @@ impl Bitmap {
         let across = self.tiles_across();
         let (band, index) = (position / across, position % across);
         let all = all_bits(words);
-        if all == 0 && !has_bit(self.marks.of(band), u32::from(index)) {
+        if all == 0 && !has_bit(self.marks.of(band), index) {
             return;
         }
         let cells = self.words.as_mut_slice();

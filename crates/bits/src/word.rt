@@ -6,7 +6,8 @@ ghost use Rattle.std.specs.Int.{bit_at};
 use metric::WORD_BITS;
 
 /// Whether bit `place` is 1.
-pub fn has_bit(word: u64, place: u32) -> bool
+#[inline(always)]
+pub fn has_bit(word: u64, place: u16) -> bool
     requires { place < WORD_BITS }
     ensures { IsTrue result ↔ (bit_at word place ≡ 1) }
 {
@@ -14,7 +15,7 @@ pub fn has_bit(word: u64, place: u32) -> bool
 }
 
 /// Sets bit `place` of the word to this value.
-pub fn with_bit(word: u64, place: u32, bit: bool) -> u64
+pub fn with_bit(word: u64, place: u16, bit: bool) -> u64
     requires { place < WORD_BITS }
     ensures here { bit_at result place ≡ cond bit 1 0 }
     ensures others { (other : ℕ) → other < WORD_BITS → other ≢ place
@@ -36,7 +37,8 @@ pub fn without_bit(word: u64, place: u16) -> u64
     word & !(1 << place)
 }
 
-/// Clears the bits of the word from bit `count` on.
+/// Clears the bits of the word from bit `count` on; none if `count` is 64 or more.
+#[inline(always)]
 pub fn low_bits(word: u64, count: u16) -> u64
     ensures kept { (i : ℕ) → i < count → i < WORD_BITS → bit_at result i ≡ bit_at word i }
     ensures cleared { (i : ℕ) → count ≤ i → i < WORD_BITS → bit_at result i ≡ 0 }

@@ -7,9 +7,10 @@ ghost use Rattle.bits.specs.Cells.{IsBitmap, IsObstacle};
 ghost use Rattle.bits.specs.Words.{words_across};
 ghost use Rattle.clearance.specs.Bands.{AreColumnsFar, AreTilesFar, IsBandFar, IsBandFarIn};
 
-use crate::bit::{bits_before, bits_from, highest_bit, lowest_bit};
+use crate::bit::{bits_from, highest_bit, lowest_bit};
 use crate::rows::Rows;
 use crate::tiles::{after_last_tile, next_tile};
+use bits::low_bits;
 use metric::{BAND_ROWS, LAST_FRAMED, MOST_SIDE, Metric, Rect, WORD_CELLS};
 
 /// Whether all tiles that may have an obstacle are at least `least` from the rectangle, in rows at
@@ -140,7 +141,7 @@ fn after_column<R: Rows>(rows: &mut R, band: u16, tiles: u64, end: u16) -> u16
     }
     let tile = after - 1;
     let first = WORD_CELLS * tile;
-    let word = bits_before(joined_rows(rows, band, tile), end - first);
+    let word = low_bits(joined_rows(rows, band, tile), end - first);
     if word == 0 {
         WORD_CELLS * after_last_tile(tiles, tile)
     } else {

@@ -19,7 +19,7 @@ const MOST_TURNS: u8 = 2;
 
 /// The lines of a strip from one on, and the limit: an obstacle is near a line if its distance is
 /// below it.
-#[derive(Clone, Copy, Debug, PartialEq, Eq)]
+#[derive(Clone, Copy)]
 pub struct Lines {
     pub strip: Strip,
     pub first: u16,

@@ -9,7 +9,7 @@ use crate::tiles::{NO_TILE, after_last_tile, next_tile};
 use metric::{BAND_ROWS, LAST_FRAMED, Metric, Rect, WORD_CELLS};
 
 /// A tile of a band, and a bound for the distances of its cells.
-#[derive(Clone, Copy, Debug, PartialEq, Eq)]
+#[derive(Clone, Copy)]
 pub struct NearTile {
     pub band: u16,
     pub tile: u16,

@@ -9,7 +9,7 @@ use crate::search::lowered;
 use metric::{Metric, Rect};
 
 /// Some of the obstacles: those of one row of the bitmap, or the cells of the frame around it.
-#[derive(Clone, Copy, Debug, PartialEq, Eq)]
+#[derive(Clone, Copy)]
 pub enum Part {
     Row(u16),
     Frame,

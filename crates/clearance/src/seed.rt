@@ -26,7 +26,7 @@ const FEW_ROWS: u16 = 2;
 
 /// A tile that has been searched, its first obstacle if that is below a limit, and whether a search
 /// of other tiles pays.
-#[derive(Clone, Copy, Debug, PartialEq, Eq)]
+#[derive(Clone, Copy)]
 pub struct Seed {
     pub band: u16,
     pub tile: u16,

@@ -7,7 +7,7 @@ use metric::{Cell, Rect};
 
 /// Lines of `across` cells each, counted from 0: line 0 starts at `from`, and each further one is a
 /// step towards `to`, never past it.
-#[derive(Clone, Copy, Debug, PartialEq, Eq)]
+#[derive(Clone, Copy)]
 pub struct Strip {
     pub from: Cell,
     pub to: Cell,

@@ -4,15 +4,16 @@ ghost use Rattle.std.specs.Prelude.{◌≡◌, ℕ, ◌<◌, ◌≤◌, true, fa
 ghost use Rattle.std.specs.Int.{bit_at};
 ghost use Rattle.clearance.specs.Bands.{IsTiledRow};
 
-use crate::bit::{bits_before, bits_from, highest_bit, lowest_bit};
+use crate::bit::{bits_from, highest_bit, lowest_bit};
 use crate::rows::Rows;
+use bits::low_bits;
 use metric::{BAND_ROWS, WORD_CELLS};
 
 /// One more than the last tile of a row: no tile.
 pub const NO_TILE: u16 = WORD_CELLS;
 
 /// A row, and whether its blank tiles are skipped, or each word is searched.
-#[derive(Clone, Copy, Debug, PartialEq, Eq)]
+#[derive(Clone, Copy)]
 pub struct SearchedRow {
     pub y: u16,
     pub by_tiles: bool,
@@ -91,7 +92,7 @@ pub fn after_last_tile(tiles: u64, end: u16) -> u16
     if tiles == u64::MAX {
         return end;
     }
-    let earlier = bits_before(tiles, end);
+    let earlier = low_bits(tiles, end);
     if earlier == 0 {
         0
     } else {

@@ -4,14 +4,14 @@
 mod batch;
 mod cap;
 mod carried;
+mod column_table;
 mod columns;
 mod lines;
 mod row;
 mod seek;
 mod sought;
-mod table;
 
 pub use batch::Batch;
+pub use column_table::{ColumnTable, NONE};
 pub use columns::Columns;
 pub use seek::nearest_rows;
-pub use table::{ColumnTable, NONE};

@@ -6,8 +6,8 @@ ghost use Rattle.bits.specs.Tiles.{tile_count, row_word};
 ghost use Rattle.metric.specs.declared.refusal.Refusal.TheVariants.{Memory};
 ghost use Rattle.events.specs.Runs.{AreOpeningWords};
 ghost use Rattle.events.specs.Setting.{bad_field};
-ghost use Rattle.events.specs.Words.{map_at, tile_at, word_count};
 
+use crate::plan::Plan;
 use crate::setting::Setting;
 use bits::Bitmap;
 use metric::Refusal;
@@ -49,25 +49,6 @@ fn fill_blocks(words: &mut [u64], start: usize, map: &Bitmap)
     }
 }
 
-/// Writes a bitmap as version 0: slot 0 maps each position to the block of the same number. NOW and
-/// the readers' words stay.
-fn write_opening(words: &mut [u64], setting: Setting, map: &Bitmap)
-    requires fits { bad_field (tile_count map.now) setting ≡ None }
-    requires sized { length words.old ≡ word_count record { setting = setting; opening = map.now } }
-    ensures before { (n : ℕ) → n < 8 + 8 * setting.sessions
-        → slice_index words.new n ≡ slice_index words.old n }
-    ensures directory { (p : ℕ) → p < tile_count map.now → slice_index words.new
-        (map_at record { setting = setting; opening = map.now } 0 p) ≡ p }
-    ensures rows { (p i : ℕ) → p < tile_count map.now → i < 64
-        → slice_index words.new (tile_at record { setting = setting; opening = map.now } p i)
-        ≡ row_word map.now p i }
-{
-    let directories = 8 + 8 * setting.sessions as usize;
-    let rows = directories + setting.versions as usize * usize::from(map.tiles());
-    fill_directory(words, directories, map.tiles());
-    fill_blocks(words, rows, map);
-}
-
 /// The words of a world opened with a bitmap: version 0 is the bitmap, the log is empty, and no
 /// reader has announced.
 ///
@@ -78,9 +59,10 @@ pub fn opening_words(alloc: Global, setting: Setting, map: &Bitmap) -> Result<Ve
         (λ words. AreOpeningWords record { setting = setting; opening = map.now } words.items) }
     ensures memory { IfErr result (λ refusal. refusal ≡ Memory) }
 {
-    let directories = setting.versions as usize * usize::from(map.tiles());
-    let count = 8 + 8 * setting.sessions as usize + directories + 64 * setting.blocks as usize;
-    let mut words = vec![in alloc; 0u64; count]?;
-    write_opening(words.as_mut_slice(), setting, map);
-    Ok(words)
+    let plan = Plan::of(setting, map);
+    let mut list = vec![in alloc; 0u64; plan.words()]?;
+    let words = list.as_mut_slice();
+    fill_directory(words, plan.directories, plan.tiles);
+    fill_blocks(words, plan.rows, map);
+    Ok(list)
 }

@@ -14,26 +14,34 @@ pub struct Plan {
     pub directories: usize,
     pub rows: usize,
     ghost directories_are: { directories ≡ 8 + 8 * setting.sessions },
-    ghost rows_are: { rows ≡ 8 + 8 * setting.sessions + setting.versions * tiles },
+    ghost rows_are: { rows ≡ directories + setting.versions * tiles },
 }
 
 impl Plan {
     ghost use Rattle.bits.specs.Cells.{IsBitmap};
-    ghost use Rattle.events.specs.Words.{Base, IsPlan, pin_at, map_at, tile_at};
+    ghost use Rattle.events.specs.Words.{Base, IsPlan, pin_at, map_at, tile_at, word_count};
 
     /// The sizes of a store with this map.
+    #[tactic(auto, unfolding(crate::specs::Words::pin_at))]
     pub fn of(setting: Setting, map: &Bitmap) -> Plan
         ensures plan { IsPlan record { setting = setting; opening = map.now } result }
         ensures bitmap { IsBitmap map.now }
     {
         let tiles = map.tiles();
-        let directories = 8 + 8 * setting.sessions as usize;
+        let directories = Plan::pin_at(setting.sessions);
         Plan {
             setting,
             tiles,
             directories,
             rows: directories + setting.versions as usize * usize::from(tiles),
         }
+    }
+
+    /// The number of words.
+    pub fn words(self) -> usize
+        ensures { (k : Base) → IsPlan k self → result ≡ word_count k }
+    {
+        self.rows + 64 * self.setting.blocks as usize
     }
 
     /// The index of a reader's word.

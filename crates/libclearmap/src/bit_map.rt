@@ -1,6 +1,6 @@
 //! A map in the caller's bits without marks of its tiles, read in place.
 
-ghost use Rattle.std.specs.Prelude.{◌≡◌, ℕ, ◌/◌, ◌≤◌, ◌<◌, ◌==◌, length, slice_index, true};
+ghost use Rattle.std.specs.Prelude.{◌≡◌, ◌<◌, ◌==◌, length, slice_index, true};
 ghost use Rattle.std.specs.Prelude.{if◌then◌else◌};
 ghost use Rattle.std.specs.Int.{bit_at};
 ghost use Rattle.bits.specs.Words.{words_across};
@@ -8,6 +8,7 @@ ghost use Rattle.clearance.specs.Rows.{IsBlankRow, words_of_row};
 ghost use Rattle.libclearmap.specs.Layouts.{IsShape};
 
 use crate::layout::ClearmapBits;
+use bits::low_bits;
 use clearance::{Rows, is_blank};
 use metric::BAND_ROWS;
 
@@ -34,7 +35,7 @@ impl<'a> BitMap<'a> {
             ≡ slice_index (words_of_row (cells_of_rows self.now.map self.now.words.now) y) index }
     {
         let word = self.words[usize::from(y) * self.map.stride + index];
-        let own = low_bits(word, self.map.width as usize - 64 * index);
+        let own = low_bits(word, self.map.width as u16 - 64 * index as u16);
         counted(self.map.blank_bands, usize::from(y / BAND_ROWS), own)
     }
 
@@ -80,19 +81,6 @@ impl<'a> Rows for BitMap<'a> {
     #[inline(always)]
     fn bands(&self) -> u64 {
         !self.map.blank_bands
-    }
-}
-
-/// Clears the bits from bit `count` on.
-#[inline(always)]
-fn low_bits(word: u64, count: usize) -> u64
-    ensures kept { (i : ℕ) → i < count → i < 64 → bit_at result i ≡ bit_at word i }
-    ensures cleared { (i : ℕ) → count ≤ i → i < 64 → bit_at result i ≡ 0 }
-{
-    if count < 64 {
-        word & ((1 << count) - 1)
-    } else {
-        word
     }
 }
 

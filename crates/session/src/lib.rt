@@ -9,7 +9,6 @@
 //! `std::marker::Brand`.
 #![tactic(auto)]
 
-mod bit;
 mod blank;
 mod pinned;
 mod reading;

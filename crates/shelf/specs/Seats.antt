@@ -13,7 +13,7 @@ use Rattle.events.specs.declared.command.Command.{Command}
 use Rattle.events.specs.declared.command.Command.TheVariants.{Publish}
 use Rattle.shelf.specs.Store.{StoreId, readers_of}
 use Rattle.shelf.specs.declared.request.Request.{Request}
-use Rattle.shelf.specs.declared.table.Basis.{Basis}
+use Rattle.shelf.specs.declared.word_table.Basis.{Basis}
 use Rattle.events.specs.declared.plan.Plan.{Plan}
 use Rattle.shelf.specs.Roles.{Task, KeeperView, ReaderView, Role, keeping, reading, ticket, entries}
 use Rattle.shelf.specs.Roles.{keeper_in, reader_in, reader_at_opening, resting}

@@ -13,7 +13,7 @@ use crate::meeting::lay_together;
 use crate::name::StoreName;
 use crate::plays::{Finish, GiveUp};
 use crate::reader::ReaderSeat;
-use crate::table::{TableSeat, View, Words};
+use crate::word_table::{TableSeat, View, Words};
 use atomic_table::Badge;
 use events::Plan;
 use std::alloc::Global;

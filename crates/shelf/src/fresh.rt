@@ -8,7 +8,7 @@ ghost use Rattle.shelf.specs.Store.{readers_of};
 use crate::keeper::KeeperSeat;
 use crate::name::StoreName;
 use crate::reader::ReaderSeat;
-use crate::table::{TableSeat, View, Words};
+use crate::word_table::{TableSeat, View, Words};
 use atomic_table::Badge;
 use events::Plan;
 use std::alloc::Global;

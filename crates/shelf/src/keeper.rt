@@ -13,7 +13,7 @@ ghost use Rattle.shelf.specs.Steps.{MayCommit, committed, newest_slot};
 use crate::name::StoreName;
 use crate::plays::{Commit, Order, Scan, Write};
 use crate::request::Request;
-use crate::table::{TableSeat, Words};
+use crate::word_table::{TableSeat, Words};
 use events::{Command, Now, Plan};
 use std::alloc::Global;
 use std::marker::{Model, PhantomData};

@@ -34,9 +34,9 @@ mod plays;
 mod reader;
 mod request;
 mod store_entry;
-mod table;
 mod ticket;
 mod tile_looks;
+mod word_table;
 
 pub use closing::Closing;
 pub use fresh::{FreshKeeper, FreshReader};

@@ -11,7 +11,7 @@ use crate::name::StoreName;
 use crate::plays::{Apart, Meet, Together};
 use crate::reader::ReaderSeat;
 use crate::request::Request;
-use crate::table::{TableSeat, View, Words};
+use crate::word_table::{TableSeat, View, Words};
 use atomic_table::Badge;
 use std::mem::replace;
 

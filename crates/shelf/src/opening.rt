@@ -13,7 +13,7 @@ ghost use Rattle.shelf.specs.Open.{newcomer, newcomers};
 use crate::fresh::{FreshKeeper, FreshReader};
 use crate::opened::Opening;
 use crate::plays::Deal;
-use crate::table::{Basis, TableSeat, Words};
+use crate::word_table::{Basis, TableSeat, Words};
 use bits::Bitmap;
 use events::{Plan, Setting, opening_words};
 use metric::Refusal;

@@ -2,7 +2,7 @@
 
 use crate::name::StoreName;
 use crate::request::Request;
-use crate::table::View;
+use crate::word_table::View;
 use atomic_table::{Join, Play, Split};
 use std::marker::PhantomData;
 

@@ -17,7 +17,7 @@ ghost use Rattle.shelf.specs.Steps.{announcing, confirming, loaded, leaving, new
 use crate::name::StoreName;
 use crate::plays::{Announce, Confirm, Leave, Look, Take};
 use crate::request::Request;
-use crate::table::{View, Words};
+use crate::word_table::{View, Words};
 use atomic_table::Badge;
 use events::{Now, Plan};
 use metric::Edge;

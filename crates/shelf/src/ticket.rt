@@ -15,7 +15,7 @@ use crate::name::StoreName;
 use crate::plays::{CutTicket, LayTicket, Learn};
 use crate::reader::ReaderSeat;
 use crate::request::Request;
-use crate::table::{View, Words};
+use crate::word_table::{View, Words};
 use atomic_table::Badge;
 use events::Now;
 use std::marker::{Model, PhantomData};

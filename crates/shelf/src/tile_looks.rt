@@ -15,7 +15,7 @@ use crate::name::StoreName;
 use crate::plays::Look;
 use crate::reader::ReaderSeat;
 use crate::request::Request;
-use crate::table::{TableSeat, Words};
+use crate::word_table::{TableSeat, Words};
 use atomic_table::Badge;
 use events::Plan;
 use std::mem::replace;

@@ -90,4 +90,11 @@ map_place k plan slot t p tiles_is is = search rules
 pub tile_place : (k : Base) (plan : Plan) (b i : ℕ) → IsPlan k plan
     → plan.rows + (b * 64 + i) ≡ tile_at k b i
 unfolding tile_at
-tile_place k plan b i is = rw (plan.rows_are, is.tiles_is, is.setting_is) refl
+tile_place k plan b i is =
+    rw (plan.rows_are, plan.directories_are, is.tiles_is, is.setting_is) refl
+
+-- a store's sizes tell how many words there are
+pub words_counted : (k : Base) (plan : Plan) → IsPlan k plan
+    → plan.rows + 64 * plan.setting.blocks ≡ word_count k
+unfolding word_count
+words_counted k plan is = rw (plan.rows_are, plan.directories_are, is.tiles_is, is.setting_is) refl

@@ -1,5 +1,5 @@
 -- A world that is opened, by its parts.
-use Rattle.events.proofs.Names.{rules, ◌≡◌, ℕ, zero, suc, ◌-◌, ◌<◌, ◌≤◌, List, [], replicate, subst}
+use Rattle.events.proofs.Names.{rules, ◌≡◌, ℕ, zero, suc, ◌<◌, ◌≤◌, List, [], replicate, subst}
 use Rattle.events.proofs.Names.{sym, arith, Some, None, slice_get, length-replicate, Cells}
 use Rattle.events.proofs.Names.{IsBitmap, tile_count, Base, Setting, bad_field, tiles, opened}
 use Rattle.events.proofs.Names.{newest, bitmap_of, IsKept, now_of, pin_at, opened_blocks}

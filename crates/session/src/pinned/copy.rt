@@ -6,9 +6,8 @@ ghost use Rattle.bits.specs.Bands.{IsBanded, IsTiled};
 ghost use Rattle.bits.specs.Cells.{IsBitmap};
 ghost use Rattle.bits.specs.Tiles.{tiles_down};
 
-use crate::bit::{first_bits, has_bit};
 use crate::pinned::Looks;
-use bits::Bitmap;
+use bits::{Bitmap, has_bit};
 use metric::BAND_ROWS;
 
 /// A bitmap of the version's size with the bands of 64 rows that have been read, and how many words
@@ -28,7 +27,7 @@ impl VersionCopy {
         ensures unread { (k : ℕ) → k < tiles_down bitmap.height → bit_at result.unread k ≡ 1 }
     {
         let looks = Looks::fresh(bitmap.width(), bitmap.tiles());
-        let unread = first_bits(bitmap.height().div_ceil(BAND_ROWS));
+        let unread = unread_bands(&bitmap);
         VersionCopy {
             bitmap,
             unread,
@@ -43,7 +42,7 @@ impl VersionCopy {
             → bit_at self.new.unread k ≡ 1 }
     {
         self.looks.renew();
-        self.unread = first_bits(self.bitmap.height().div_ceil(BAND_ROWS));
+        self.unread = unread_bands(&self.bitmap);
     }
 
     /// The whole version, if it has been read.
@@ -96,4 +95,12 @@ impl VersionCopy {
     {
         has_bit(self.unread, band) && self.looks.allow(words)
     }
+}
+
+/// The bands of a bitmap of which none has been read.
+fn unread_bands(bitmap: &Bitmap) -> u64
+    ensures bitmap { IsBitmap bitmap.now }
+    ensures unread { (k : ℕ) → k < tiles_down bitmap.now.height → bit_at result k ≡ 1 }
+{
+    u64::MAX >> (64 - bitmap.height().div_ceil(BAND_ROWS))
 }

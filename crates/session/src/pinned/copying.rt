@@ -7,10 +7,9 @@ ghost use Rattle.bits.specs.Words.{words_across};
 ghost use Rattle.clearance.specs.Rows.{IsBlankRow, words_of_row};
 ghost use Rattle.session.specs.Sessions.{bitmap_seen, IsCopying};
 
-use crate::bit::has_bit;
 use crate::pinned::copy::VersionCopy;
 use crate::reading::{blank_words, look_word, read_band};
-use bits::without_bit;
+use bits::{has_bit, without_bit};
 use clearance::is_blank;
 use metric::BAND_ROWS;
 use shelf::{ReaderSeat, StoreName};

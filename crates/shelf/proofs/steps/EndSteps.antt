@@ -3,7 +3,7 @@ use Rattle.shelf.proofs.Names.{rules, ◌≡◌, ℕ, List, length, none, TableI
 use Rattle.shelf.proofs.Names.{Base, now_at, AreOpeningWords, IsReady, Request, KeeperView, Role}
 use Rattle.shelf.proofs.Names.{keeping, Agrees, store_at}
 use Rattle.events.specs.declared.plan.Plan.{Plan}
-use Rattle.shelf.specs.declared.table.Basis.{Basis}
+use Rattle.shelf.specs.declared.word_table.Basis.{Basis}
 use Rattle.shelf.specs.Seats.{IsOf, base_of}
 use Rattle.shelf.proofs.seats.Bridge.{seat_knows}
 use Rattle.events.specs.Words.{IsPlan}

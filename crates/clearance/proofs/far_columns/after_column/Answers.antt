@@ -22,9 +22,9 @@ returns-then-word-eq0-clause-none g c = λ x y obstacle here before.
     let joined : AreJoined cells c.args.band tile c.joined_rows.result =
     record { bits = c.joined_rows.ensures.joined } in
     before_tile_before cells c.args.band c.args.tiles c.args.end tile c.after_last_tile.result
-    c.joined_rows.result c.bits_before-word.result c.requires.tiles joined
+    c.joined_rows.result c.low_bits-word.result c.requires.tiles joined
     (λ (i : ℕ) (low : i < c.args.end - 64 * tile) (few : i < 64).
-    c.bits_before-word.ensures.kept i (omega arith) few) c.if-word-eq0.true
+    c.low_bits-word.ensures.kept i (omega arith) few) c.if-word-eq0.true
     c.after_last_tile.ensures.none x y obstacle here before (omega arith)
 
 pub returns-else-word-eq0-clause-none : goal.returns-else-word-eq0-clause-none
@@ -37,8 +37,8 @@ returns-else-word-eq0-clause-none g c = λ x y obstacle here before.
     let joined : AreJoined cells c.args.band tile c.joined_rows.result =
     record { bits = c.joined_rows.ensures.joined } in
     let there = before_highest_bit cells c.args.band c.args.end tile c.joined_rows.result
-    c.bits_before-word.result c.highest_bit.result joined
+    c.low_bits-word.result c.highest_bit.result joined
     (λ (i : ℕ) (low : i < c.args.end - 64 * tile) (few : i < 64).
-    c.bits_before-word.ensures.kept i (omega arith) few) c.highest_bit.ensures.none_above x y
+    c.low_bits-word.ensures.kept i (omega arith) few) c.highest_bit.ensures.none_above x y
     obstacle here before (omega arith) in
     omega arith

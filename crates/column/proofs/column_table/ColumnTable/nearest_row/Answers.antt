@@ -8,7 +8,7 @@ use Rattle.column.specs.Columns.{IsRowOfTable}
 use Rattle.column.specs.Tabled.{cells_tabled}
 use Rattle.column.proofs.SpotRows.{entry_small, spot_column, spot_row}
 use Rattle.column.proofs.Tables.{IsBitmap-cells_tabled}
-use Rattle.column.proofs.table.ColumnTable.nearest_row.Goals as goal
+use Rattle.column.proofs.column_table.ColumnTable.nearest_row.Goals as goal
 
 pub column_of-column-requires-clause-left : goal.column_of-column-requires-clause-left
 column_of-column-requires-clause-left c =

@@ -4,7 +4,7 @@ use Rattle.metric.specs.Edge.{shift}
 use Rattle.bits.specs.Cells.{IsBitmap}
 use Rattle.column.specs.Carrying.{IsNextRow}
 use Rattle.column.specs.Tabled.{HasRows}
-use Rattle.column.proofs.table.fill_rows.Given as goal
+use Rattle.column.proofs.column_table.fill_rows.Given as goal
 
 abbrev pub invariant-rows : goal.invariant-rows
 invariant-rows l = record {

@@ -5,7 +5,7 @@ use Rattle.metric.specs.Edge.{shift}
 use Rattle.bits.specs.Cells.{Cells}
 use Rattle.column.specs.Tabled.{HasRows}
 use Rattle.column.proofs.Tables.{bordered, cells_tabled-all, IsTabled-all}
-use Rattle.column.proofs.table.ColumnTable.of.Goals as goal
+use Rattle.column.proofs.column_table.ColumnTable.of.Goals as goal
 
 pub invariant_of-result : goal.invariant_of-result
 invariant_of-result c =

@@ -4,7 +4,7 @@ use Rattle.metric.specs.Edge.{shift}
 use Rattle.bits.proofs.Framing.{framed_size}
 use Rattle.column.proofs.Places.{row_ends}
 use Rattle.column.proofs.Tables.{HasRows-more}
-use Rattle.column.proofs.table.fill_rows.Goals as goal
+use Rattle.column.proofs.column_table.fill_rows.Goals as goal
 
 pub put_line-requires : goal.put_line-requires
 put_line-requires c =

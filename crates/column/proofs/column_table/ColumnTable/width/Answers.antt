@@ -1,6 +1,6 @@
 -- What a table stands for is a bitmap.
 use Rattle.column.proofs.Tables.{IsBitmap-cells_tabled}
-use Rattle.column.proofs.table.ColumnTable.width.Goals as goal
+use Rattle.column.proofs.column_table.ColumnTable.width.Goals as goal
 
 pub returns-clause-bitmap : goal.returns-clause-bitmap
 returns-clause-bitmap c =

@@ -2,7 +2,7 @@
 use Rattle.std.proofs.Common.{◌≡◌, ◌+◌, ◌*◌, ◌<◌, ◌∙◌, refl}
 use Rattle.metric.specs.Edge.{shift}
 use Rattle.column.proofs.Tables.{IsBitmap-cells_tabled, IsRowOfTable-tabled, line_within}
-use Rattle.column.proofs.table.ColumnTable.row.Goals as goal
+use Rattle.column.proofs.column_table.ColumnTable.row.Goals as goal
 
 pub line_of-requires-clause-within : goal.line_of-requires-clause-within
 line_of-requires-clause-within c =
