@@ -1,7 +1,6 @@
 //! The program `clearmap`: exact distances to the nearest obstacle of an occupancy grid.
 #![tactic(auto)]
 
-mod hints;
 mod run;
 
 use run::run_process;

@@ -1,5 +1,4 @@
 mod Pooling
 mod Serving
 mod Speaking
-mod Wires
 mod Dumping

@@ -6,8 +6,8 @@ use mathlib.Core.List.{reverse_aux}
 use Rattle.std.proofs.lemmas.List.{reverse-reverse}
 use Rattle.shelf.specs.Store.{StoreId}
 use Rattle.shelf.specs.Roles.{ReaderView}
-use Rattle.proto.specs.declared.serve.end.End.{End}
-use Rattle.proto.specs.declared.serve.end.End.TheVariants as ends
+use Rattle.line_io.specs.declared.end.End.{End}
+use Rattle.line_io.specs.declared.end.End.TheVariants as ends
 use Rattle.proto.specs.Callers.{free}
 use Rattle.proto.specs.Served.{IsServed}
 use Rattle.proto.specs.Pools.{AreBoth, AreEach, AreRelated, AreStreamsServed, HasWorked}

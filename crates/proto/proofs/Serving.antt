@@ -1,12 +1,12 @@
 -- A stream that is served: how its exchanges and its end come about.
 use Rattle.std.proofs.Common.{◌≡◌, ◌≢◌, ℕ, ◌+◌, ◌≤◌, List, [], ◌∷◌, ◌++◌, Option, Some, None}
-use Rattle.std.proofs.Common.{Result, Ok, Err, is_some, refl, sym, ap, subst, ◌∙◌, arith}
-use Rattle.std.proofs.Common.{append_assoc, inl, inr}
+use Rattle.std.proofs.Common.{Result, Ok, is_some, refl, sym, ap, ◌∙◌, arith, append_assoc, inl}
+use Rattle.std.proofs.Common.{inr}
 use Rattle.std.specs.Prelude.{◌<◌, IsOkAnd, length}
 use Rattle.std.specs.List.{flat_map}
 use Rattle.std.proofs.lemmas.List.{append-nil}
 use Rattle.std.proofs.lemmas.Grind.{flat_map-append}
-use Rattle.metric.specs.Stream.{Appends, AppendsFront, Takes}
+use Rattle.metric.specs.Stream.{Appends, Takes}
 use Rattle.metric.proofs.Appending.{Appends-nothing, Appends-more}
 use Rattle.metric.proofs.Taking.{Takes-behind, Takes-nothing}
 use Rattle.metric.specs.declared.refusal.Refusal.{Refusal}
@@ -15,8 +15,8 @@ use Rattle.metric.specs.declared.refusal.Refusal.TheVariants as refusals
 use Rattle.shelf.specs.Store.{StoreId}
 use Rattle.lines.specs.declared.answer.Answer.{Answer}
 use Rattle.lines.specs.declared.answer.Answer.TheVariants as answers
-use Rattle.proto.specs.declared.serve.end.End.{End}
-use Rattle.proto.specs.declared.serve.end.End.TheVariants as ends
+use Rattle.line_io.specs.declared.end.End.{End}
+use Rattle.line_io.specs.declared.end.End.TheVariants as ends
 use Rattle.lines.specs.Asked.{QueryView, HasPoints}
 use Rattle.lines.specs.Said.{LineView, SaysPoints}
 use Rattle.lines.specs.Said as saids
@@ -24,14 +24,16 @@ use Rattle.lines.specs.Replies.{reply_line}
 use Rattle.proto.specs.Callers.{CallerValue, IsRefusedAs}
 use Rattle.proto.specs.Exchanges.{Exchange, IsExchange, IsLineAnswer, IsQueryAnswer, line_said}
 use Rattle.proto.specs.Exchanges.{body_of, counts, with_pin}
-use Rattle.proto.specs.Served.{AreExchanges, HasHeard, HasMoved, HasSaid, IsCutOff, IsCutShort}
-use Rattle.proto.specs.Served.{IsHeard, IsLineStop, IsPartOfExchange, IsQuit, IsSaid, IsServed}
-use Rattle.proto.specs.Served.{IsShort, IsFarewell, IsLeft, IsTail, IsTooMuch, IsUnsaid, IsWritten}
-use Rattle.proto.specs.Served.{bytes_of, text_of}
+use Rattle.proto.specs.Served.{AreExchanges, HasHeard, HasMoved, IsHeard, IsPartOfExchange, IsQuit}
+use Rattle.proto.specs.Served.{IsSaid, IsServed, IsShort, IsFarewell, IsLeft, IsTail, IsTooMuch}
+use Rattle.proto.specs.Served.{IsUnsaid, IsWritten, bytes_of, text_of}
+use Rattle.line_io.specs.Saying.{HasSaid}
+use Rattle.line_io.specs.Lines.{IsCutOff, IsLineStop}
+use Rattle.line_io.specs.Counted.{IsCutShort}
 use Rattle.metric.specs.Wire.{Wire}
-use Rattle.proto.specs.Wire.{HasNotWritten, HasRead, HasWritten}
+use Rattle.line_io.specs.Wire.{HasNotWritten, HasRead, HasWritten}
 use Rattle.proto.proofs.Speaking.{IsNoDump, plain_body}
-use Rattle.proto.proofs.Wires.{nothing_read, read_on}
+use Rattle.line_io.proofs.Wires.{nothing_read, read_on}
 
 -- exchanges, and more after them, are exchanges one after another
 exchanges_on : (store : StoreId) (xs ys : List Exchange) (a b c : CallerValue)

@@ -1,6 +1,6 @@
 -- The answers to a line with the bytes that it counts: this project's own rule.
-use Rattle.std.specs.Prelude.{◌≡◌, ◌≢◌, ℕ, ◌≤◌, ◌⊎◌, List, [], length, All, Bool, false, is_some}
-use Rattle.std.specs.Prelude.{Some, None, Result, Ok, Err}
+use Rattle.std.specs.Prelude.{◌≡◌, ℕ, ◌≤◌, ◌⊎◌, List, [], length, Bool, false, is_some, Some, None}
+use Rattle.std.specs.Prelude.{Result, Ok, Err}
 use Rattle.std.specs.Str.Lines.{strip_carriage_return}
 use Rattle.metric.specs.Kind.{distance_of}
 use Rattle.metric.specs.declared.fault.PbmFault.{PbmFault}
@@ -21,6 +21,8 @@ use Rattle.lines.specs.Told.{told_by}
 use Rattle.lines.specs.declared.line.Line.{Line}
 use Rattle.lines.specs.Said.{LineView, said, said_by}
 use Rattle.lines.specs.Said as saids
+use Rattle.line_io.specs.Lines.{IsLine}
+use Rattle.line_io.specs.Saying.{IsDump}
 use Rattle.proto.specs.Callers.{CallerValue, bitmap_held, IsCommanded, IsPinAnswer, IsRefusedAs}
 use Rattle.proto.specs.Callers.{IsUnpinAnswer}
 
@@ -73,11 +75,6 @@ abbrev pub body_of : StoreId → CallerValue → Answer → List ℕ
 body_of store old (answers.Dumped n) = plain_text (bitmap_held store old)
 body_of store old answer = []
 
--- a bitmap's dump is the number of bytes of its plain image and then the image, or out of memory
-abbrev pub IsDump : Cells → Answer → List ℕ → Type 0
-IsDump cells (answers.Dumped n) body = (body ≡ plain_text cells) × (n ≡ length body)
-IsDump cells answer body = (answer ≡ answers.Refused Memory) × (body ≡ [])
-
 -- DUMP with a pin is answered with the dump of the pinned version's bitmap; the caller stays
 pub record IsDumpAnswer (store : StoreId) (old : CallerValue) (answer : Answer)
     (new : CallerValue) : Type 0 where
@@ -100,11 +97,6 @@ IsLineAnswer store (Ok (saids.asked query)) bytes old answer new =
 IsLineAnswer store (Ok saids.dump) bytes old answer new =
     WithPin (λ _. IsDumpAnswer store old answer new) old answer new
 IsLineAnswer store (Ok saids.quit) bytes old answer new = ⊥
-
--- a line of a stream has at most 16,384 bytes before its LF
-pub record IsLine (line : List ℕ) : Type 0 where
-  pub plain : All (λ byte. byte ≢ 10) line
-  pub few : length line ≤ 16384
 
 -- an exchange is a line with the bytes that it counts, its answer, and what followed the reply line
 pub record Exchange : Type 0 where

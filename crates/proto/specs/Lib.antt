@@ -1,4 +1,3 @@
-pub mod Wire
 pub mod Callers
 pub mod Exchanges
 pub mod Served

@@ -2,7 +2,7 @@
 use Rattle.std.specs.Prelude.{◌≡◌, ℕ, ◌<◌, List, [], ◌∷◌, length, Option, Some, slice_index_or}
 use Rattle.shelf.specs.Store.{StoreId}
 use Rattle.shelf.specs.Roles.{ReaderView}
-use Rattle.proto.specs.declared.serve.end.End.{End}
+use Rattle.line_io.specs.declared.end.End.{End}
 use Rattle.proto.specs.Callers.{free}
 use Rattle.proto.specs.Served.{IsServed}
 use Rattle.metric.specs.Wire.{Wire}

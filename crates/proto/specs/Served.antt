@@ -1,25 +1,25 @@
 -- What a stream is answered from its first byte to its end: this project's own rule.
-use Rattle.std.specs.Prelude.{◌≡◌, ◌≢◌, Bool, false, if◌then◌else◌, ℕ, ◌+◌, ◌<◌, ◌≤◌, ◌⊎◌, List, []}
-use Rattle.std.specs.Prelude.{◌∷◌, ◌++◌, length, All, Option, Some, None, Result, Ok, Err, IsOkAnd}
-use Rattle.std.specs.Prelude.{Vec}
+use Rattle.std.specs.Prelude.{◌≡◌, ℕ, ◌+◌, ◌<◌, ◌≤◌, ◌⊎◌, List, [], ◌∷◌, ◌++◌, length, Option, Some}
+use Rattle.std.specs.Prelude.{None, Result, Ok, Err, IsOkAnd}
 use Rattle.std.specs.List.{flat_map}
 use Rattle.metric.specs.Stream.{Appends, AppendsFront, Takes}
 use Rattle.metric.specs.declared.refusal.Refusal.{Refusal}
 use Rattle.metric.specs.declared.stream.WriteFault.{WriteFault}
-use Rattle.bits.specs.Cells.{Cells}
 use Rattle.metric.specs.declared.refusal.Refusal.TheVariants as refusals
 use Rattle.shelf.specs.Store.{StoreId}
-use Rattle.proto.specs.declared.serve.end.End.{End}
-use Rattle.proto.specs.declared.serve.end.End.TheVariants as ends
+use Rattle.line_io.specs.declared.end.End.{End}
+use Rattle.line_io.specs.declared.end.End.TheVariants as ends
 use Rattle.lines.specs.declared.answer.Answer.{Answer}
 use Rattle.lines.specs.declared.answer.Answer.TheVariants as answers
 use Rattle.lines.specs.Replies.{reply_line}
 use Rattle.lines.specs.Said.{LineView, SaysPoints}
 use Rattle.lines.specs.Said as saids
 use Rattle.proto.specs.Callers.{CallerValue, bitmap_held}
-use Rattle.proto.specs.Exchanges.{Exchange, IsDump, IsExchange, IsLine, line_said, counts}
+use Rattle.proto.specs.Exchanges.{Exchange, IsExchange, line_said, counts}
+use Rattle.line_io.specs.Lines.{IsLine, IsTooLong}
+use Rattle.line_io.specs.Saying.{IsDumped}
 use Rattle.metric.specs.Wire.{Wire}
-use Rattle.proto.specs.Wire.{HasNotWritten, HasPut, HasRead, HasWritten, IsReadOut}
+use Rattle.line_io.specs.Wire.{HasNotWritten, HasPut, HasRead, HasWritten, IsReadOut}
 
 -- the bytes of an exchange: its line, LF, and the bytes that it counts
 abbrev pub bytes_of : Exchange → List ℕ
@@ -54,11 +54,6 @@ pub record IsQuit (bytes : List ℕ) : Type 0 where
   pub line_is : IsLine line
   pub bytes_are : bytes ≡ line ++ (10 ∷ [])
   pub quits : line_said line ≡ Ok saids.quit
-
--- these are more bytes than a line may have, with no LF among them
-pub record IsTooLong (bytes : List ℕ) : Type 0 where
-  pub plain : All (λ byte. byte ≢ 10) bytes
-  pub many : length bytes ≡ 16385
 
 -- these bytes are a line with its LF that counts more bytes than a stamp may have
 pub record IsTooMuch (bytes : List ℕ) : Type 0 where
@@ -143,71 +138,6 @@ pub record HasMoved (end : Option End) (old : Wire) (bytes said unsaid : List �
   pub reads : new.failed_reads ≡ old.failed_reads + read_faults end
   pub writes : new.failed_writes ≡ old.failed_writes + write_faults end
 
--- the input was cut off after these bytes: it ended, or a read failed
-abbrev pub IsCutOff : End → Wire → List ℕ → Wire → Type 0
-IsCutOff end old bytes new =
-    ((end ≡ ends.EndOfInput) × HasRead 0 old bytes new × IsReadOut new.rest)
-    ⊎ ((end ≡ ends.ReadFailed) × HasRead 1 old bytes new)
-
--- why a line wasn't read to its LF: these bytes are too many, or the input was cut off after them
-abbrev pub IsLineStop : End → Wire → List ℕ → Wire → Type 0
-IsLineStop end old bytes new =
-    ((end ≡ ends.LineTooLong) × IsTooLong bytes × HasRead 0 old bytes new)
-    ⊎ (IsLine bytes × IsCutOff end old bytes new)
-
--- what a line ends with, if it ends
-abbrev pub line_end : Bool → List ℕ
-line_end ends = if ends then 10 ∷ [] else []
-
--- these bytes were appended to those before, except an LF at their end
-pub record IsKept (ends : Bool) (before bytes after : List ℕ) : Type 0 where
-  pub part : List ℕ
-  pub after_is : after ≡ before ++ part
-  pub plain : All (λ byte. byte ≢ 10) part
-  pub bytes_are : bytes ≡ part ++ line_end ends
-
--- a part of a line was read after these bytes and appended to them, except an LF that ends the line
-pub record IsLinePart (ends : Bool) (before : List ℕ) (old : Wire) (after : List ℕ) (new : Wire) :
-    Type 0 where
-  pub part : List ℕ
-  pub after_is : after ≡ before ++ part
-  pub plain : All (λ byte. byte ≢ 10) part
-  pub few : length (after ++ line_end ends) ≤ 16385
-  pub more : ends ≡ false → 0 < length part
-  pub read : HasRead 0 old (part ++ line_end ends) new
-
--- the counted bytes are kept, if there was memory for them
-abbrev pub AreKept : {A E : Type 0} → Result (Vec ℕ A) E → List ℕ → Type 0
-AreKept (Err refused) bytes = Unit {0}
-AreKept (Ok kept) bytes = kept.items ≡ bytes
-
--- as many bytes were read as are counted, and kept if there was memory for them
-pub record HasCounted {A E : Type 0} (count : ℕ) (kept : Result (Vec ℕ A) E) (old new : Wire) :
-    Type 0 where
-  pub bytes : List ℕ
-  pub as_many : length bytes ≡ count
-  pub kept_are : AreKept kept bytes
-  pub read : HasRead 0 old bytes new
-
--- this many bytes were read, at least one
-pub record HasPassed (count : ℕ) (old new : Wire) : Type 0 where
-  pub some : 0 < count
-  pub bytes : List ℕ
-  pub as_many : length bytes ≡ count
-  pub read : HasRead 0 old bytes new
-
--- the input was cut off before this many bytes were read
-pub record IsCutShort (count : ℕ) (end : End) (old new : Wire) : Type 0 where
-  pub bytes : List ℕ
-  pub few : length bytes < count
-  pub cut : IsCutOff end old bytes new
-
--- a last text was written, and the stream ends as planned, or a write failed
-abbrev pub HasSaid : End → End → Wire → List ℕ → Wire → Type 0
-HasSaid planned end old text new =
-    ((end ≡ planned) × HasWritten old text new)
-    ⊎ ((end ≡ ends.WriteFailed) × HasNotWritten old text new)
-
 -- a line was parsed as what it says, or there was no memory for its points
 abbrev pub IsHeard : Result LineView Refusal → Result LineView Refusal → Type 0
 IsHeard said heard = (heard ≡ said) ⊎ ((heard ≡ Err refusals.Memory) × IsOkAnd said SaysPoints)
@@ -228,14 +158,6 @@ IsSaid (Some end) old text new = (end ≡ ends.WriteFailed) × HasNotWritten old
 abbrev pub end_after : Result (Unit {0}) WriteFault → Option End
 end_after (Ok done) = None
 end_after (Err fault) = Some ends.WriteFailed
-
--- a bitmap's dump was written: its plain image after its number of bytes, or out of memory
-pub record IsDumped (cells : Cells) (written : Result (Unit {0}) WriteFault)
-    (wire wire_after : Wire) : Type 0 where
-  pub answer : Answer
-  pub body : List ℕ
-  pub is_dump : IsDump cells answer body
-  pub put : HasPut written wire (reply_line answer ++ body) wire_after
 
 -- the answer to DUMP was written: the dump of the caller's pinned version, or that it has none
 abbrev pub IsDumpSaid : StoreId → Result (Unit {0}) WriteFault → Wire → CallerValue → Wire → Type 0

@@ -6,11 +6,12 @@ mod serve;
 mod workers;
 
 pub use clearance::{Bordered, Queried};
+pub use line_io::End;
 pub use lines::{
     Answer, CommandName, Line, MOST_COUNTED, Query, QueryKind, Text, Verb, answer_of, answer_query,
     parse_line, put_answer, read_order, read_query, read_stamp, reply_text, split_verb, verb_of,
 };
-pub use serve::{End, serve_stream};
+pub use serve::serve_stream;
 pub use words::{
     line_of_words, next_number, number_pair, number_triple, only_number, read_number, split_word,
     without_cr, words_of_line,

@@ -3,19 +3,13 @@
 ghost use Rattle.std.specs.Prelude.{◌≡◌, ◌≢◌, Some};
 ghost use Rattle.proto.specs.Callers.{free};
 ghost use Rattle.proto.specs.Served.{IsServed};
-ghost use Rattle.proto.specs.Wire.{CanGoOn};
+ghost use Rattle.line_io.specs.Wire.{CanGoOn};
 
 mod caller;
-mod counted;
-mod dump;
-mod end;
-mod line_buffer;
-mod say;
 mod service;
-mod wire;
 
 use caller::Caller;
-pub use end::End;
+use line_io::End;
 use metric::Stream;
 use service::Service;
 use session::{Session, Store};

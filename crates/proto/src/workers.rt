@@ -4,7 +4,7 @@ ghost use Rattle.std.specs.Prelude.{◌≡◌, ◌≤◌, [], All, length, map, 
 ghost use Rattle.std.specs.Prelude.{IfOk, IfErr, IfSome, IsSome};
 ghost use Rattle.metric.specs.declared.refusal.Refusal.TheVariants.{Memory};
 ghost use Rattle.proto.specs.Pools.{AreBoth, AreEach, AreRelated, HasWorked};
-ghost use Rattle.proto.specs.Wire.{CanGoOn};
+ghost use Rattle.line_io.specs.Wire.{CanGoOn};
 
 use crate::serve::serve_stream;
 use metric::{Refusal, Stream};

@@ -8,11 +8,10 @@ ghost use Rattle.proto.specs.Callers.{IsCommanded, IsPinAnswer, IsUnpinAnswer, f
 ghost use Rattle.lines.specs.declared.answer.Answer.TheVariants as answers;
 ghost use Rattle.proto.specs.Exchanges.{IsQueryAnswer, WithPin, with_pin};
 ghost use Rattle.proto.specs.Served.{IsDumpSaid};
-ghost use Rattle.proto.specs.Wire.{CanGoOn};
+ghost use Rattle.line_io.specs.Wire.{CanGoOn};
 
-use crate::serve::dump::say_dump;
-use crate::serve::say::say;
 use events::{Command, Reply};
+use line_io::{say, say_dump};
 use lines::{Answer, Query, Text, answer_of};
 use metric::{Refusal, Stream, WriteFault};
 use session::{Pinned, Session, Store};

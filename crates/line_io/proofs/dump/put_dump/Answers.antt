@@ -1,0 +1,34 @@
+-- What was written before a failed write is a prefix of the reply line and the image together.
+use Rattle.std.proofs.lemmas.Result.{err_from_is_err_and}
+use Rattle.pbm.specs.declared.header.Form.TheVariants.{Plain}
+use Rattle.pbm.specs.Writing.{front_text, plain_text}
+use Rattle.lines.specs.Replies.{reply_line}
+use Rattle.line_io.proofs.DumpedRows.{rows_text}
+use Rattle.line_io.proofs.Wires.{failed_first, failed_on, put_on}
+use Rattle.line_io.proofs.dump.put_dump.Goals as goal
+
+pub returns-in_err-say : goal.returns-in_err-say
+returns-in_err-say g c =
+    let p = err_from_is_err_and c.from_residual.result c.from_residual.ensures.1 in
+    rw (p.1) (failed_first _ _ (reply_line c.args.answer.now)
+    (plain_text c.args.bitmap.now) c.in_err-say.ensures)
+
+pub returns-in_err-put : goal.returns-in_err-put
+unfolding plain_text
+returns-in_err-put g c =
+    let p = err_from_is_err_and c.from_residual-in_err-put.result
+    c.from_residual-in_err-put.ensures.1 in
+    let front = rw (c.as_slice.ensures.value, c.requires.first) at c.in_err-put.ensures in
+    rw (p.1) (failed_on _ _ _ (reply_line c.args.answer.now)
+    (plain_text c.args.bitmap.now) c.in_ok-say.ensures
+    (failed_first _ _ (front_text Plain c.args.bitmap.now)
+    (rows_text c.args.bitmap.now c.args.bitmap.now.height) front))
+
+pub returns : goal.returns
+unfolding plain_text
+returns g c =
+    let front = rw (c.as_slice.ensures.value, c.requires.first) at c.in_ok-put.ensures in
+    put_on c.put_rows.result _ _ _ (reply_line c.args.answer.now)
+    (plain_text c.args.bitmap.now) c.in_ok-say.ensures
+    (put_on c.put_rows.result _ _ _ (front_text Plain c.args.bitmap.now)
+    (rows_text c.args.bitmap.now c.args.bitmap.now.height) front c.put_rows.ensures)

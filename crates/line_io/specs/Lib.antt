@@ -1,0 +1,4 @@
+pub mod Wire
+pub mod Lines
+pub mod Counted
+pub mod Saying
