@@ -1,4 +1,5 @@
 mod CutLines
+mod Faults
 mod Gathering
 mod Requests
 mod Talks

@@ -1,3 +1,4 @@
 pub mod CommandLine
 pub mod ServeLine
+pub mod Tables
 pub mod Told

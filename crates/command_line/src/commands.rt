@@ -10,18 +10,17 @@ ghost use Rattle.metric.specs.Kind.{metric_named};
 ghost use Rattle.command_line.specs.declared.arguments.Fault.TheVariants.{Memory};
 ghost use Rattle.command_line.specs.declared.arguments.Options.TheVariants.{Steps};
 ghost use Rattle.command_line.specs.CommandLine.{AreDistOptions, AreNoDistOptions, AreOptions};
-ghost use Rattle.command_line.specs.CommandLine.{AreTaken, IsDefaultDist, dist_app};
-ghost use Rattle.command_line.specs.CommandLine.{nearest_rule, program_app, query_rule, steps_app};
-ghost use Rattle.command_line.specs.CommandLine.{texts_of};
-ghost use Rattle.command_line.specs.ServeLine.{default_rule, flag_text};
+ghost use Rattle.command_line.specs.CommandLine.{AreTaken, IsDefaultDist, program_app, texts_of};
+ghost use Rattle.command_line.specs.ServeLine.{flag_text};
+ghost use Rattle.command_line.specs.Tables.{app_of_entry, rule_of_flag, with_entries};
+ghost use Rattle.command_line.specs.Tables.{with_flag_rules};
 
 use crate::arguments::{DistOptions, Fault, Options};
-use crate::serve_words::{
-    ask_command, default_flag, edge_flag, edge_given, number_given, serve_command, serve_or_ask,
-};
+use crate::serve_words::{edge_given, number_given, serve_or_ask};
+use crate::tables::{COMMANDS, Entry, Flag, Takes};
 use clap::{Arg, ArgAction, ArgMatches, Command, Error};
 use metric::{MetricKind, Workers};
-use std::alloc::Global;
+use std::alloc::{AllocError, Global};
 
 /// Reads the words of the command line, of which the first is the program's name.
 ///
@@ -87,95 +86,75 @@ fn matches_of<'a>(alloc: Global, words: &'a [&'a str]) -> Result<ArgMatches<'a>,
 }
 
 /// The program's commands and flags.
-fn program<'a>(alloc: Global) -> Result<Command<'a>, Error>
-    ensures app { IfOk result (λ command. app_of command ≡ program_app) }
-    ensures memory { IfErr result (λ error. kind_of error ≡ OutOfMemory) }
+fn program<'a>(alloc: Global) -> Result<Command<'a>, AllocError>
+    ensures { IfOk result (λ command. app_of command ≡ program_app) }
 {
-    Ok(
-        Command::new(alloc, "clearmap")
-            .version("0.3.0")
-            .about("Exact distances to the nearest obstacle of an occupancy grid")
-            .after_help(
-                "An image is PBM, plain (P1) or raw (P4), 1 to 4096 pixels a side; a black pixel is an obstacle. The map of\na robot has unknown cells besides, which whoever makes the image makes obstacles or free cells.\n\nAnswers and refusals go to standard output. The exit status is 0 where all was done, 1 where the\ninput or the network was refused or a standard stream failed, and 2 where the command line was.\n\nExamples:\n  clearmap dist < map.pbm\n  clearmap serve --connections 2 < map.pbm",
-            )
-            .subcommand_required(true)
-            .subcommand(dist_command(alloc)?)?
-            .subcommand(steps_command(alloc))?
-            .subcommand(serve_command(alloc)?)?
-            .subcommand(ask_command(alloc)?)?,
-    )
-}
-
-/// The command `dist` and its flags.
-fn dist_command<'a>(alloc: Global) -> Result<Command<'a>, Error>
-    ensures app { IfOk result (λ command. app_of command ≡ dist_app) }
-    ensures local { IfOk result (λ command. (out-Command command).has_globals ≡ false) }
-    ensures memory { IfErr result (λ error. kind_of error ≡ OutOfMemory) }
-{
-    Ok(
-        Command::new(alloc, "dist")
-            .override_usage("clearmap dist [OPTIONS] < IMAGE")
-            .about(
-                "Print each cell's distance to the nearest obstacle of the image on standard input",
-            )
-            .after_help(
-                "Standard input is an image, PBM plain (P1) or raw (P4), 1 to 4096 pixels a side; a black pixel is an\nobstacle. Each line of the answer is a row of distances, and '-' stands where there is no obstacle.\nStatus 1: a fault of the image or the line is one line in its place, as 'ERR 15 BadImage BadMagic', or a\nstandard stream failed. Status 2: the command line was refused.\n\nExamples:\n  clearmap dist --metric chess < map.pbm\n  clearmap dist --query 'AT euclid2 3 4' < map.pbm\n  clearmap dist --edge wall --nearest < map.pbm\n  clearmap dist --workers 4 < map.pbm",
-            )
-            .arg(default_flag(
-                alloc,
-                "metric",
-                "METRIC",
-                "euclid2",
-                "The distance, in cells: euclid2 (straight, squared), city or chess",
-            ))?
-            .arg(nearest_flag(alloc))?
-            .arg(query_flag(alloc))?
-            .arg(default_flag(
-                alloc,
-                "workers",
-                "NUMBER",
-                "1",
-                "How many workers share the rows, 1 to 16",
-            ))?
-            .arg(edge_flag(alloc))?,
-    )
-}
-
-/// The command `steps`, which has no flags.
-fn steps_command<'a>(alloc: Global) -> Command<'a>
-    ensures app { app_of result ≡ steps_app }
-    ensures local { (out-Command result).has_globals ≡ false }
-{
-    Command::new(alloc, "steps")
-        .override_usage("clearmap steps < EVENTS")
-        .about(
-            "Do the events on standard input in a map with numbered versions, one word at a time",
-        )
+    let program = Command::new(alloc, "clearmap")
+        .version("0.3.0")
+        .about("Exact distances to the nearest obstacle of an occupancy grid")
         .after_help(
-            "The first line is OPEN and six numbers: the columns and rows of a blank map, its blocks,\nversions, sessions and the length of its log. Each line after it is one of these, and gets\none answer line:\n  A r      reader r announces the newest version that it has seen, and those after it\n  L r      it loads the newest version, and holds it if it has announced\n  M r k    it looks up the block of position k\n  T r b i  it looks at row i of block b\n  E r      it announces the version that it holds, and no other\n  V r      it leaves\n  C LINE   the keeper gets a command: PAINT x0 y0 x1 y1, CLEAR x0 y0 x1 y1, PUBLISH, REVERT, COLLECT,\n           CHECKPOINT\n  K n      the keeper does the next n steps of its command\n\nExample:\n  printf 'OPEN 64 64 3 2 1 10\\nC PAINT 0 0 1 1\\nK 1\\n' | clearmap steps",
+            "An image is PBM, plain (P1) or raw (P4), 1 to 4096 pixels a side; a black pixel is an obstacle. The map of\na robot has unknown cells besides, which whoever makes the image makes obstacles or free cells.\n\nAnswers and refusals go to standard output. The exit status is 0 where all was done, 1 where the\ninput or the network was refused or a standard stream failed, and 2 where the command line was.\n\nExamples:\n  clearmap dist < map.pbm\n  clearmap serve --connections 2 < map.pbm",
         )
+        .subcommand_required(true);
+    with_commands(alloc, program, &COMMANDS)
 }
 
-/// The flag `--nearest`.
-fn nearest_flag<'a>(alloc: Global) -> Arg<'a>
-    ensures rule { rule_of result ≡ nearest_rule }
-    ensures local { result.global ≡ false }
+/// The program with these commands, too.
+fn with_commands<'a>(
+    alloc: Global,
+    program: Command<'a>,
+    entries: &[Entry<'a>],
+) -> Result<Command<'a>, AllocError>
+    ensures { IfOk result (λ made. app_of made ≡ with_entries (app_of program.entry) entries.now) }
 {
-    Arg::new(alloc, "nearest")
-        .long("nearest")
-        .action(ArgAction::SetTrue)
-        .help("Print each entry as distance/x/y, with its nearest obstacle")
+    let mut made = program;
+    for entry in entries {
+        let command = command_of(alloc, *entry)?;
+        made = made.subcommand(command)?;
+    }
+    Ok(made)
 }
 
-/// The flag `--query`.
-fn query_flag<'a>(alloc: Global) -> Arg<'a>
-    ensures rule { rule_of result ≡ query_rule }
+/// A command and its flags.
+fn command_of<'a>(alloc: Global, entry: Entry<'a>) -> Result<Command<'a>, AllocError>
+    ensures app { IfOk result (λ command. app_of command ≡ app_of_entry entry.entry) }
+    ensures local { IfOk result (λ command. (out-Command command).has_globals ≡ false) }
+{
+    let command = Command::new(alloc, entry.name)
+        .override_usage(entry.usage)
+        .about(entry.about)
+        .after_help(entry.after_help);
+    with_flags(alloc, command, entry.flags)
+}
+
+/// The command with these flags, too.
+fn with_flags<'a>(
+    alloc: Global,
+    command: Command<'a>,
+    flags: &[Flag<'a>],
+) -> Result<Command<'a>, AllocError>
+    ensures app { IfOk result (λ made. app_of made ≡ with_flag_rules (app_of command.entry)
+        flags.now) }
+    ensures local { IfOk result (λ made. (out-Command command.entry).has_globals ≡ false
+        → (out-Command made).has_globals ≡ false) }
+{
+    let mut made = command;
+    for flag in flags {
+        made = made.arg(flag_of(alloc, *flag))?;
+    }
+    Ok(made)
+}
+
+/// A flag.
+fn flag_of<'a>(alloc: Global, flag: Flag<'a>) -> Arg<'a>
+    ensures rule { rule_of result ≡ rule_of_flag flag.entry }
     ensures local { result.global ≡ false }
 {
-    Arg::new(alloc, "query")
-        .long("query")
-        .value_name("LINE")
-        .help(
-            "Print only the answer to LINE, as 'AT city 3 4'; there are AT, RECT, PATH and CLEAROF",
-        )
+    let arg = Arg::new(alloc, flag.name).long(flag.name).help(flag.help);
+    match flag.takes {
+        Takes::Nothing => arg.action(ArgAction::SetTrue),
+        Takes::Value(kind) => arg.value_name(kind),
+        Takes::Required(kind) => arg.value_name(kind).required(true),
+        Takes::Default(kind, value) => arg.value_name(kind).default_value(value),
+    }
 }

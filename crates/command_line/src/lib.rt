@@ -5,6 +5,7 @@ mod arguments;
 mod commands;
 mod refusing;
 mod serve_words;
+mod tables;
 
 pub use arguments::{AskOptions, DistOptions, Fault, Options, ServeOptions};
 pub use commands::options;

@@ -1,5 +1,5 @@
 -- A world that is opened, by its parts.
-use Rattle.map_core.proofs.Names.{rules, ◌≡◌, ℕ, zero, suc, ◌-◌, ◌<◌, ◌≤◌, List, [], ◌∷◌, length}
+use Rattle.map_core.proofs.Names.{rules, ◌≡◌, ℕ, zero, suc, ◌-◌, ◌≤◌, List, [], ◌∷◌, length}
 use Rattle.map_core.proofs.Names.{map, replicate, refl, ap, subst, sym, ◌∙◌, arith, None, false}
 use Rattle.map_core.proofs.Names.{slice_get, range_with_len, length-replicate, Cells, Entry}
 use Rattle.map_core.proofs.Names.{get_or-replicate, IsBitmap, cells_where, tile_count, Base}

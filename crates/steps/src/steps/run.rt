@@ -72,28 +72,24 @@ fn answer_lines<W: Sink>(
 /// Writes the number of positions of a world's map, and the answers to the lines of a text.
 fn write_world<W: Sink>(
     alloc: Global,
-    opened: Opened,
+    opened: &mut Opened,
     lines: &[u8],
     writer: &mut W,
 ) -> Result<u8, WriteFault>
     requires { CanFail (W.failed_writes writer.old) }
     ensures status { IfOk result (λ status. status ≡ 0) }
     ensures whole { OnOk result
-        (IsWorldTold opened.world opened.tiles (lines_of lines.now) (W.held writer.old)
+        (IsWorldTold opened.old.world opened.old.tiles (lines_of lines.now) (W.held writer.old)
         (W.held writer.new)) }
     ensures front { OnErr result
-        (IsToldInPart opened.world opened.tiles (lines_of lines.now) (W.held writer.old)
+        (IsToldInPart opened.old.world opened.old.tiles (lines_of lines.now) (W.held writer.old)
         (W.held writer.new)) }
     ensures counts { Counts (W.failed_writes writer.old) result (W.failed_writes writer.new) }
 {
-    let Opened {
-        mut world,
-        tiles,
-        mut text,
-    } = opened;
-    opened_line(tiles, &mut text);
+    let (world, text) = (&mut opened.world, &mut opened.text);
+    opened_line(opened.tiles, text);
     writer.write_all(text.as_bytes())?;
-    answer_lines(alloc, &mut world, &mut text, lines, writer)?;
+    answer_lines(alloc, world, text, lines, writer)?;
     writer.flush()?;
     Ok(DONE)
 }
@@ -110,7 +106,7 @@ pub fn write_steps<W: Sink>(alloc: Global, bytes: &[u8], writer: &mut W) -> Resu
         return write_refusal(writer, Refusal::BadArguments);
     };
     match Opened::of(alloc, first) {
-        Ok(opened) => write_world(alloc, opened, later, writer),
+        Ok(mut opened) => write_world(alloc, &mut opened, later, writer),
         Err(refusal) => write_refusal(writer, refusal),
     }
 }

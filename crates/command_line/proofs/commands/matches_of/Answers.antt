@@ -11,4 +11,4 @@ pub returns-clause-passes : goal.returns-clause-passes
 returns-clause-passes c =
     subst (λ (app : App). IfErr c.try_get_matches_from.result
     (λ error. takes app (texts_of c.args.words.now) ≡ true → kind_of error ≡ OutOfMemory))
-    c.in_ok-program.ensures.app c.try_get_matches_from.ensures.passes
+    c.in_ok-program.ensures c.try_get_matches_from.ensures.passes

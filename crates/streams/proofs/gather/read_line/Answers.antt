@@ -1,6 +1,6 @@
 -- Another byte joins what was gathered, and the line ends at the first LF; at the reader's end
 -- there was none.
-use Rattle.std.proofs.Common.{◌∙◌, arith, rules}
+use Rattle.std.proofs.Common.{◌+◌, ◌∙◌, ap, arith, rules}
 use Rattle.std.proofs.lemmas.Result.{err_from_is_err_and}
 use Rattle.streams.proofs.CutLines.{line_behind}
 use Rattle.streams.proofs.Gathering.{Gathers-both, taken_behind, PutsLine-end, PutsUnended-more}
@@ -44,3 +44,20 @@ returns-in_err-read_byte-clause-part g c =
     let p = err_from_is_err_and c.from_residual.result c.from_residual.ensures.1 in
     rw p.1 (line_behind _ _ _ _ _ c.bytes.invariant.gathered c.bytes.invariant.unended
     c.in_err-read_byte.ensures.part)
+
+pub returns-in_err-read_byte-clause-failed : goal.returns-in_err-read_byte-clause-failed
+returns-in_err-read_byte-clause-failed g c = λ failed.
+    c.read_byte.ensures.failed (search rules)
+    ∙ ap (λ n. n + 1) c.bytes.invariant.none_failed
+
+pub returns-in_err-read_byte-clause-written : goal.returns-in_err-read_byte-clause-written
+returns-in_err-read_byte-clause-written g c =
+    c.read_byte.ensures.written ∙ c.bytes.invariant.written
+
+pub returns-then-branch-eq10-clause-written : goal.returns-then-branch-eq10-clause-written
+returns-then-branch-eq10-clause-written g c =
+    c.read_byte.ensures.written ∙ c.bytes.invariant.written
+
+pub returns-then-branch-eq10-clause-counts : goal.returns-then-branch-eq10-clause-counts
+returns-then-branch-eq10-clause-counts g c = λ _.
+    c.in_ok-read_byte.ensures.counts (λ e. absurd cc) ∙ c.bytes.invariant.none_failed

@@ -1,0 +1,26 @@
+-- One more flag is given to the command.
+use Rattle.std.proofs.Common.{◌≡◌, ◌∙◌, ℕ, ◌+◌, ◌<◌, List, ◌||◌, length, get_or, drop, drop-cons}
+use Rattle.std.proofs.Common.{add-one, ap, ap₂, refl, sym}
+use Rattle.clap.specs.Words.{App, app_of, with_rule}
+use Rattle.command_line.specs.Tables.{rule_of_flag, with_flag_rules}
+use Rattle.command_line.specs.declared.tables.Flag.{Flag}
+use Rattle.command_line.proofs.commands.with_flags.Goals as goal
+
+-- the flags from a place on give what the one there and then those after it give
+from_place : (app : App) (flags : List Flag) (i : ℕ) (other : Flag) → i < length flags
+    → with_flag_rules app (drop i flags)
+    ≡ with_flag_rules (with_rule app (rule_of_flag (get_or flags i other))) (drop (i + 1) flags)
+from_place app flags i other within = rw (add-one, drop-cons flags i other) refl
+
+pub loop-flag-preserved : goal.loop-flag-preserved
+loop-flag-preserved c =
+    let added = c.in_ok-made.ensures in
+    let flag = c.flag_of.ensures in
+    let so_far = c.loop-flag.invariant in
+    let place = c.loop-flag.flag-index in
+    record {
+      app = ap (λ (app : App). with_flag_rules app (drop (place + 1) c.args.flags.now))
+          (added.shape flag.local ∙ ap (with_rule (app_of c.loop-flag.made)) flag.rule)
+          ∙ (sym (from_place _ c.args.flags.now place _ c.loop-flag-test.true) ∙ so_far.app);
+      local = λ none. added.globals ∙ ap₂ ◌||◌ (so_far.local none) flag.local;
+    }
