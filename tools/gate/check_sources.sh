@@ -7,7 +7,7 @@
 set -u
 cd "$(dirname "$0")/../.." || exit 1
 export PYTHONDONTWRITEBYTECODE=1
-for test in check_memory prove_below try_edits; do
+for test in check_memory proof_times prove_below try_edits; do
     echo "tools/gate/test_$test.py"
     timeout 60 python3 "tools/gate/test_$test.py" || exit 1
 done
