@@ -2,7 +2,7 @@
 //! from outside.
 
 ghost use Rattle.std.specs.Prelude.{◌≡◌};
-ghost use Rattle.proto.specs.Wire.{CanGoOn};
+ghost use Rattle.line_io.specs.Wire.{CanGoOn};
 
 mod asked;
 mod failing;
