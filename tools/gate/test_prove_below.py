@@ -90,23 +90,30 @@ class Below(unittest.TestCase):
         self.assertEqual(first, "low lib --jobs 3: low, kept: ../*/out/kept")
         self.assertEqual(sorted(rest), [
             f"long lib --jobs 2: low long, {below}",
-            f"short lib --jobs 1: low short, {below}",
+            f"short lib --jobs 2: low short, {below}",
         ])
 
-    def test_a_small_one_gets_one_job(self):
-        """Also where more processors are free, unless nothing is below it."""
+    def jobs(self, at_once):
+        """What rt is called for, first for low, and then sorted."""
+        self.assertEqual(self.prove("--at-once", str(at_once))[0], 0)
+        low, *others = [line.split(":")[0] for line in self.noted()]
+        return [low, *sorted(others)]
+
+    def test_a_small_one_gets_two_jobs_if_it_comes_first(self):
+        """No more, also where more processors are free, unless nothing is below it."""
         (self.top / "crates.txt").write_text("low: std_alloc\nshort: low\ntop: short\n")
-        self.assertEqual(self.prove("--at-once", "3")[0], 0)
-        jobs = [line.split(":")[0] for line in self.noted()]
-        self.assertEqual(jobs, ["low lib --jobs 3", "short lib --jobs 1"])
+        self.assertEqual(self.jobs(4), ["low lib --jobs 4", "short lib --jobs 2"])
+
+    def test_a_small_one_gets_one_job_beside_a_longer_way(self):
+        self.make("short", 1)
+        jobs = ["low lib --jobs 4", "long lib --jobs 3", "short lib --jobs 1"]
+        self.assertEqual(self.jobs(4), jobs)
 
     def test_a_very_large_one_gets_two_jobs(self):
-        """Also where only one processor is left to it."""
-        self.make("long", 3000, proofs=9000, seconds=0)
-        self.assertEqual(self.prove("--at-once", "2")[0], 0)
-        low, *jobs = [line.split(":")[0] for line in self.noted()]
-        self.assertEqual(low, "low lib --jobs 2")
-        self.assertEqual(sorted(jobs), ["long lib --jobs 2", "short lib --jobs 1"])
+        """Also where it doesn't come first and no processor is left to it."""
+        self.make("short", 1, proofs=12000)
+        jobs = ["low lib --jobs 2", "long lib --jobs 2", "short lib --jobs 2"]
+        self.assertEqual(self.jobs(2), jobs)
 
     def test_the_longest_way_comes_first(self):
         """By lines of source, and what each crate on the way takes before them: proofs don't count,
@@ -182,7 +189,7 @@ class Below(unittest.TestCase):
         crates = [line.split()[0] for line in self.notes.read_text().splitlines()]
         self.assertEqual(crates, ["low", "low", "long", "long", "short", "short"])
         jobs = [line.split(":")[0] for line in self.noted()]
-        self.assertEqual(jobs, ["low lib", "long lib", "short lib --jobs 1"])
+        self.assertEqual(jobs, [f"{name} lib --jobs 1" for name in ("low", "long", "short")])
 
 
 if __name__ == "__main__":

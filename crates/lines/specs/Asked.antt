@@ -27,6 +27,13 @@ asked_by (queries.Rect metric r) = rect metric r.x0 r.y0 r.x1 r.y1
 asked_by (queries.Path metric points) = path metric points.items
 asked_by (queries.ClearOf metric d points) = clear_of metric d points.items
 
+-- the metric that a query asks for
+abbrev pub metric_asked : QueryView → MetricKind
+metric_asked (at metric cell) = metric
+metric_asked (rect metric x0 y0 x1 y1) = metric
+metric_asked (path metric points) = metric
+metric_asked (clear_of metric d points) = metric
+
 -- a query has points, which need memory
 abbrev pub HasPoints : QueryView → Type 0
 HasPoints (at metric cell) = ⊥

@@ -1,6 +1,5 @@
 pub mod Corners
 pub mod Asked
-pub mod Queries
 pub mod Replies
 pub mod Said
 pub mod Told

@@ -4,7 +4,6 @@
 #![tactic(auto)]
 
 mod answer;
-mod answering;
 mod arguments;
 mod command;
 mod line;
@@ -14,7 +13,6 @@ mod text;
 mod verb;
 
 pub use answer::Answer;
-pub use answering::{answer_of, answer_query};
 pub use command::{read_order, read_stamp};
 pub use line::{Line, MOST_COUNTED, parse_line};
 pub use query::{Query, read_query};

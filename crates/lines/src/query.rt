@@ -40,7 +40,7 @@ pub enum Query {
 }
 
 impl Query {
-    ghost use Rattle.lines.specs.Queries.{metric_asked};
+    ghost use Rattle.lines.specs.Asked.{metric_asked};
 
     /// The metric that the query asks for.
     pub fn metric(&self) -> MetricKind

@@ -9,7 +9,7 @@ use Rattle.lines.specs.declared.answer.Answer.{Answer}
 use Rattle.lines.specs.declared.answer.Answer.TheVariants as answers
 use Rattle.lines.specs.Asked.{QueryView}
 use Rattle.lines.specs.Asked as queries
-use Rattle.lines.specs.Queries.{IsAnswerBy}
+use Rattle.answering.specs.Queries.{IsAnswerBy}
 use Rattle.bits.specs.Cells.{Cells}
 use Rattle.lines.specs.Said.{LineView}
 use Rattle.lines.specs.Said as saids

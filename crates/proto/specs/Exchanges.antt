@@ -15,12 +15,12 @@ use Rattle.events.specs.declared.command.Command.TheVariants as commands
 use Rattle.shelf.specs.Store.{StoreId}
 use Rattle.lines.specs.declared.answer.Answer.{Answer}
 use Rattle.lines.specs.declared.answer.Answer.TheVariants as answers
-use Rattle.lines.specs.Asked.{QueryView, HasPoints}
-use Rattle.lines.specs.Queries.{IsAnswerBy, metric_asked}
+use Rattle.lines.specs.Asked.{QueryView, HasPoints, metric_asked}
 use Rattle.lines.specs.Told.{told_by}
 use Rattle.lines.specs.declared.line.Line.{Line}
 use Rattle.lines.specs.Said.{LineView, said, said_by}
 use Rattle.lines.specs.Said as saids
+use Rattle.answering.specs.Queries.{IsAnswerBy}
 use Rattle.line_io.specs.Lines.{IsLine}
 use Rattle.line_io.specs.Saying.{IsDump}
 use Rattle.proto.specs.Callers.{CallerValue, bitmap_held, IsCommanded, IsPinAnswer, IsRefusedAs}

@@ -5,11 +5,12 @@
 mod serve;
 mod workers;
 
+pub use answering::{answer_of, answer_query};
 pub use clearance::{Bordered, Queried};
 pub use line_io::End;
 pub use lines::{
-    Answer, CommandName, Line, MOST_COUNTED, Query, QueryKind, Text, Verb, answer_of, answer_query,
-    parse_line, put_answer, read_order, read_query, read_stamp, reply_text, split_verb, verb_of,
+    Answer, CommandName, Line, MOST_COUNTED, Query, QueryKind, Text, Verb, parse_line, put_answer,
+    read_order, read_query, read_stamp, reply_text, split_verb, verb_of,
 };
 pub use serve::serve_stream;
 pub use words::{

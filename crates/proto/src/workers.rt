@@ -129,10 +129,7 @@ fn serve_all<Id: StoreName, R: Wait, T: Streams>(
 
 /// Puts each session into a seat, the last one first; `room` has capacity for them. Returns the
 /// empty buffer of the sessions, and the seats.
-fn seat_all<Id: StoreName>(
-    sessions: Vec<Session<Id>>,
-    room: Vec<Option<Session<Id>>>,
-) -> (Vec<Session<Id>>, Vec<Option<Session<Id>>>)
+fn seat_all<S>(sessions: Vec<S>, room: Vec<Option<S>>) -> (Vec<S>, Vec<Option<S>>)
     requires empty { room.items ≡ [] }
     requires room { length sessions.items ≤ vec_capacity room }
     ensures empty { result.0.items ≡ [] }
@@ -149,10 +146,7 @@ fn seat_all<Id: StoreName>(
 }
 
 /// Takes the sessions out of their seats, the last one first.
-fn unseat_all<Id: StoreName>(
-    seats: Vec<Option<Session<Id>>>,
-    empty: Vec<Session<Id>>,
-) -> Vec<Session<Id>>
+fn unseat_all<S>(seats: Vec<Option<S>>, empty: Vec<S>) -> Vec<S>
     requires empty { empty.items ≡ [] }
     requires room { length seats.items ≤ vec_capacity empty }
     requires full { All IsSome seats.items }

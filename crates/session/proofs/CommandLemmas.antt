@@ -7,7 +7,8 @@ use Rattle.events.specs.declared.command.Reply.{Reply}
 use Rattle.shelf.specs.Store.{StoreId}
 use Rattle.shelf.specs.Roles.{ReaderView}
 use Rattle.desk.specs.Desks.{DeskView, IsApplied}
-use Rattle.session.specs.Sessions.{Size, IsSession}
+use Rattle.copies.specs.Copies.{Size}
+use Rattle.session.specs.Sessions.{IsSession}
 
 -- the seat has announced what it had, and holds what it did
 pub record HoldsStill (x y : ReaderView) : Type 0 where

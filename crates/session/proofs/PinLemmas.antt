@@ -25,8 +25,9 @@ use Rattle.shelf.proofs.logs.LogParts.{prefix-entries}
 use Rattle.shelf.specs.Roles.{ReaderView, entries, as_reader}
 use Rattle.shelf.specs.Steps.{announcing, confirming, loaded, newest_slot}
 use Rattle.shelf.proofs.seats.ReaderSeats.{hold_stays}
-use Rattle.session.specs.Sessions.{PinView, HasReadBands, IsPin, bitmap_pinned}
-use Rattle.session.proofs.BandCopies.{nothing_read}
+use Rattle.copies.specs.Copies.{HasReadBands}
+use Rattle.copies.proofs.BandCopies.{nothing_read}
+use Rattle.session.specs.Sessions.{PinView, IsPin, bitmap_pinned}
 
 -- a load by a seat that holds, or has announced nothing, changes what it has seen alone
 pub seen_alone : (z : Base) (x y : ReaderView) → (x.announced ≡ None)

@@ -1,22 +1,21 @@
 -- What contracts see of pins and of sessions: this project's own rule.
-use Rattle.std.specs.Prelude.{◌≡◌, ◌+◌, ◌/◌, ◌<◌, ◌≤◌, ℕ, All, List, drop, length, map, sum_by}
-use Rattle.std.specs.Prelude.{Result, Some, None}
+use Rattle.std.specs.Prelude.{◌≡◌, ◌+◌, ◌≤◌, ℕ, All, List, drop, length, map, sum_by, Result, Some}
+use Rattle.std.specs.Prelude.{None}
 use Rattle.std.specs.List.{range_with_len}
 use mathlib.Core.List.{IsPrefix}
-use Rattle.std.specs.Int.{bit_at}
-use Rattle.bits.specs.Cells.{Cells, has, IsBitmap, IsInside}
+use Rattle.bits.specs.Cells.{Cells}
 use Rattle.metric.specs.declared.refusal.Refusal.{Refusal}
 use Rattle.events.specs.declared.command.Command.{Command}
 use Rattle.events.specs.declared.command.Reply.{Reply}
 use Rattle.events.specs.declared.kept.Seen.TheVariants.{Exact}
-use Rattle.events.specs.Story.{newest, bitmap_of}
-use Rattle.events.specs.Words.{slot_of}
+use Rattle.events.specs.Story.{newest}
 use Rattle.events.specs.Views.{story}
-use Rattle.events.specs.Tidy.{IsReady, IsOfMap}
+use Rattle.events.specs.Tidy.{IsReady}
 use Rattle.shelf.specs.declared.store_entry.StoreEntry.{StoreEntry}
 use Rattle.shelf.specs.Store.{StoreId, readers_of}
 use Rattle.shelf.specs.Roles.{ReaderView, entries, reader_at_opening, made_by}
 use Rattle.events.specs.Legal.{IsLegal}
+use Rattle.copies.specs.Copies.{Size, IsCopying, bitmap_seen}
 use Rattle.desk.specs.Desks.{DeskView, IsApplied, base_place}
 
 -- a pin has its session's seat, and the version that it holds
@@ -27,10 +26,6 @@ pub record PinView : Type 0 where
 -- the newest version that a session has seen
 abbrev pub newest_of_session : StoreId → ReaderView → ℕ
 newest_of_session store seat = newest (story store.base (entries seat.seen))
-
--- the bitmap published as a version, by what a session has seen
-abbrev pub bitmap_seen : StoreId → ReaderView → ℕ → Cells
-bitmap_seen store seat version = bitmap_of (story store.base (entries seat.seen)) version
 
 -- the bitmap published as a pin's version, by what the pin has seen
 abbrev pub bitmap_pinned : StoreId → PinView → Cells
@@ -57,16 +52,6 @@ pub record IsHandedOut (store : StoreId) (handed : List ReaderView) (base : ℕ)
   pub kept_is : kept ≡ drop base log
   pub last_is : base + length kept ≡ length log
 
--- the size of a map is its width and its height
-pub record Size : Type 0 where
-  pub width : ℕ
-  pub height : ℕ
-
--- a version has this slot, by what one of the store's sessions has seen
-pub record HasSlot (store : StoreId) (x : ReaderView) (version slot : ℕ) : Type 0 where
-  pub slot_is : slot ≡ slot_of store.base (story store.base (entries x.seen)) version
-  pub below : slot < store.base.setting.versions
-
 -- a session announces and holds nothing, and knows the size of its map, which fits the setting
 pub record IsSession (store : StoreId) (x : ReaderView) (size : Size) : Type 0 where
   pub quiet : x.announced ≡ None
@@ -74,23 +59,6 @@ pub record IsSession (store : StoreId) (x : ReaderView) (size : Size) : Type 0 w
   pub ready : IsReady store.base
   pub width_is : size.width ≡ store.base.opening.width
   pub height_is : size.height ≡ store.base.opening.height
-
--- a bitmap has a version's cells in each band of 64 rows whose bit is 0
-abbrev pub HasReadBands : Cells → Cells → ℕ → Type 0
-HasReadBands bitmap cells unread =
-    (x y : ℕ) → IsInside cells x y → bit_at unread (y / 64) ≡ 0 → has bitmap x y ≡ has cells x y
-
--- a seat holds a version with this slot, and a bitmap of its map's size has each band of it whose
--- bit is 0
-pub record IsCopying (store : StoreId) (x : ReaderView) (version slot : ℕ) (bitmap : Cells)
-    (unread : ℕ) : Type 0 where
-  pub held : x.holds ≡ Some version
-  pub slot_is : HasSlot store x version slot
-  pub of_map : IsOfMap store.base (bitmap_seen store x version)
-  pub bitmap_is : IsBitmap bitmap
-  pub width_is : bitmap.width ≡ store.base.opening.width
-  pub height_is : bitmap.height ≡ store.base.opening.height
-  pub read : HasReadBands bitmap (bitmap_seen store x version) unread
 
 -- a pin holds a published version that it has seen, and has announced it exactly
 pub record IsPin (store : StoreId) (p : PinView) (slot : ℕ) (bitmap : Cells) (unread : ℕ) :

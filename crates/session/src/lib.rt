@@ -11,8 +11,6 @@
 
 mod blank;
 mod pinned;
-mod reading;
-mod room;
 mod session;
 mod sessions;
 mod store;

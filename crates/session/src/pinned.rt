@@ -10,17 +10,12 @@ ghost use Rattle.std.specs.Borrow.{sem};
 ghost use Rattle.session.specs.Sessions.{bitmap_pinned, newest_of_session};
 
 mod commands;
-mod copy;
-mod copying;
-mod looks;
 mod queries;
 mod rows;
 
-use crate::room::Room;
 use crate::session::Session;
 use bits::Bitmap;
-pub(crate) use copy::VersionCopy;
-pub(crate) use looks::Looks;
+use copies::{Room, VersionCopy};
 use metric::Edge;
 use shelf::{ReaderSeat, StoreName, Ticket};
 use std::marker::Model;

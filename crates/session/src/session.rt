@@ -11,7 +11,7 @@ ghost use Rattle.session.specs.Sessions.{newest_of_session};
 mod commands;
 
 use crate::pinned::Pinned;
-use crate::room::Room;
+use copies::Room;
 use metric::Refusal;
 use shelf::{ReaderSeat, StoreName, Ticket};
 use std::alloc::Global;

@@ -6,8 +6,8 @@ ghost use Rattle.shelf.specs.Open.{all_newcomers};
 ghost use Rattle.shelf.specs.Store.{readers_of};
 ghost use Rattle.session.specs.Sessions.{IsInLog, all_fresh};
 
-use crate::room::Room;
 use crate::session::Session;
+use copies::Room;
 use shelf::{Closing, FreshReader, StoreName};
 
 /// Names readers, and makes each a session of a map of this size.

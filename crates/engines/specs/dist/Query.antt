@@ -5,13 +5,13 @@ use Rattle.metric.specs.declared.edge.Edge.{Edge}
 use Rattle.metric.specs.declared.refusal.Refusal.{Refusal}
 use Rattle.metric.specs.declared.refusal.Refusal.TheVariants.{Memory, UnknownCommand}
 use Rattle.bits.specs.Cells.{Cells}
-use Rattle.lines.specs.Asked.{QueryView, HasPoints}
-use Rattle.lines.specs.Queries.{IsAnswerBy, metric_asked}
+use Rattle.lines.specs.Asked.{QueryView, HasPoints, metric_asked}
 use Rattle.lines.specs.Said.{LineView, asked, said, verb_in}
 use Rattle.lines.specs.declared.answer.Answer.{Answer}
 use Rattle.lines.specs.declared.answer.Answer.TheVariants.{Refused}
 use Rattle.lines.specs.declared.verb.Verb.{Verb}
 use Rattle.lines.specs.declared.verb.Verb.TheVariants as verbs
+use Rattle.answering.specs.Queries.{IsAnswerBy}
 
 -- what a line of the protocol asks; a name that isn't a query's is unknown, whatever its arguments
 abbrev pub query_said : Option Verb → Result LineView Refusal → Result QueryView Refusal

@@ -5,8 +5,9 @@ ghost use Rattle.metric.specs.declared.refusal.Refusal.{Refusal};
 ghost use Rattle.lines.specs.Asked.{asked_by, HasPoints};
 ghost use Rattle.engines.specs.dist.Query.{IsReplyTo, asked_in, status_of};
 
+use answering::answer_query;
 use bits::Bitmap;
-use lines::{Answer, Query, Verb, answer_query, read_query, split_verb};
+use lines::{Answer, Query, Verb, read_query, split_verb};
 use metric::{Edge, Refusal};
 use std::alloc::Global;
 use streams::{DONE, REFUSED};

@@ -10,9 +10,10 @@ ghost use Rattle.proto.specs.Exchanges.{IsQueryAnswer, WithPin, with_pin};
 ghost use Rattle.proto.specs.Served.{IsDumpSaid};
 ghost use Rattle.line_io.specs.Wire.{CanGoOn};
 
+use answering::answer_of;
 use events::{Command, Reply};
 use line_io::{say, say_dump};
-use lines::{Answer, Query, Text, answer_of};
+use lines::{Answer, Query, Text};
 use metric::{Refusal, Stream, WriteFault};
 use session::{Pinned, Session, Store};
 use shelf::StoreName;

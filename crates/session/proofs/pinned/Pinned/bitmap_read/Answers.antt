@@ -1,7 +1,7 @@
 -- Where no band is left, the bitmap is the version.
 use Rattle.std.proofs.Common.{◌∙◌}
 use Rattle.std.proofs.lemmas.Option.{IfSome_then}
-use Rattle.session.proofs.CopyingLemmas.{whole_copied}
+use Rattle.copies.proofs.CopyingLemmas.{whole_copied}
 use Rattle.session.proofs.pinned.Pinned.bitmap_read.Goals as goal
 
 pub returns : goal.returns

@@ -1,5 +1,5 @@
 -- What was read knows its bands.
-use Rattle.session.proofs.BandCopies.{bands_copied}
+use Rattle.copies.proofs.BandCopies.{bands_copied}
 use Rattle.session.proofs.pinned.rows.PinnedRows.bands.Goals as goal
 
 pub returns : goal.returns

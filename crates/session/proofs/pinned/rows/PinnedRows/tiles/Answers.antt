@@ -1,5 +1,5 @@
 -- What was read knows its tiles.
-use Rattle.session.proofs.BandCopies.{tiles_copied}
+use Rattle.copies.proofs.BandCopies.{tiles_copied}
 use Rattle.session.proofs.pinned.rows.PinnedRows.tiles.Goals as goal
 
 pub returns : goal.returns

@@ -1,0 +1,6 @@
+//! The answer to a query of the protocol, on a bitmap or on the version that a pin holds.
+#![tactic(auto)]
+
+mod queries;
+
+pub use queries::{answer_of, answer_query};

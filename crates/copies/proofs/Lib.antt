@@ -1,0 +1,3 @@
+mod ReadingLemmas
+pub mod BandCopies
+pub mod CopyingLemmas

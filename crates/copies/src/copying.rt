@@ -1,0 +1,165 @@
+//! Reads words, rows and bands of a pin's version into its copy, as a query asks for them.
+
+ghost use Rattle.std.specs.Prelude.{◌≡◌, ℕ, ◌<◌, true, slice_index};
+ghost use Rattle.std.specs.Int.{bit_at};
+ghost use Rattle.bits.specs.Tiles.{tiles_down};
+ghost use Rattle.bits.specs.Words.{words_across};
+ghost use Rattle.clearance.specs.Rows.{IsBlankRow, words_of_row};
+ghost use Rattle.copies.specs.Copies.{bitmap_seen, IsCopying};
+
+use crate::copy::VersionCopy;
+use crate::reading::{blank_words, look_word, read_band};
+use bits::{has_bit, without_bit};
+use clearance::is_blank;
+use metric::BAND_ROWS;
+use shelf::{ReaderSeat, StoreName};
+
+impl VersionCopy {
+    /// Reads a word of row `y` of the held version: from its band's rows, if the band has been
+    /// read, or by a look at this word alone. After many blank words one after another, in
+    /// whichever bands, the word's band is read.
+    #[inline(always)]
+    pub fn word<Id: StoreName>(
+        &mut self,
+        seat: &mut ReaderSeat<Id>,
+        version: u32,
+        slot: u32,
+        y: u16,
+        index: usize,
+    ) -> u64
+        requires copying { IsCopying Id.store seat.old version slot self.old.bitmap
+            self.old.unread }
+        requires row { y < (bitmap_seen Id.store seat.old version).height }
+        requires index { index < words_across (bitmap_seen Id.store seat.old version).width }
+        ensures seat { seat.new ≡ seat.old }
+        ensures copying { IsCopying Id.store seat.old version slot self.new.bitmap
+            self.new.unread }
+        ensures word { result ≡ slice_index
+            (words_of_row (bitmap_seen Id.store seat.old version) y) index }
+    {
+        let band = y / BAND_ROWS;
+        if self.is_looked_at(band, 1) {
+            let across = u32::from(self.bitmap.width()).div_ceil(64);
+            let word = look_word(seat, version, slot, across, y, index as u32);
+            self.looks.count_word(word);
+            return word;
+        }
+        self.word_read(seat, version, slot, y, index)
+    }
+
+    /// As `word`, from the band's rows. A call of its own, so that searches have less code.
+    #[inline(never)]
+    fn word_read<Id: StoreName>(
+        &mut self,
+        seat: &mut ReaderSeat<Id>,
+        version: u32,
+        slot: u32,
+        y: u16,
+        index: usize,
+    ) -> u64
+        requires copying { IsCopying Id.store seat.old version slot self.old.bitmap
+            self.old.unread }
+        requires row { y < (bitmap_seen Id.store seat.old version).height }
+        requires index { index < words_across (bitmap_seen Id.store seat.old version).width }
+        ensures seat { seat.new ≡ seat.old }
+        ensures copying { IsCopying Id.store seat.old version slot self.new.bitmap
+            self.new.unread }
+        ensures word { result ≡ slice_index
+            (words_of_row (bitmap_seen Id.store seat.old version) y) index }
+    {
+        self.looks.count_read();
+        self.ready(seat, version, slot, y / BAND_ROWS);
+        self.bitmap.row_words(y)[index]
+    }
+
+    /// Whether no cell of row `y` of the held version is an obstacle, read as `word` does.
+    pub fn is_blank<Id: StoreName>(
+        &mut self,
+        seat: &mut ReaderSeat<Id>,
+        version: u32,
+        slot: u32,
+        y: u16,
+    ) -> bool
+        requires copying { IsCopying Id.store seat.old version slot self.old.bitmap
+            self.old.unread }
+        requires row { y < (bitmap_seen Id.store seat.old version).height }
+        ensures seat { seat.new ≡ seat.old }
+        ensures copying { IsCopying Id.store seat.old version slot self.new.bitmap
+            self.new.unread }
+        ensures blank { result ≡ true → IsBlankRow (bitmap_seen Id.store seat.old version) y }
+    {
+        let band = y / BAND_ROWS;
+        let across = u32::from(self.bitmap.width()).div_ceil(64);
+        if self.is_looked_at(band, across) {
+            let blank = blank_words(seat, version, slot, across, y);
+            self.looks.count_row(across, blank);
+            return blank == across;
+        }
+        self.looks.count_read();
+        self.ready(seat, version, slot, band);
+        is_blank(self.bitmap.row_words(y))
+    }
+
+    /// Reads a band of the held version, unless it has been read.
+    #[inline(always)]
+    fn ready<Id: StoreName>(
+        &mut self,
+        seat: &mut ReaderSeat<Id>,
+        version: u32,
+        slot: u32,
+        band: u16,
+    )
+        requires copying { IsCopying Id.store seat.old version slot self.old.bitmap
+            self.old.unread }
+        requires band { band < tiles_down self.old.bitmap.height }
+        requires few { band < 64 }
+        ensures seat { seat.new ≡ seat.old }
+        ensures copying { IsCopying Id.store seat.old version slot self.new.bitmap
+            self.new.unread }
+        ensures ready { bit_at self.new.unread band ≡ 0 }
+        ensures kept { (k : ℕ) → k < 64 → bit_at self.old.unread k ≡ 0
+            → bit_at self.new.unread k ≡ 0 }
+    {
+        if has_bit(self.unread, band) {
+            self.read(seat, version, slot, band);
+        }
+    }
+
+    /// Reads a band of the held version.
+    #[inline(never)]
+    fn read<Id: StoreName>(&mut self, seat: &mut ReaderSeat<Id>, version: u32, slot: u32, band: u16)
+        requires copying { IsCopying Id.store seat.old version slot self.old.bitmap
+            self.old.unread }
+        requires band { band < tiles_down self.old.bitmap.height }
+        requires few { band < 64 }
+        ensures seat { seat.new ≡ seat.old }
+        ensures copying { IsCopying Id.store seat.old version slot self.new.bitmap
+            self.new.unread }
+        ensures ready { bit_at self.new.unread band ≡ 0 }
+        ensures kept { (k : ℕ) → k < 64 → bit_at self.old.unread k ≡ 0
+            → bit_at self.new.unread k ≡ 0 }
+    {
+        read_band(seat, version, slot, band, &mut self.bitmap);
+        self.unread = without_bit(self.unread, band);
+        self.looks.count_band();
+    }
+
+    /// Reads all bands of the held version that haven't been read.
+    pub fn read_rest<Id: StoreName>(&mut self, seat: &mut ReaderSeat<Id>, version: u32, slot: u32)
+        requires copying { IsCopying Id.store seat.old version slot self.old.bitmap
+            self.old.unread }
+        ensures seat { seat.new ≡ seat.old }
+        ensures copying { IsCopying Id.store seat.old version slot self.new.bitmap
+            self.new.unread }
+        ensures bitmap { self.new.bitmap ≡ bitmap_seen Id.store seat.old version }
+    {
+        if self.unread == 0 {
+            return;
+        }
+        let down = self.bitmap.height().div_ceil(BAND_ROWS);
+        'bands: for band in 0..down {
+            self.ready(seat, version, slot, band);
+        }
+        self.unread = 0;
+    }
+}

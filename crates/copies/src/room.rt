@@ -1,0 +1,83 @@
+//! The copy of a version that a pin reads into, which a session keeps from one pin to the next.
+
+ghost use Rattle.std.specs.Prelude.{◌≡◌, ℕ, ◌<◌, IfOk, IfErr};
+ghost use Rattle.std.specs.Int.{bit_at};
+ghost use Rattle.bits.specs.Cells.{IsBitmap, IsSide};
+ghost use Rattle.bits.specs.Tiles.{tiles_down};
+ghost use Rattle.metric.specs.declared.refusal.Refusal.TheVariants.{Memory};
+
+use crate::copy::VersionCopy;
+use bits::Bitmap;
+use metric::Refusal;
+use std::alloc::{AllocError, Global};
+use std::marker::Model;
+
+/// The size of a store's map, and a copy of that size if a pin has left one. Contracts see the
+/// size.
+#[derive(Drop)]
+pub struct Room {
+    width: u16,
+    height: u16,
+    copy: Option<Box<VersionCopy>>,
+}
+
+impl Model for Room {
+    ghost use Rattle.std.specs.Prelude.{◌≡◌, IfSome};
+    ghost use Rattle.copies.specs.Copies.{Size};
+
+    ghost Value = { Size };
+
+    ghost view = { λ r. record { width = r.width; height = r.height } };
+
+    ghost invariant = { λ r. IfSome r.copy (λ copy. (copy.value.bitmap.width ≡ r.width)
+        × (copy.value.bitmap.height ≡ r.height)) };
+}
+
+impl Room {
+    /// Only the size: the first pin makes the copy.
+    pub fn empty(width: u16, height: u16) -> Room
+        ensures { result ≡ record { width = width; height = height } }
+    {
+        Room {
+            width,
+            height,
+            copy: None,
+        }
+    }
+
+    /// Holds this copy, which a pin has left.
+    pub fn with(copy: Box<VersionCopy>) -> Room
+        ensures { result ≡ record {
+          width = copy.value.bitmap.width;
+          height = copy.value.bitmap.height;
+        } }
+    {
+        Room {
+            width: copy.bitmap.width(),
+            height: copy.bitmap.height(),
+            copy: Some(copy),
+        }
+    }
+
+    /// A copy of this size of which no band has been read, in a bitmap with any cells: the one that
+    /// a pin has left, or a new one. Fails only when out of memory.
+    pub fn take(&mut self, alloc: Global) -> Result<Box<VersionCopy>, Refusal>
+        requires width { IsSide self.old.width }
+        requires height { IsSide self.old.height }
+        ensures room { self.new ≡ self.old }
+        ensures bitmap { IfOk result (λ copy. IsBitmap copy.value.bitmap) }
+        ensures size { IfOk result (λ copy. (copy.value.bitmap.width ≡ self.old.width)
+            × (copy.value.bitmap.height ≡ self.old.height)) }
+        ensures unread { IfOk result (λ copy. (k : ℕ) → k < tiles_down copy.value.bitmap.height
+            → bit_at copy.value.unread k ≡ 1) }
+        ensures memory { IfErr result (λ refusal. refusal ≡ Memory) }
+    {
+        if let Some(mut copy) = self.copy.take() {
+            copy.renew();
+            return Ok(copy);
+        }
+        let bitmap = Bitmap::blank(alloc, self.width, self.height)?;
+        let copy = Box::new(alloc, VersionCopy::fresh(bitmap)).map_err(AllocError::from)?;
+        Ok(copy)
+    }
+}
