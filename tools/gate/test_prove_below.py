@@ -89,8 +89,8 @@ class Below(unittest.TestCase):
         first, *rest = self.noted()
         self.assertEqual(first, "low lib --jobs 3: low, kept: ../*/out/kept")
         self.assertEqual(sorted(rest), [
-            f"long lib --jobs 2: low long, {below}",
-            f"short lib --jobs 2: low short, {below}",
+            f"long lib --jobs 1: low long, {below}",
+            f"short lib --jobs 1: low short, {below}",
         ])
 
     def jobs(self, at_once):
@@ -99,20 +99,15 @@ class Below(unittest.TestCase):
         low, *others = [line.split(":")[0] for line in self.noted()]
         return [low, *sorted(others)]
 
-    def test_a_small_one_gets_two_jobs_if_it_comes_first(self):
-        """No more, also where more processors are free, unless nothing is below it."""
+    def test_one_gets_one_job(self):
+        """Also where more processors are free, unless nothing is below it."""
         (self.top / "crates.txt").write_text("low: std_alloc\nshort: low\ntop: short\n")
-        self.assertEqual(self.jobs(4), ["low lib --jobs 4", "short lib --jobs 2"])
-
-    def test_a_small_one_gets_one_job_beside_a_longer_way(self):
-        self.make("short", 1)
-        jobs = ["low lib --jobs 4", "long lib --jobs 3", "short lib --jobs 1"]
-        self.assertEqual(self.jobs(4), jobs)
+        self.assertEqual(self.jobs(4), ["low lib --jobs 4", "short lib --jobs 1"])
 
     def test_a_very_large_one_gets_two_jobs(self):
         """Also where it doesn't come first and no processor is left to it."""
         self.make("short", 1, proofs=12000)
-        jobs = ["low lib --jobs 2", "long lib --jobs 2", "short lib --jobs 2"]
+        jobs = ["low lib --jobs 2", "long lib --jobs 1", "short lib --jobs 2"]
         self.assertEqual(self.jobs(2), jobs)
 
     def test_the_longest_way_comes_first(self):

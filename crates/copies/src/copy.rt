@@ -58,7 +58,7 @@ impl VersionCopy {
     }
 
     /// Whether the next query reads all other bands first: half of the bands have been read, or
-    /// queries have read all words that they may.
+    /// queries have read all words that they may. No clause speaks of it: it changes no answer.
     pub fn is_enough(&self) -> bool {
         let down = u32::from(self.bitmap.height()).div_ceil(64);
         self.unread.count_ones() <= down / 2 || self.looks.are_used_up()

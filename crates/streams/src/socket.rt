@@ -72,7 +72,7 @@ impl NoSocket {
         if let NoSocket::Memory(mut stream) = self
             && writeln!(stream, "{}", Refusal::Memory).is_ok()
         {
-            let _ = end(stream);
+            let _ = end(&mut stream);
         }
     }
 }
@@ -301,16 +301,16 @@ impl Drop for Socket {
             failed_writes: _,
         } = self;
         if sent.is_ok()
-            && let Connection(Some(stream)) = reader.into_inner()
+            && let Connection(Some(mut stream)) = reader.into_inner()
         {
-            let _ = end(stream);
+            let _ = end(&mut stream);
         }
     }
 }
 
 /// Ends the writing side, then reads and drops what the peer still sends: closing with unread bytes
 /// would cost the peer the last reply. Bounded in bytes and in time.
-fn end(mut stream: TcpStream) -> io::Result<()> {
+fn end(stream: &mut TcpStream) -> io::Result<()> {
     stream.shutdown(Shutdown::Write)?;
     stream.set_read_timeout(Some(Duration::from_millis(PATIENCE)))?;
     let mut bytes = [0; LAST_ROOM];
