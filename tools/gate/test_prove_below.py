@@ -122,6 +122,21 @@ class Below(unittest.TestCase):
         order = [line.split()[0] for line in self.noted()]
         self.assertEqual(order, ["low", "short", "long", "next", "last"])
 
+    def test_none_waits_for_a_shorter_way(self):
+        """One more than processors is at work then, no more."""
+        uses = "low: std\nshort: std\nnext: low\nmore: low\nlast: low\ntop: next more last short\n"
+        (self.top / "crates.txt").write_text(uses)
+        crates = {"low": (1, 1), "short": (1, 6), "next": (20, 3), "more": (15, 3), "last": (10, 1)}
+        for name, (count, seconds) in crates.items():
+            self.make(name, count, seconds=seconds)
+        self.make("top", 1)
+        self.assertEqual(self.prove("--at-once", "2")[0], 0)
+        notes = [" ".join(line.split()[:2]) for line in self.notes.read_text().splitlines()]
+        done = min(notes.index("next done"), notes.index("more done"))
+        self.assertLess(notes.index("more lib"), done)
+        self.assertLess(done, notes.index("last lib"))
+        self.assertLess(done, notes.index("short done"))
+
     def test_two_are_at_work_at_once(self):
         for name in ("long", "short"):
             (self.top / "crates" / name / "seconds").write_text("5")
