@@ -126,7 +126,7 @@ class Below(unittest.TestCase):
         """One more than processors is at work then, no more."""
         uses = "low: std\nshort: std\nnext: low\nmore: low\nlast: low\ntop: next more last short\n"
         (self.top / "crates.txt").write_text(uses)
-        crates = {"low": (1, 1), "short": (1, 6), "next": (20, 3), "more": (15, 3), "last": (10, 1)}
+        crates = {"low": (1, 1), "short": (1, 12), "next": (20, 4), "more": (15, 4), "last": (10, 1)}
         for name, (count, seconds) in crates.items():
             self.make(name, count, seconds=seconds)
         self.make("top", 1)
