@@ -77,6 +77,10 @@ class Below(unittest.TestCase):
         """What rt was called for, and in which crates it was ended."""
         return [line for line in self.notes.read_text().splitlines() if not line.endswith(" done")]
 
+    def jobs(self):
+        """The crates in which rt was called, each with its words."""
+        return [line.split(":")[0] for line in self.noted()]
+
     def left(self):
         """What lies in the folder of the copies afterwards."""
         return list((self.top / "crates/top/out").glob("copies*"))
@@ -93,22 +97,19 @@ class Below(unittest.TestCase):
             f"short lib --jobs 1: low short, {below}",
         ])
 
-    def jobs(self, at_once):
-        """What rt is called for, first for low, and then sorted."""
-        self.assertEqual(self.prove("--at-once", str(at_once))[0], 0)
-        low, *others = [line.split(":")[0] for line in self.noted()]
-        return [low, *sorted(others)]
-
     def test_one_gets_one_job(self):
         """Also where more processors are free, unless nothing is below it."""
         (self.top / "crates.txt").write_text("low: std_alloc\nshort: low\ntop: short\n")
-        self.assertEqual(self.jobs(4), ["low lib --jobs 4", "short lib --jobs 1"])
+        self.assertEqual(self.prove("--at-once", "4")[0], 0)
+        self.assertEqual(self.jobs(), ["low lib --jobs 4", "short lib --jobs 1"])
 
     def test_a_very_large_one_gets_two_jobs(self):
         """Also where it doesn't come first and no processor is left to it."""
         self.make("short", 1, proofs=12000)
-        jobs = ["low lib --jobs 2", "long lib --jobs 1", "short lib --jobs 2"]
-        self.assertEqual(self.jobs(2), jobs)
+        self.assertEqual(self.prove("--at-once", "2")[0], 0)
+        low, *others = self.jobs()
+        self.assertEqual(low, "low lib --jobs 2")
+        self.assertEqual(sorted(others), ["long lib --jobs 1", "short lib --jobs 2"])
 
     def test_the_longest_way_comes_first(self):
         """By lines of source, and what each crate on the way takes before them: proofs don't count,
@@ -198,8 +199,8 @@ class Below(unittest.TestCase):
         self.assertEqual(said.count("clearmap: proved "), 3, said)
         crates = [line.split()[0] for line in self.notes.read_text().splitlines()]
         self.assertEqual(crates, ["low", "low", "long", "long", "short", "short"])
-        jobs = [line.split(":")[0] for line in self.noted()]
-        self.assertEqual(jobs, [f"{name} lib --jobs 1" for name in ("low", "long", "short")])
+        jobs = [f"{name} lib --jobs 1" for name in ("low", "long", "short")]
+        self.assertEqual(self.jobs(), jobs)
 
 
 if __name__ == "__main__":
