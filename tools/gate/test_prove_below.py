@@ -17,15 +17,19 @@ CRATES = {
     "top": ("long short", 1),
 }
 
-# Notes its words, its place, and what is kept of this crate and of those below; some seconds later
-# its end. Then keeps a file, says what the file `says` of its crate has, and ends as that says.
+# Notes its words, its place, and what is kept of this crate and built of those below, of which it
+# wants no more; some seconds later its end. Then keeps two files, says what the file `says` of its
+# crate has, and ends as that says.
 RT = """#!/bin/sh
 crate=$(basename "$PWD")
-mkdir -p out
+mkdir -p out/rlib
 trap 'echo "$crate ended" >> "$NOTES"; exit 1' TERM
-echo "$crate $*: $(cat ../../crates.txt | cut -d: -f1 | xargs), kept: $(echo ../*/out/kept)" >> "$NOTES"
+echo "$crate $*: $(cat ../../crates.txt | cut -d: -f1 | xargs), kept: $(echo ../*/out/*/kept)" >> "$NOTES"
+for more in ../*/out/more; do
+    [ ! -e "$more" ] || [ "$more" = "../$crate/out/more" ] || exit 1
+done
 for _ in $(seq $(cat seconds)); do sleep 1; done
-touch out/kept
+touch out/rlib/kept out/more
 echo "$crate done" >> "$NOTES"
 cat says
 ! grep -q not-proved says
@@ -71,7 +75,7 @@ class Below(unittest.TestCase):
         return process.returncode, said
 
     def kept(self):
-        return sorted(file.parts[-3] for file in self.top.glob("crates/*/out/kept"))
+        return sorted(file.parts[-4] for file in self.top.glob("crates/*/out/rlib/kept"))
 
     def noted(self):
         """What rt was called for, and in which crates it was ended."""
@@ -89,9 +93,9 @@ class Below(unittest.TestCase):
         status, said = self.prove("--at-once", "3")
         self.assertEqual((status, self.kept(), self.left()), (0, ["long", "low", "short"], []))
         self.assertEqual(said.count("clearmap: proved "), 3, said)
-        below = "kept: ../low/out/kept"
+        below = "kept: ../low/out/rlib/kept"
         first, *rest = self.noted()
-        self.assertEqual(first, "low lib --jobs 3: low, kept: ../*/out/kept")
+        self.assertEqual(first, "low lib --jobs 3: low, kept: ../*/out/*/kept")
         self.assertEqual(sorted(rest), [
             f"long lib --jobs 1: low long, {below}",
             f"short lib --jobs 1: low short, {below}",
@@ -147,11 +151,11 @@ class Below(unittest.TestCase):
         self.assertEqual(sorted(crates[2:4]), ["long", "short"], "one was done before both began")
 
     def test_what_is_kept_is_begun_with(self):
-        kept = self.top / "crates/low/out"
-        kept.mkdir()
+        kept = self.top / "crates/low/out/rlib"
+        kept.mkdir(parents=True)
         (kept / "kept").touch()
         self.assertEqual(self.prove("--at-once", "2")[0], 0)
-        self.assertEqual(self.noted()[0], "low lib --jobs 2: low, kept: ../low/out/kept")
+        self.assertEqual(self.noted()[0], "low lib --jobs 2: low, kept: ../low/out/rlib/kept")
 
     def test_one_that_is_not_proved(self):
         """What is at work is finished and kept."""
@@ -190,7 +194,7 @@ class Below(unittest.TestCase):
         self.assertEqual(self.prove("--at-once", "2")[0], 0)
         said = first.communicate(timeout=20)[1]
         self.assertEqual((first.returncode, said.count("Traceback")), (0, 0))
-        kept = "low lib --jobs 2: low, kept: ../low/out/kept"
+        kept = "low lib --jobs 2: low, kept: ../low/out/rlib/kept"
         self.assertEqual([line for line in self.noted()[1:] if line.startswith("low")], [kept])
 
     def test_one_at_a_time(self):

@@ -1,6 +1,8 @@
-//! The command `ask` over any streams: it sends lines to a server, and prints its replies.
+//! The command `ask`: it sends lines to a server, over any stream or to a port, and prints its
+//! replies.
 #![tactic(auto)]
 
 mod ask;
+pub mod net;
 
 pub use ask::ask_run;

@@ -2,6 +2,7 @@
 #![tactic(auto)]
 
 mod run;
+mod serve;
 
 use run::run_process;
 use std::process::ExitCode;

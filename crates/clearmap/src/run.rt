@@ -2,11 +2,12 @@
 
 ghost use Rattle.metric.specs.Stream.{CanFail};
 
+use crate::serve::serve;
+use ask::net::ask;
 use command_line::{Fault, Options, options};
 use engines::run_said;
-use metric::{ReaderSource, Refusal, Sink, Source, WriterSink};
+use metric::{Refusal, Sink, Source};
 use process::{Asked, Typed, refuse, tell_cure, tell_fault, tell_waiting, texts_of, words_of};
-use serve::net::{ask, serve};
 use std::alloc::Global;
 use std::fs::{File, Files};
 use std::io;
@@ -16,7 +17,7 @@ use std::rt::Env;
 use std::sync::Wait;
 use std::thread::Threads;
 use std::time::Clock;
-use streams::{ErrorSink, Held, Noted, REFUSED};
+use streams::{ErrorSink, Held, Noted, REFUSED, ReaderSource, WriterSink};
 
 /// Runs what the process's words name, on the standard streams. Returns the exit status. Standard
 /// streams that are closed stay closed: nothing that is opened takes their place.
@@ -118,7 +119,7 @@ where
 {
     match said {
         Ok(Options::Serve(options)) => serve(rt, alloc, &options, reader, writer),
-        Ok(Options::Ask(options)) => ask(rt, alloc, &options, reader, writer),
+        Ok(Options::Ask(options)) => ask(rt, alloc, options.port, reader, writer),
         said => run_said(rt, alloc, said, reader, writer, &mut ErrorSink::new(rt)),
     }
 }

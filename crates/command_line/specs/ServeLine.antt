@@ -4,6 +4,7 @@ use Rattle.std.specs.Prelude.{option_and_then, true, if◌then◌else◌}
 use Rattle.clap.specs.Words.{App, Row, Rule, first_of, new_app, new_rule, subcommand_rows_of}
 use Rattle.clap.specs.Words.{found_of, rows_of, with_rule}
 use Rattle.clap.specs.declared.parser.matches.ArgMatches.{ArgMatches}
+use Rattle.events.specs.declared.setting.Setting.{Setting}
 use Rattle.metric.specs.Edge.{edge_named}
 use Rattle.words.specs.Numbers.{number}
 use Rattle.command_line.specs.declared.arguments.AskOptions.{AskOptions}
@@ -60,6 +61,17 @@ pub record AreServeOptions (rows : List Row) (options : ServeOptions) : Type 0 w
   pub log : in_range 0 4294967295 (first_of (codes "log") rows) ≡ Some options.log
   pub workers : in_range 1 16 (first_of (codes "workers") rows) ≡ Some options.workers
   pub edge : option_and_then edge_named (first_of (codes "edge") rows) ≡ Some options.edge
+
+-- the setting of the store is what the options ask for, with a session per worker
+abbrev pub setting_served : ServeOptions → Setting
+setting_served options =
+    record {
+      blocks = options.blocks;
+      versions = options.versions;
+      sessions = options.workers;
+      log = options.log;
+      edge = options.edge;
+    }
 
 -- the flag of `ask` as the words give it
 pub record AreAskOptions (rows : List Row) (options : AskOptions) : Type 0 where

@@ -1,7 +1,11 @@
 //! What the command line can say.
 
+ghost use Rattle.std.specs.Prelude.{◌≡◌};
+ghost use Rattle.command_line.specs.ServeLine.{setting_served};
+
 use clap::Error as ClapError;
 use clap::error::ErrorKind;
+use events::Setting;
 use metric::{Edge, MetricKind, Workers};
 use std::alloc::AllocError;
 use std::io;
@@ -52,6 +56,21 @@ pub struct ServeOptions {
     pub workers: u32,
     /// The edge of the map.
     pub edge: Edge,
+}
+
+impl ServeOptions {
+    /// The setting of the store that is served: a session for each worker.
+    pub fn setting(&self) -> Setting
+        ensures { result ≡ setting_served self.now }
+    {
+        Setting {
+            blocks: self.blocks,
+            versions: self.versions,
+            sessions: self.workers,
+            log: self.log,
+            edge: self.edge,
+        }
+    }
 }
 
 /// The options of `ask`.

@@ -3,7 +3,8 @@
 
 use crate::compare::{holds, same};
 use bits::Bitmap;
-use metric::{Cell, MemorySource, PbmFault, Source};
+use memory_streams::MemorySource;
+use metric::{Cell, PbmFault, Source};
 use pbm::{ImageStop, read_image, read_source};
 use std::alloc::Global;
 use std::test::Fail;

@@ -1,5 +1,5 @@
-//! Tests of the crates that work on maps, where no clause says it: of streams, bitmaps, images,
-//! rows and queries.
+//! Tests of the crates that work on maps, where no clause says it: of bitmaps, images, rows and
+//! queries.
 #![tactic(auto)]
 
 #[cfg(test)]
@@ -44,8 +44,6 @@ mod raised;
 mod row_answers;
 #[cfg(test)]
 mod row_bands;
-#[cfg(test)]
-mod streams;
 #[cfg(test)]
 mod tile_parts;
 #[cfg(test)]

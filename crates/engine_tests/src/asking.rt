@@ -2,7 +2,8 @@
 
 use crate::compare::{holds, same};
 use ask::ask_run;
-use metric::{MemorySink, MemorySource, MemoryStream, Sink, Source};
+use memory_streams::{MemorySink, MemorySource, MemoryStream};
+use metric::{Sink, Source};
 use std::process::Abort;
 
 /// The input, what the server says, what is sent and printed, and the status.

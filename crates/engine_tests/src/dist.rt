@@ -4,7 +4,8 @@ use crate::compare::{holds, same};
 use command_line::DistOptions;
 use engines::dist_run;
 use field::Workers;
-use metric::{Edge, MemorySink, MemorySource, MetricKind, Sink, Source};
+use memory_streams::{MemorySink, MemorySource};
+use metric::{Edge, MetricKind, Sink, Source};
 use std::process::Abort;
 use std::thread::Threads;
 

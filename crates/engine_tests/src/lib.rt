@@ -1,5 +1,5 @@
-//! Tests of the commands' crates: worked runs, texts, words of the command line, connections, and
-//! failing streams.
+//! Tests of the commands' crates: worked runs, texts, words of the command line, streams and
+//! connections, also ones that fail.
 #![tactic(auto)]
 
 #[cfg(test)]
@@ -12,6 +12,8 @@ mod compare;
 mod dist;
 #[cfg(test)]
 mod limits;
+#[cfg(test)]
+mod reads_and_writes;
 #[cfg(test)]
 mod runs;
 #[cfg(test)]

@@ -2,7 +2,8 @@
 
 use crate::compare::{holds, same};
 use engines::run_words;
-use metric::{MemorySink, MemorySource, Sink};
+use memory_streams::{MemorySink, MemorySource};
+use metric::Sink;
 use std::process::Abort;
 use std::thread::Threads;
 

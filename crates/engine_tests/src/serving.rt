@@ -2,22 +2,23 @@
 
 use crate::compare::same;
 use ask::ask_run;
+use ask::net::ask;
 use bits::Bitmap;
-use command_line::{AskOptions, ServeOptions};
+use command_line::ServeOptions;
 use crossbeam_channel::{Receiver, Sender, bounded};
-use metric::{Edge, MemorySink, MemorySource};
-use serve::net::ask;
-use serve::{Listening, serve_run};
+use memory_streams::{MemorySink, MemorySource};
+use metric::Edge;
+use proto::{Listening, serve_run};
 use std::alloc::Global;
 use std::io::Write;
-use std::net::{Ipv4Addr, Net, SocketAddr, SocketAddrV4, TcpListener, TcpStream};
+use std::net::{Net, TcpListener, TcpStream};
 use std::process::Abort;
 use std::sync::Wait;
 use std::test::Fail;
 use std::thread::Threads;
 use std::time::Clock;
 use std::{io, thread};
-use streams::Socket;
+use streams::{Socket, local};
 
 /// The worked map of three columns and two rows.
 const ROOM: &[u8] = b"P1\n3 2\n100\n000\n";
@@ -41,11 +42,6 @@ fn room(alloc: Global) -> Result<Bitmap, Fail> {
         Ok((map, _)) => Ok(map),
         Err(_) => Err(Fail::from("the worked map is an image")),
     }
-}
-
-/// A port of this machine.
-fn local(port: u16) -> SocketAddr {
-    SocketAddr::V4(SocketAddrV4::new(Ipv4Addr::LOCALHOST, port))
 }
 
 /// A port of this machine on which this many connections are accepted.
@@ -110,7 +106,7 @@ where
         rt,
         || {
             let mut writer = MemorySink::new(alloc);
-            let status = serve_run(rt, alloc, place, map, &options, &mut writer);
+            let status = serve_run(rt, alloc, place, map, options.setting(), &mut writer);
             (writer, status)
         },
         || {
@@ -156,7 +152,7 @@ fn a_broken_connection_counts(rt: HostRuntime) -> Result<(), Fail> {
         &rt,
         || {
             let mut writer = MemorySink::new(alloc);
-            let status = serve_run(&rt, alloc, place, map, &options, &mut writer);
+            let status = serve_run(&rt, alloc, place, map, options.setting(), &mut writer);
             (writer, status)
         },
         || {
@@ -202,7 +198,7 @@ fn no_server_is_told(rt: HostRuntime) -> Result<(), Fail> {
     drop(listener);
     let mut reader = MemorySource::new(b"PIN\n");
     let mut writer = MemorySink::new(alloc);
-    let status = ask(&rt, alloc, &AskOptions { port }, &mut reader, &mut writer);
+    let status = ask(&rt, alloc, port, &mut reader, &mut writer);
     same(&rt, status, 1, "status");
     same(&rt, writer.bytes(), b"FAULT net\n".as_slice(), "bytes");
     Ok(())

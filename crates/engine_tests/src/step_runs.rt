@@ -1,7 +1,8 @@
 //! Worked texts through the engine, lines of other forms, and failed writes.
 
 use crate::compare::{holds, same};
-use metric::{MemorySink, MemorySource, Sink, Source};
+use memory_streams::{MemorySink, MemorySource};
+use metric::{Sink, Source};
 use std::alloc::Global;
 use std::process::Abort;
 use std::test::Fail;

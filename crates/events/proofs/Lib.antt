@@ -3,4 +3,4 @@ pub mod invariants
 pub mod logs
 pub mod shared_words
 pub mod steps
-mod Names
+pub mod Names

@@ -9,4 +9,3 @@ pub mod Replies
 pub mod SummaryCollect
 pub mod SummaryDraw
 pub mod SummaryPublish
-mod WorkedRows

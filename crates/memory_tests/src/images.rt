@@ -4,7 +4,8 @@
 use crate::compare::{holds, same};
 use crate::told::{Call, begin, end};
 use bits::Bitmap;
-use metric::{Cell, MemorySource, PbmFault, Refusal};
+use memory_streams::MemorySource;
+use metric::{Cell, PbmFault, Refusal};
 use pbm::{ImageStop, read_image, read_source, write_plain, write_raw};
 use std::alloc::Global;
 use std::process::Abort;

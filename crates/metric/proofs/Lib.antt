@@ -1,7 +1,6 @@
 pub mod Appending
 pub mod CellwiseLemmas
 pub mod Decimals
-mod Fronts
 pub mod Growing
 pub mod LaneLemmas
 pub mod NearestLemmas

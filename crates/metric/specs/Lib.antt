@@ -10,6 +10,5 @@ pub mod Nearest
 pub mod Rect
 pub mod Refusal
 pub mod Stream
-pub mod Told
 pub mod Wire
 pub mod Workers

@@ -12,12 +12,10 @@ mod kind;
 mod laws;
 mod limits;
 mod measure;
-mod memory;
 mod near;
 mod rect;
 mod refusal;
 mod spot;
-mod std_streams;
 mod stream;
 mod workers;
 
@@ -32,11 +30,9 @@ pub use limits::{
     BAND_ROWS, FRAMED_SIDE, LAST_FRAMED, MOST_SIDE, MOST_TILES, TILE_SIDE, WORD_BITS, WORD_CELLS,
 };
 pub use measure::{Chess, City, Euclid2, Metric};
-pub use memory::{MemorySink, MemorySource, MemoryStream};
 pub use near::Near;
 pub use rect::Rect;
 pub use refusal::{Field, Refusal};
 pub use spot::Spot;
-pub use std_streams::{ReaderSource, WriterSink};
 pub use stream::{ReadFault, Sink, Source, Stream, WriteFault};
 pub use workers::Workers;

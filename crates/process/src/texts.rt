@@ -3,11 +3,11 @@
 ghost use Rattle.std.specs.Prelude.{◌≡◌};
 
 use command_line::{Fault, tell};
-use metric::{Refusal, WriterSink};
+use metric::Refusal;
 use std::alloc::{AllocError, Global};
 use std::rt::Env;
 use std::{env, io};
-use streams::{ErrorSink, REFUSED};
+use streams::{ErrorSink, REFUSED, WriterSink};
 
 /// The process's words.
 pub fn words_of<R: Env + AllocGlobal>(rt: &R) -> Result<Vec<String>, Fault<'static>> {

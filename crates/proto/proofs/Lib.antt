@@ -1,4 +1,5 @@
 mod Pooling
+mod ServerLemmas
 mod Serving
 mod Speaking
 mod Dumping

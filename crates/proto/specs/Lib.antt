@@ -2,3 +2,4 @@ pub mod Callers
 pub mod Exchanges
 pub mod Served
 pub mod Pools
+pub mod Server

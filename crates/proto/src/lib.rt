@@ -1,8 +1,10 @@
-//! The protocol: streams of its lines, each answered, and the workers that serve them. What a line
-//! says and how its answer reads is `lines`, over the `words` of a line: their calls are here too.
+//! The protocol: streams of its lines, each answered, the workers that serve them, and a server on
+//! a listener. What a line says and how its answer reads is `lines`, over the `words` of a line:
+//! their calls are here too.
 #![tactic(auto)]
 
 mod serve;
+mod server;
 mod workers;
 
 pub use answering::{answer_of, answer_query};
@@ -13,6 +15,7 @@ pub use lines::{
     read_order, read_query, read_stamp, reply_text, split_verb, verb_of,
 };
 pub use serve::serve_stream;
+pub use server::{Listening, serve_run};
 pub use words::{
     line_of_words, next_number, number_pair, number_triple, only_number, read_number, split_word,
     without_cr, words_of_line,

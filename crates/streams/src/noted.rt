@@ -2,7 +2,8 @@
 
 ghost use Rattle.std.specs.Prelude.{◌≡◌, ℕ, None};
 
-use metric::{Sink, WriteFault, WriterSink};
+use crate::std_streams::WriterSink;
+use metric::{Sink, WriteFault};
 use std::io::Write;
 use std::marker::Model;
 

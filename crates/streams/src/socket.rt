@@ -10,7 +10,7 @@ use std::alloc::Global;
 use std::io;
 use std::io::{BufRead, BufReader, ErrorKind, Read, Write};
 use std::marker::Model;
-use std::net::{Shutdown, TcpStream};
+use std::net::{Ipv4Addr, Shutdown, SocketAddr, SocketAddrV4, TcpStream};
 use std::time::Duration;
 
 /// The most bytes read ahead, and the most bytes of replies gathered before they are sent.
@@ -24,6 +24,11 @@ const LAST_ROOM: usize = 4096;
 
 /// The most reads of a closing connection: 32 MiB in all.
 const LAST_READS: u32 = 8192;
+
+/// A port of this machine, which no other machine can reach.
+pub fn local(port: u16) -> SocketAddr {
+    SocketAddr::V4(SocketAddrV4::new(Ipv4Addr::LOCALHOST, port))
+}
 
 /// What a stream reads from and writes to: a connection, or none until there is memory for its
 /// buffers.

@@ -7,7 +7,7 @@ use crate::compare::same;
 use crate::keeping::kept;
 use crate::opened::blank;
 use map_core::Reply;
-use metric::MemoryStream;
+use memory_streams::MemoryStream;
 use proto::Streams;
 use std::alloc::Global;
 use std::marker::Brand;

@@ -1,5 +1,0 @@
--- Each turn leaves one connection less to be accepted.
-use Rattle.serve.proofs.serve.accepted.AcceptedStreams.next.Given as goal
-
-abbrev pub decreases-connections : goal.decreases-connections
-decreases-connections g l = l.self.left

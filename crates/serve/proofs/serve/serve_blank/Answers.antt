@@ -1,9 +1,0 @@
--- Where there is no memory for the sessions, the line for out of memory is written, or a prefix of
--- it.
-use Rattle.serve.proofs.ServingLemmas.{lacking_front}
-use Rattle.serve.proofs.serve.serve_blank.Goals as goal
-
-pub returns-in-Err-clause-begun : goal.returns-in-Err-clause-begun
-returns-in-Err-clause-begun g c =
-    lacking_front _ _ _ _ c.in-Err.refusal c.write_refusal.result c.in-Err.ensures.refused.1
-    c.write_refusal.ensures.front
