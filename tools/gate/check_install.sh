@@ -73,7 +73,7 @@ run)
     ;;
 lib)
     sleep 2
-    mkdir out
+    mkdir -p out/rlib
     touch out/kept
     echo 'crate: modules 1'
     echo 'logic=proved functions=1'

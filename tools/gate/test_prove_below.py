@@ -101,19 +101,12 @@ class Below(unittest.TestCase):
             f"short lib --jobs 1: low short, {below}",
         ])
 
-    def test_one_gets_one_job(self):
-        """Also where more processors are free, unless nothing is below it."""
-        (self.top / "crates.txt").write_text("low: std_alloc\nshort: low\ntop: short\n")
-        self.assertEqual(self.prove("--at-once", "4")[0], 0)
-        self.assertEqual(self.jobs(), ["low lib --jobs 4", "short lib --jobs 1"])
-
-    def test_a_very_large_one_gets_two_jobs(self):
-        """Also where it doesn't come first and no processor is left to it."""
-        self.make("short", 1, proofs=12000)
-        self.assertEqual(self.prove("--at-once", "2")[0], 0)
+    def test_the_longest_way_gets_two_jobs(self):
+        """No others, also where more processors are free, unless nothing is below them."""
+        self.assertEqual(self.prove("--at-once", "5")[0], 0)
         low, *others = self.jobs()
-        self.assertEqual(low, "low lib --jobs 2")
-        self.assertEqual(sorted(others), ["long lib --jobs 1", "short lib --jobs 2"])
+        self.assertEqual(low, "low lib --jobs 5")
+        self.assertEqual(sorted(others), ["long lib --jobs 2", "short lib --jobs 1"])
 
     def test_the_longest_way_comes_first(self):
         """By lines of source, and what each crate on the way takes before them: proofs don't count,

@@ -96,7 +96,7 @@ cut_bytes unread between left before middle after stripped count empty first one
     }
 
 -- where nothing is read and nothing is sent, no request is
-Asks-nothing : (unread held : Option (List ℕ)) → Asks unread unread held held
+pub Asks-nothing : (unread held : Option (List ℕ)) → Asks unread unread held held
 Asks-nothing unread held =
     record {
       requests = [];

@@ -20,7 +20,7 @@ use Rattle.ask.specs.declared.ask.Stop.{Stop}
 use Rattle.ask.specs.declared.ask.Stop.TheVariants as stops
 
 -- where nothing was done, no exchange was
-Exchanges-nothing : (talk : Talk) → Exchanges talk talk
+pub Exchanges-nothing : (talk : Talk) → Exchanges talk talk
 Exchanges-nothing talk = record {
   exchanges = [];
   are = All-nil IsExchange;

@@ -21,13 +21,27 @@ use std::marker::Model;
 /// Its rows lie one after another, each in as many words as it needs; bit i of a row's word k is
 /// the cell of column 64 k + i. Bit k of the bands is 1 if rows 64 k to 64 k + 63 may have an
 /// obstacle, and bit k of a band's marks if its tile in columns 64 k to 64 k + 63 may have one.
-#[derive(Debug, Drop)]
+#[derive(Debug)]
 pub struct Bitmap {
     pub(crate) width: u16,
     pub(crate) height: u16,
     pub(crate) words: Vec<u64>,
     pub(crate) bands: u64,
     pub(crate) marks: TileMarks,
+}
+
+// Written by hand: a derived drop is proved field by field at each exit of each caller.
+impl Drop for Bitmap {
+    /// Frees the words and the marks.
+    fn drop(self) {
+        let Bitmap {
+            width: _,
+            height: _,
+            words: _,
+            bands: _,
+            marks: _,
+        } = self;
+    }
 }
 
 impl Model for Bitmap {

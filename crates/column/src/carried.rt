@@ -18,7 +18,7 @@ use metric::Refusal;
 use std::alloc::Global;
 
 /// What is known of the columns of a batch between two of its rows.
-#[derive(Debug, Drop)]
+#[derive(Drop)]
 pub struct Carried {
     /// The first row of the current band, and the row after its last one.
     pub first: u16,

@@ -22,7 +22,7 @@ const FEW_ROWS: u16 = 32;
 const FAR: u16 = 64;
 
 /// The columns of a batch, seen from one of its rows after another.
-#[derive(Debug, Drop)]
+#[derive(Drop)]
 pub struct Columns {
     /// What is carried from row to row, unless each row is searched by itself.
     pub carried: Option<Carried>,

@@ -17,7 +17,7 @@ use bits::Bitmap;
 use std::collections::VecDeque;
 
 /// A block that the newest version no longer maps, though versions `first` to `last` do.
-#[derive(Clone, Copy, Debug)]
+#[derive(Clone, Copy)]
 pub struct RetiredBlock {
     pub block: u32,
     pub position: u32,

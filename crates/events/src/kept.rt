@@ -15,7 +15,7 @@ pub struct Kept {
 }
 
 /// What a reader has announced.
-#[derive(Clone, Copy, Debug, PartialEq, Eq)]
+#[derive(Clone, Copy)]
 pub enum Seen {
     /// A version: the reader may hold it, or still take any later one that is kept.
     From(u32),

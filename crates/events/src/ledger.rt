@@ -24,7 +24,7 @@ const MOST_PLACES: u32 = 536_870_911;
 /// which gives the reply. What these calls require holds after any legal log: neither the newest
 /// version nor the last checkpoint's place exceeds the last place. To enter a command requires a
 /// place for it.
-#[derive(Clone, Copy, Debug)]
+#[derive(Clone, Copy)]
 pub struct Ledger {
     pub setting: Setting,
     /// The map's columns and rows, 1 to 4096 each.

@@ -11,7 +11,7 @@ const VERSION: u64 = 1 << 6;
 
 /// The fields of NOW: the place of the log's last entry, 0 where it has none, the newest version,
 /// and its slot.
-#[derive(Clone, Copy, Debug, PartialEq, Eq)]
+#[derive(Clone, Copy)]
 pub struct Now {
     pub place: u32,
     pub version: u32,

@@ -7,7 +7,7 @@ use crate::kept::Seen;
 
 /// A reader: how many entries of the log it has seen, the newest version among these, what it has
 /// announced and what it holds.
-#[derive(Clone, Copy, Debug)]
+#[derive(Clone, Copy)]
 pub struct Standing {
     pub seen: usize,
     pub version: u32,

@@ -10,10 +10,20 @@ use metric::{Metric, Refusal};
 use std::alloc::Global;
 
 /// What both phases need between two rows of a batch.
-#[derive(Drop)]
 pub struct Phases {
     pub columns: Columns,
     pub stack: Stack,
+}
+
+// Written by hand: a derived drop is proved field by field at each exit of each caller.
+impl Drop for Phases {
+    /// Frees what both phases need.
+    fn drop(self) {
+        let Phases {
+            columns: _,
+            stack: _,
+        } = self;
+    }
 }
 
 impl Phases {

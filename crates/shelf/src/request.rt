@@ -3,7 +3,7 @@
 use events::Command;
 
 /// A command for the keeper, and the number of the session whose seat was lent.
-#[derive(Debug, Drop)]
+#[derive(Drop)]
 pub struct Request {
     pub by: u32,
     pub command: Command,

@@ -1,7 +1,7 @@
 //! Lines on standard error for mistakes that persons make. They add to what standard output says,
 //! and no clause speaks of them.
 
-use command_line::{Fault, Options};
+use crate::arguments::{Fault, Options};
 use std::io::IsTerminal;
 use std::rt::HostRuntime;
 

@@ -2,7 +2,8 @@
 
 ghost use Rattle.std.specs.Prelude.{◌≡◌};
 
-use command_line::{Fault, tell};
+use crate::arguments::Fault;
+use crate::refusing::tell;
 use metric::Refusal;
 use std::alloc::{AllocError, Global};
 use std::rt::Env;
