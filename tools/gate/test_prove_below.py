@@ -110,8 +110,8 @@ class Below(unittest.TestCase):
 
     def test_the_longest_way_comes_first(self):
         """By lines of source, and what each crate on the way takes before them: proofs don't count,
-        and three short crates are longer than a crate of 1,000 lines."""
-        lines = {"low": 1, "long": 1000, "short": 1, "next": 1, "last": 1, "top": 1}
+        and three short crates are longer than a crate of 700 lines."""
+        lines = {"low": 1, "long": 700, "short": 1, "next": 1, "last": 1, "top": 1}
         uses = "low: std\nlong: low\nshort: low\nnext: short\nlast: next\ntop: long last\n"
         (self.top / "crates.txt").write_text(uses)
         for name, count in lines.items():
@@ -121,7 +121,7 @@ class Below(unittest.TestCase):
         self.assertEqual(order, ["low", "short", "long", "next", "last"])
 
     def test_none_waits_for_a_shorter_way(self):
-        """One more than processors is at work then, no more."""
+        """More than processors are at work then, but no more with as much above them."""
         uses = "low: std\nshort: std\nnext: low\nmore: low\nlast: low\ntop: next more last short\n"
         (self.top / "crates.txt").write_text(uses)
         crates = {"low": (1, 1), "short": (1, 12), "next": (20, 4), "more": (15, 4), "last": (10, 1)}
