@@ -1,5 +1,5 @@
 #!/usr/bin/env python3
-"""Lists modules and types that are named as a library that their crate uses.
+"""Lists modules and types that are named as a library below their crate.
 
     tools/lint/check_modules.py
 
@@ -16,12 +16,13 @@ NAMED = re.compile(r"\s*(?:pub(?:\([^)]*\))? )?(?:mod|struct|enum|trait|type) (\
 
 
 def uses():
-    """The libraries of each crate of crates.txt."""
+    """The libraries below each crate of crates.txt, which lists the lowest first."""
     found = {}
     for line in (TOP / "crates.txt").read_text().splitlines():
         name, colon, libraries = line.split("#")[0].partition(":")
         if colon:
-            found[name.split()[0]] = {"std", "core", *libraries.split()}
+            below = [found.get(library, set()) for library in libraries.split()]
+            found[name.split()[0]] = {"std", "core", *libraries.split()}.union(*below)
     return found
 
 

@@ -28,7 +28,7 @@ mod ready;
 #[cfg(test)]
 mod seat;
 #[cfg(test)]
-mod streams;
+mod serving;
 #[cfg(test)]
 mod told;
 #[cfg(test)]
