@@ -86,12 +86,12 @@ is_standard Standard kept changed = refl
 is_standard Net kept changed = absurd (changed (kept (λ e. absurd cc)))
 is_standard Memory kept changed = absurd (changed (kept (λ e. absurd cc)))
 
--- where nothing failed, at most one call did
+-- where no call has failed, there is at most one failure
 pub no_failure : (reads before writes first : ℕ) → reads ≡ before → writes ≡ first
     → reads + writes ≤ before + first + 1
 no_failure reads before writes first one two = omega (arith, one, two)
 
--- a run whose calls on the standard streams went well stopped for another reason
+-- where the calls on the standard streams went well, no failure of theirs is counted
 pub well_stopped : (reads before writes first last : ℕ) → reads ≡ before → last ≡ first
     → last ≡ writes → reads + writes ≡ before + first + 1 → ⊥
 well_stopped reads before writes first last one two same failed =
