@@ -1,17 +1,24 @@
 -- Worked rows that the definitions are run on: each is computed.
 use Rattle.events.proofs.Names.{◌≡◌, ℕ, ◌+◌, ◌*◌, ◌-◌, ◌<◌, ◌≤◌, true, false, List, [], ◌∷◌, ◌++◌}
 use Rattle.events.proofs.Names.{length, replicate, refl, arith, Option, Some, None, has, changes}
-use Rattle.events.proofs.Names.{range_with_len, cells_where, row_word, Refusal, OutOfRange, Paint}
-use Rattle.events.proofs.Names.{BlocksFull, VersionsFull, LogFull, Command, Publish, Revert, Load}
-use Rattle.events.proofs.Names.{Collect, Reply, Painted, Published, Reverted, Collected, Event}
-use Rattle.events.proofs.Names.{Announce, LookMap, LookTile, Leave, Confirm, Order, Keep, Kept}
-use Rattle.events.proofs.Names.{StepReply, Setting, first_kept, drawn, tile_differs, touched}
-use Rattle.events.proofs.Names.{opened, kept_log, newest, bitmap_of, kept, inuse, needed, refused}
-use Rattle.events.proofs.Names.{told, opened_blocks, directory_of, is_mapped, moved, Base, tiles}
-use Rattle.events.proofs.Names.{word_count, pin_at, map_at, tile_at, now_of, pin_word, seen_in}
-use Rattle.events.proofs.Names.{slot_of, next_slot, State, story, blocks, does, announce, load}
-use Rattle.events.proofs.Names.{look_map, look_tile, leave, keep, order, steps_before, confirm}
-use Rattle.events.proofs.Names.{tile_write, map_write, kept_scanned, reply_of}
+use Rattle.events.proofs.Names.{range_with_len, cells_where, row_word, Refusal, OutOfRange}
+use Rattle.events.proofs.Names.{BlocksFull, VersionsFull, LogFull, first_kept, drawn, tile_differs}
+use Rattle.events.proofs.Names.{touched, opened, kept_log, newest, bitmap_of, kept, inuse, needed}
+use Rattle.events.proofs.Names.{refused, told, opened_blocks, directory_of, is_mapped, moved, Base}
+use Rattle.events.proofs.Names.{tiles, word_count, pin_at, map_at, tile_at, now_of, pin_word}
+use Rattle.events.proofs.Names.{seen_in, slot_of, next_slot, State, story, blocks, does, announce}
+use Rattle.events.proofs.Names.{load, look_map, look_tile, leave, keep, order, steps_before}
+use Rattle.events.proofs.Names.{confirm, tile_write, map_write, kept_scanned, reply_of}
+use Rattle.events.specs.declared.command.Command.{Command}
+use Rattle.events.specs.declared.command.Command.TheVariants.{Collect, Paint, Publish, Revert}
+use Rattle.events.specs.declared.command.Reply.{Reply}
+use Rattle.events.specs.declared.command.Reply.TheVariants.{Collected, Painted, Published, Reverted}
+use Rattle.events.specs.declared.event.Event.{Event}
+use Rattle.events.specs.declared.event.Event.TheVariants.{Announce, Confirm, Keep, Leave, Load}
+use Rattle.events.specs.declared.event.Event.TheVariants.{LookMap, LookTile, Order}
+use Rattle.events.specs.declared.event.StepReply.{StepReply}
+use Rattle.events.specs.declared.kept.Kept.{Kept}
+use Rattle.events.specs.declared.setting.Setting.{Setting}
 use Rattle.bits.specs.Cells.{rows_where}
 use Rattle.bits.specs.Tiles.{word_where}
 use Rattle.metric.specs.declared.edge.Edge.TheVariants.{Open}
