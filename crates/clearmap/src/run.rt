@@ -4,8 +4,10 @@ ghost use Rattle.metric.specs.Stream.{CanFail};
 
 use crate::serve::serve;
 use ask::net::ask;
-use command_line::{Asked, Fault, Options, Typed, options, refuse, tell_cure, tell_fault};
-use command_line::{tell_waiting, texts_of, words_of};
+use command_line::{
+    Asked, Fault, Options, Typed, options, refuse, tell_cure, tell_fault, tell_waiting, texts_of,
+    words_of,
+};
 use engines::run_said;
 use metric::{Refusal, Sink, Source};
 use std::alloc::Global;
