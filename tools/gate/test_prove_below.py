@@ -11,10 +11,9 @@ import unittest
 
 SCRIPT = pathlib.Path(__file__).resolve().parents[1] / "prove_below"
 
-# Each crate, what it stands on, and its lines.
+# Each crate, what it stands on, and its functions.
 CRATES = {
-    "low": ("std_alloc", 2), "long": ("low", 3000), "short": ("low", 2999),
-    "top": ("long short", 1),
+    "low": ("std_alloc", 2), "long": ("low", 30), "short": ("low", 29), "top": ("long short", 1),
 }
 
 # Notes its words, its place, and what is kept of this crate and built of those below, of which it
@@ -53,11 +52,13 @@ class Below(unittest.TestCase):
         self.notes.touch()
 
     def make(self, name, count, proofs=0, seconds=1):
-        """A crate with this many lines of source and of proofs, which takes these seconds."""
+        """A crate with this many functions and lines of proofs, which takes these seconds."""
         folder = self.top / "crates" / name
-        for part, lines in (("src/lib.rt", count), ("proofs/Lib.antt", proofs)):
+        forms = ["fn a()\n{\n    b();\n}\n", "    pub(crate) fn c() {}\n", "/// A fn\nconst fn d()\n"]
+        functions = "".join(forms[place % 3] for place in range(count))
+        for part, text in (("src/lib.rt", functions), ("proofs/Lib.antt", "fn e() {}\n" * proofs)):
             (folder / part).parent.mkdir(parents=True, exist_ok=True)
-            (folder / part).write_text("\n" * lines)
+            (folder / part).write_text(text)
         (folder / "says").write_text("crate\nlogic=proved functions=1\n")
         (folder / "seconds").write_text(str(seconds))
 
@@ -109,16 +110,18 @@ class Below(unittest.TestCase):
         self.assertEqual(sorted(others), ["long lib --jobs 2", "short lib --jobs 1"])
 
     def test_the_longest_way_comes_first(self):
-        """By lines of source, and what each crate on the way takes before them: proofs don't count,
-        and three short crates are longer than a crate of 700 lines."""
-        lines = {"low": 1, "long": 700, "short": 1, "next": 1, "last": 1, "top": 1}
+        """By functions, and what each crate on the way takes before them; proofs don't count. Three
+        crates of one function are longer than one of 15, and shorter than one of 16."""
         uses = "low: std\nlong: low\nshort: low\nnext: short\nlast: next\ntop: long last\n"
         (self.top / "crates.txt").write_text(uses)
-        for name, count in lines.items():
-            self.make(name, count, proofs=5000 if name == "long" else 0, seconds=0)
-        self.assertEqual(self.prove("--at-once", "1")[0], 0)
-        order = [line.split()[0] for line in self.noted()]
-        self.assertEqual(order, ["low", "short", "long", "next", "last"])
+        for name in ("low", "short", "next", "last", "top"):
+            self.make(name, 1, seconds=0)
+        for count, second in ((15, "short"), (16, "long")):
+            with self.subTest(count):
+                self.make("long", count, proofs=5000, seconds=0)
+                self.notes.write_text("")
+                self.assertEqual(self.prove("--at-once", "1")[0], 0)
+                self.assertEqual([line.split()[0] for line in self.noted()][:2], ["low", second])
 
     def test_none_waits_for_a_shorter_way(self):
         """More than processors are at work then, but no more with as much above them."""

@@ -27,3 +27,15 @@ returns-in-Err-clause-failed g c = λ good.
     (lacking_front _ _ _ _ c.in-Err.refusal c.write_refusal.result
     (memory_alone _ c.of.result _ _ c.in-Err.refusal c.of.ensures.refused
     c.in-Err.is good) c.write_refusal.ensures.front) c.write_refusal.ensures.counts)
+
+pub returns-in-Ok-clause-served : goal.returns-in-Ok-clause-served
+returns-in-Ok-clause-served g c = λ good.
+    rw c.unwrap_or.ensures
+    (told_status _ c.serve_blank.result _ _ c.serve_blank.ensures.served
+    c.serve_blank.ensures.counts)
+
+pub returns-in-Ok-clause-failed : goal.returns-in-Ok-clause-failed
+returns-in-Ok-clause-failed g c = λ good.
+    rw c.unwrap_or.ensures
+    (begun_status _ c.serve_blank.result _ _ c.serve_blank.ensures.begun
+    c.serve_blank.ensures.counts)
