@@ -113,7 +113,6 @@ fn read_block<R: Source>(
     requires few { length block.old ≤ 4096 }
     ensures all { OnOk result (Gathers (R.rest reader.old) bytes.old.items bytes.new.items
         (R.rest reader.new)) }
-    ensures taken { (taken : List ℕ) × Takes (R.rest reader.old) taken (R.rest reader.new) }
     ensures counts { result ≢ Err Failed → R.failed_reads reader.new ≡ R.failed_reads reader.old }
     ensures failed { result ≡ Err Failed
         → R.failed_reads reader.new ≡ R.failed_reads reader.old + 1 }
@@ -141,7 +140,6 @@ fn read_byte<R: Source>(reader: &mut R, bytes: &mut Vec<u8>) -> Result<u8, PartS
     requires { CanFail (R.failed_reads reader.old) }
     ensures all { OnOk result (Gathers (R.rest reader.old) bytes.old.items bytes.new.items
         (R.rest reader.new)) }
-    ensures taken { (taken : List ℕ) × Takes (R.rest reader.old) taken (R.rest reader.new) }
     ensures counts { result ≢ Err Failed → R.failed_reads reader.new ≡ R.failed_reads reader.old }
     ensures failed { result ≡ Err Failed
         → R.failed_reads reader.new ≡ R.failed_reads reader.old + 1 }

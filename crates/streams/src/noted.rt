@@ -3,6 +3,7 @@
 ghost use Rattle.std.specs.Prelude.{◌≡◌, ℕ, None};
 
 use crate::std_streams::WriterSink;
+use memchr::memchr;
 use metric::{Sink, WriteFault};
 use std::io::Write;
 use std::marker::Model;
@@ -44,10 +45,9 @@ impl<W: Write + Drop> Noted<W> {
     fn keep(&mut self, bytes: &[u8])
         ensures { self.new ≡ self.old }
     {
-        let free = self.start.iter_mut().filter(|kept| **kept == 0);
-        for (kept, byte) in free.zip(bytes.iter()) {
-            *kept = *byte;
-        }
+        let used = memchr(0, self.start.as_slice()).unwrap_or(START);
+        let count = bytes.len().min(START - used);
+        self.start[used..used + count].copy_from_slice(&bytes[..count]);
     }
 }
 

@@ -46,10 +46,10 @@ impl Read for Connection {
 
 impl Connection {
     /// Sends all bytes.
-    fn write_all(&mut self, bytes: &[u8]) -> io::Result<()> {
+    fn write_all(&mut self, bytes: &[u8]) -> Result<(), WriteFault> {
         match &mut self.0 {
-            Some(stream) => stream.write_all(bytes),
-            None => Err(io::Error::from(ErrorKind::NotConnected)),
+            Some(stream) => stream.write_all(bytes).or(Err(WriteFault)),
+            None => Err(WriteFault),
         }
     }
 }
@@ -77,7 +77,7 @@ impl NoSocket {
         if let NoSocket::Memory(mut stream) = self
             && writeln!(stream, "{}", Refusal::Memory).is_ok()
         {
-            let _ = end(&mut stream);
+            end(&mut stream);
         }
     }
 }
@@ -125,7 +125,7 @@ impl Socket {
     }
 
     /// Sends the gathered replies. If that fails, they are lost.
-    fn send(&mut self) -> io::Result<()>
+    fn send(&mut self) -> Result<(), WriteFault>
         ensures { self.new ≡ self.old }
     {
         if self.replies.is_empty() {
@@ -136,39 +136,30 @@ impl Socket {
         sent
     }
 
-    /// Reads ahead if nothing is left to take. Retries a read that a signal interrupts.
-    fn fill(&mut self) -> io::Result<()>
-        ensures { self.new ≡ self.old }
-    {
-        'reads: for _ in 0..u64::MAX {
-            match self.reader.fill_buf() {
-                Ok(_) => return Ok(()),
-                Err(fault) if fault.kind() == ErrorKind::Interrupted => {}
-                Err(fault) => return Err(fault),
-            }
-        }
-        Err(io::Error::from(ErrorKind::Interrupted))
-    }
-
     /// Sends the replies and reads ahead, if nothing is left to take.
-    fn ready(&mut self) -> io::Result<()>
+    fn ready(&mut self) -> Result<(), ReadFault>
         ensures { self.new ≡ self.old }
     {
         if self.reader.buffer().is_empty() {
-            self.send()?;
-            self.fill()?;
+            self.send().or(Err(ReadFault))?;
+            fill(&mut self.reader)?;
         }
         Ok(())
     }
 
     /// Takes the next bytes into the front of the block, none after a first `stop` if that is
-    /// given. Returns how many.
-    fn take_block(&mut self, stop: Option<u8>, block: &mut [u8]) -> io::Result<usize>
-        ensures socket { self.new ≡ self.old }
+    /// given. Returns how many, and counts a read that fails.
+    fn read_block(&mut self, stop: Option<u8>, block: &mut [u8]) -> Result<usize, ReadFault>
+        requires { CanFail self.old.0 }
+        ensures counts { Counts self.old.0 result self.new.0 }
+        ensures writes { self.new.1 ≡ self.old.1 }
         ensures fits { IfOk result (λ count. count ≤ length block.new) }
         ensures stops { IfOk result (λ count. IfSome stop (λ stop. StopsAt stop count block.new)) }
     {
-        self.ready()?;
+        if self.ready().is_err() {
+            self.failed_reads += 1;
+            return Err(ReadFault);
+        }
         let held = self.reader.buffer();
         let front = &held[..held.len().min(block.len())];
         let count = match stop {
@@ -180,25 +171,8 @@ impl Socket {
         Ok(count)
     }
 
-    /// As `take_block`, as a read of the stream: counts one that fails.
-    fn read_block(&mut self, stop: Option<u8>, block: &mut [u8]) -> Result<usize, ReadFault>
-        requires { CanFail self.old.0 }
-        ensures counts { Counts self.old.0 result self.new.0 }
-        ensures writes { self.new.1 ≡ self.old.1 }
-        ensures fits { IfOk result (λ count. count ≤ length block.new) }
-        ensures stops { IfOk result (λ count. IfSome stop (λ stop. StopsAt stop count block.new)) }
-    {
-        match self.take_block(stop, block) {
-            Ok(count) => Ok(count),
-            Err(_) => {
-                self.failed_reads += 1;
-                Err(ReadFault)
-            }
-        }
-    }
-
     /// Gathers a reply, or sends it if it is long.
-    fn put(&mut self, bytes: &[u8]) -> io::Result<()>
+    fn put(&mut self, bytes: &[u8]) -> Result<(), WriteFault>
         ensures { self.new ≡ self.old }
     {
         if ROOM.saturating_sub(self.replies.len()) < bytes.len() {
@@ -207,7 +181,7 @@ impl Socket {
         if ROOM < bytes.len() {
             return self.reader.get_mut().write_all(bytes);
         }
-        Ok(self.replies.extend_from_slice(bytes)?)
+        self.replies.extend_from_slice(bytes).or(Err(WriteFault))
     }
 }
 
@@ -289,10 +263,23 @@ fn count_until(stop: u8, bytes: &[u8]) -> usize
     }
 }
 
+/// Reads ahead if nothing is left to take. Retries a read that a signal interrupts.
+fn fill(reader: &mut BufReader<Connection>) -> Result<(), ReadFault> {
+    for _ in 0..u64::MAX {
+        match reader.fill_buf() {
+            Ok(_) => return Ok(()),
+            Err(fault) if fault.kind() == ErrorKind::Interrupted => {}
+            Err(_) => break,
+        }
+    }
+    Err(ReadFault)
+}
+
 /// The buffers of a connection, without it.
 fn buffers(alloc: Global) -> io::Result<(BufReader<Connection>, Vec<u8>)> {
+    let replies = Vec::with_capacity(alloc, ROOM)?;
     let reader = BufReader::with_capacity(alloc, ROOM, Connection(None))?;
-    Ok((reader, Vec::with_capacity(alloc, ROOM)?))
+    Ok((reader, replies))
 }
 
 /// Sends the gathered replies and ends the connection so that its peer gets the last reply.
@@ -308,21 +295,22 @@ impl Drop for Socket {
         if sent.is_ok()
             && let Connection(Some(mut stream)) = reader.into_inner()
         {
-            let _ = end(&mut stream);
+            end(&mut stream);
         }
     }
 }
 
 /// Ends the writing side, then reads and drops what the peer still sends: closing with unread bytes
 /// would cost the peer the last reply. Bounded in bytes and in time.
-fn end(stream: &mut TcpStream) -> io::Result<()> {
-    stream.shutdown(Shutdown::Write)?;
-    stream.set_read_timeout(Some(Duration::from_millis(PATIENCE)))?;
+fn end(stream: &mut TcpStream) {
+    let patience = Some(Duration::from_millis(PATIENCE));
+    if stream.shutdown(Shutdown::Write).is_err() || stream.set_read_timeout(patience).is_err() {
+        return;
+    }
     let mut bytes = [0; LAST_ROOM];
     for _ in 0..LAST_READS {
-        if stream.read(bytes.as_mut_slice())? == 0 {
-            return Ok(());
+        if let Ok(0) | Err(_) = stream.read(bytes.as_mut_slice()) {
+            return;
         }
     }
-    Ok(())
 }

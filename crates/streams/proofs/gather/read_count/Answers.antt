@@ -9,7 +9,8 @@ use Rattle.streams.proofs.gather.read_count.Goals as goal
 
 pub returns-in_err-done-clause-taken : goal.returns-in_err-done-clause-taken
 returns-in_err-done-clause-taken g c =
-    taken_behind _ _ _ _ _ c.turns.invariant.gathered c.read_block.ensures.taken
+    let part = c.in_err-done.ensures.part in
+    taken_behind _ _ _ _ _ c.turns.invariant.gathered (part.bytes, part.taken)
 
 pub turns-preserved : goal.turns-preserved
 turns-preserved g c = record {

@@ -9,7 +9,8 @@ use Rattle.streams.proofs.gather.read_line.Goals as goal
 
 pub returns-in_err-read_byte-clause-taken : goal.returns-in_err-read_byte-clause-taken
 returns-in_err-read_byte-clause-taken g c =
-    taken_behind _ _ _ _ _ c.bytes.invariant.gathered c.read_byte.ensures.taken
+    let part = c.in_err-read_byte.ensures.part in
+    taken_behind _ _ _ _ _ c.bytes.invariant.gathered (part.bytes, part.taken)
 
 pub bytes-preserved : goal.bytes-preserved
 bytes-preserved g c = record {
@@ -28,7 +29,8 @@ returns-then-branch-eq10-clause-all g c =
 
 pub returns-then-branch-eq10-clause-taken : goal.returns-then-branch-eq10-clause-taken
 returns-then-branch-eq10-clause-taken g c =
-    taken_behind _ _ _ _ _ c.bytes.invariant.gathered c.read_byte.ensures.taken
+    let all = c.in_ok-read_byte.ensures.all in
+    taken_behind _ _ _ _ _ c.bytes.invariant.gathered (all.bytes, all.taken)
 
 pub returns-then-branch-eq10-clause-line : goal.returns-then-branch-eq10-clause-line
 returns-then-branch-eq10-clause-line g c =
