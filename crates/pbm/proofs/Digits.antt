@@ -59,15 +59,14 @@ AreDigits-block count bytes block ones zeros enough front is_one is_zero few som
       (is_zero k within) (sym (bit_at_or ones zeros k) ∙ some k before);
 }
 
--- the bits after those of a word fit into as many places as both take
-pub behind-fits : (word place bits count : ℕ) → word < 2 ^ place → bits < 2 ^ count
-    → bits * 2 ^ place + word < 2 ^ (place + count)
-behind-fits word place bits count small few =
-    grind (arith, nat_tests, common_steps, mul-le-mul_right, pow-add)
-
--- what fits into some places fits into a word of 64 places
-pub within-word : (place count : ℕ) → place + count ≤ 64 → 2 ^ (place + count) ≤ 2 ^ 64
-within-word place count room = pow-le-pow_right (omega arith) room
+-- the bits after those of a word fit into as many places as both take, and these into 64
+pub fits-behind : (word place bits count : ℕ) → place + count ≤ 64 → word < 2 ^ place
+    → bits < 2 ^ count → (bits * 2 ^ place + word < 2 ^ (place + count))
+    × (2 ^ (place + count) ≤ 2 ^ 64)
+fits-behind word place bits count room small few = (
+  grind (arith, nat_tests, common_steps, mul-le-mul_right, pow-add),
+  pow-le-pow_right (omega arith) room,
+)
 
 -- the first of some digits are read as their number without the bits of the others
 AreSomeRead-digits : (run most count : ℕ) (bytes : List ℕ) (number : ℕ) → 0 < count

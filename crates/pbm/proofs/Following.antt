@@ -1,6 +1,6 @@
 -- What a window reads in several steps.
-use Rattle.std.proofs.Common.{◌≡◌, ℕ, List, [], ◌++◌, Option, Some, None, Result, refl, sym}
-use Rattle.std.proofs.Common.{subst, append_assoc}
+use Rattle.std.proofs.Common.{◌≡◌, ℕ, List, [], ◌++◌, Option, Some, None, Result, refl, sym, subst}
+use Rattle.std.proofs.Common.{append_assoc, arith}
 use Rattle.std.specs.Prelude.{IsErrAnd, MatchResult}
 use Rattle.std.proofs.lemmas.List.{append-nil}
 use Rattle.std.proofs.lemmas.Result.{err_from_is_err_and}
@@ -10,7 +10,6 @@ use Rattle.metric.specs.declared.fault.PbmFault.{PbmFault}
 use Rattle.pbm.specs.declared.window.ImageStop.{ImageStop}
 use Rattle.pbm.specs.declared.window.ImageStop.TheVariants.{Failed, Memory, Fault}
 use Rattle.pbm.specs.Windows.{Follows, IsFaultOf, Meets}
-use Rattle.std.proofs.Common.{arith}
 use Rattle.std.proofs.lemmas.Grind.{common_steps}
 use Rattle.std.proofs.lemmas.Bool.Decides.{nat_tests}
 

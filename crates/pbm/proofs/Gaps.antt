@@ -1,11 +1,10 @@
 -- Gaps: what is read is a gap, and a gap is read.
-use Rattle.std.proofs.Common.{◌≡◌, ℕ, Bool, true, false, eqb, List, [], ◌∷◌, ◌++◌, Ok}
-use Rattle.std.proofs.Common.{refl, ap}
+use Rattle.std.proofs.Common.{◌≡◌, ℕ, Bool, true, false, eqb, List, [], ◌∷◌, ◌++◌, Ok, refl, ap}
+use Rattle.std.proofs.Common.{arith}
 use Rattle.std.specs.Prelude.{not}
 use Rattle.pbm.specs.Faults.{space, filling, gap}
 use Rattle.pbm.specs.Image.{is_whitespace, is_line_end, fills, IsGap}
 use Rattle.pbm.proofs.Steps.{bind_ok, IsOfBytes, bind-of_bytes}
-use Rattle.std.proofs.Common.{arith}
 use Rattle.std.proofs.lemmas.Grind.{common_steps}
 use Rattle.std.proofs.lemmas.Bool.Decides.{nat_tests}
 
@@ -39,23 +38,12 @@ unfolding filling fills
 filling-read true [] rest e = absurd cc
 filling-read false [] rest e = absurd cc
 filling-read true (byte ∷ others) rest e =
-    grind (
-      arith,
-      nat_tests,
-      common_steps,
-      FillingRead-cons,
-      filling-read (not (is_line_end byte))
-          others rest e,
-    )
+    let read = filling-read (not (is_line_end byte)) others rest e in
+    grind (arith, nat_tests, common_steps, FillingRead-cons, read)
 filling-read false (byte ∷ others) rest e =
-    grind (
-      arith,
-      nat_tests,
-      common_steps,
-      FillingRead-cons,
-      filling-read false others rest,
-      filling-read true others rest,
-    )
+    let spaces = filling-read false others rest in
+    let comment = filling-read true others rest in
+    grind (arith, nat_tests, common_steps, FillingRead-cons, spaces, comment)
 
 -- a gap was read from the bytes
 pub record GapRead (bytes rest : List ℕ) : Type 0 where
@@ -105,14 +93,9 @@ filling-again false [] byte rest is end = rw (end.no_whitespace, end.no_comment)
 filling-again true (first ∷ others) byte rest is end =
     filling-again (not (is_line_end first)) others byte rest is end
 filling-again false (first ∷ others) byte rest is end =
-    grind (
-      arith,
-      nat_tests,
-      common_steps,
-      filling-again false others byte rest,
-      filling-again true
-          others byte rest,
-    )
+    let spaces = filling-again false others byte rest in
+    let comment = filling-again true others byte rest in
+    grind (arith, nat_tests, common_steps, spaces, comment)
 
 -- a gap is read, up to a byte that ends it
 pub gap-again : (text : List ℕ) (byte : ℕ) (rest : List ℕ) → IsGap text → EndsGap byte
@@ -128,14 +111,9 @@ fills-append true [] more is = absurd cc
 fills-append false [] more is = refl
 fills-append true (first ∷ others) more is = fills-append (not (is_line_end first)) others more is
 fills-append false (first ∷ others) more is =
-    grind (
-      arith,
-      nat_tests,
-      common_steps,
-      fills-append false others more,
-      fills-append true others
-          more,
-    )
+    let spaces = fills-append false others more in
+    let comment = fills-append true others more in
+    grind (arith, nat_tests, common_steps, spaces, comment)
 
 -- what is a gap fills a gap
 pub fills-gap : (text : List ℕ) → IsGap text → fills false text ≡ true

@@ -1,7 +1,7 @@
 -- Images: what is read is an image, and an image is read.
 use Rattle.std.proofs.Common.{◌≡◌, ℕ, zero, suc, ◌+◌, ◌-◌, ◌*◌, ◌<◌, ◌≤◌, Bool, List, [], ◌∷◌, ◌++◌}
 use Rattle.std.proofs.Common.{length, get_or, Ok, Err, refl, sym, ap, subst, ◌∙◌, append_assoc, inl}
-use Rattle.std.proofs.Common.{inr, arith}
+use Rattle.std.proofs.Common.{inr, arith, rules}
 use Rattle.std.proofs.lemmas.List.{append-nil, length-append}
 use Rattle.metric.specs.declared.fault.PbmFault.{PbmFault}
 use Rattle.bits.specs.Cells.{Cells, IsSide, IsBitmap}
@@ -18,7 +18,6 @@ use Rattle.pbm.proofs.Rasters.{RasterRead, pixels-read, pixels-again, gap-before
 use Rattle.pbm.proofs.RawRasters.{RawRead, raw_raster-read, raw_raster-again}
 use Rattle.pbm.proofs.Pixels.{place-below, length-pixels_of, cells_of-pixels_of, pixels_of-cells_of}
 use Rattle.pbm.proofs.Headers.{HeaderRead, header-read, header-again}
-use Rattle.std.proofs.Common.{rules}
 use Rattle.std.proofs.lemmas.Grind.{common_steps}
 use Rattle.std.proofs.lemmas.Bool.Decides.{nat_tests}
 

@@ -7,15 +7,15 @@ use Rattle.std.proofs.lemmas.Nat.{div-mul-add, mod-mul-add}
 use Rattle.std.specs.List.{range_with_len, flat_map}
 use Rattle.std.proofs.lemmas.Bool.{cases_lt}
 use Rattle.std.proofs.lemmas.Bool.Decides.{nat_tests}
-use Rattle.std.proofs.lemmas.Grind.{flat_map-append, same_number_lists}
-use Rattle.std.proofs.lemmas.List.{get_or-take, get_or-drop, length-take-le}
-use Rattle.std.proofs.lemmas.List.{length-drop}
+use Rattle.std.proofs.lemmas.Grind.{flat_map-append, same_number_lists, common_steps}
+use Rattle.std.proofs.lemmas.List.{get_or-take, get_or-drop, length-take-le, length-drop}
 use Rattle.std.proofs.lemmas.List.FromFn.{get_or-map-range_with_len, length-map-range_with_len}
 use Rattle.bits.specs.Cells.{Cells, has}
+use Rattle.bits.specs.Words.{IsRowOf}
+use Rattle.std.specs.Int.{bit_at}
 use Rattle.pbm.specs.Image.{pixel_byte}
 use Rattle.pbm.specs.Writing.{ends_line, digit_text, plain_digit}
 use Rattle.pbm.proofs.Ranges.{range-append}
-use Rattle.std.proofs.lemmas.Grind.{common_steps}
 
 -- a line has a digit at each place, and LF after the last one
 line_text : (f : ℕ → List ℕ) (digit : ℕ → ℕ) (start n : ℕ)
@@ -45,6 +45,15 @@ digit_at cells k = pixel_byte (has cells (k % cells.width) (k / cells.width))
 digit_at-is : (cells : Cells) (y x : ℕ) → x < cells.width
     → digit_at cells (y * cells.width + x) ≡ pixel_byte (has cells x y)
 digit_at-is cells y x within = grind (arith, nat_tests, common_steps, div-mul-add, mod-mul-add)
+
+-- the digits of a row's words are those of its cells
+pub row-digits : (cells : Cells) (y width : ℕ) (words digits : List ℕ) → width ≡ cells.width
+    → IsRowOf cells y words
+    → ((x : ℕ) → x < 64 * length words
+    → get_or digits x 0 ≡ 48 + bit_at (get_or words (x / 64) 0) (x % 64))
+    → (x : ℕ) → x < cells.width → get_or (take width digits) x 0 ≡ pixel_byte (has cells x y)
+row-digits cells y width words digits is are pixels x within =
+    grind (arith, nat_tests, common_steps)
 
 -- a part of a row's digits is that of its places
 digits-part : (cells : Cells) (y start count : ℕ) (digits : List ℕ) → length digits ≡ cells.width

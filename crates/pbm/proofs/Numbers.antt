@@ -2,8 +2,7 @@
 use Rattle.std.proofs.Common.{◌≡◌, ℕ, ◌+◌, ◌-◌, ◌*◌, ◌<◌, true, false, List, []}
 use Rattle.std.proofs.Common.{◌∷◌, ◌++◌, Ok, Err, refl, sym, ap, ◌∙◌, inl, inr, arith}
 use Rattle.std.specs.List.{list_all}
-use Rattle.std.proofs.lemmas.Bool.{lt-ltb, le-ltb, ne_eqb}
-use Rattle.std.proofs.lemmas.Bool.{and_from}
+use Rattle.std.proofs.lemmas.Bool.{lt-ltb, le-ltb, ne_eqb, and_from}
 use Rattle.metric.specs.declared.fault.PbmFault.TheVariants.{BadNumber, TooLarge}
 use Rattle.bits.specs.Cells.{IsSide}
 use Rattle.pbm.specs.Faults.{side, digits, number_and_rest}
@@ -22,13 +21,8 @@ digits-over : (a b : ℕ) (bytes : List ℕ) → 4096 < a → 4096 < b → digit
 unfolding digits
 digits-over a b [] p q = side-over a [] p ∙ sym (side-over b [] q)
 digits-over a b (byte ∷ rest) p q =
-    grind (
-      arith,
-      nat_tests,
-      common_steps,
-      digits-over (10 * a + (byte - 48)) (10 * b + (byte -
-          48)) rest,
-    )
+    let others = digits-over (10 * a + (byte - 48)) (10 * b + (byte - 48)) rest in
+    grind (arith, nat_tests, common_steps, others)
 
 -- a digit after a value over the longest side is skipped
 pub digits-pass : (value byte : ℕ) (bytes rest : List ℕ) → bytes ≡ byte ∷ rest
@@ -115,13 +109,8 @@ digits-again : (so_far : ℕ) (text : List ℕ) (byte : ℕ) (rest : List ℕ)
 unfolding digits value_from
 digits-again so_far [] byte rest all end is = rw end (side-again so_far (byte ∷ rest) is)
 digits-again so_far (digit ∷ others) byte rest all end is =
-    grind (
-      arith,
-      nat_tests,
-      common_steps,
-      digits-again (10 * so_far + (digit - 48)) others byte
-          rest,
-    )
+    let again = digits-again (10 * so_far + (digit - 48)) others byte rest in
+    grind (arith, nat_tests, common_steps, again)
 
 -- a number that is spelled so is read, up to a byte that is no digit
 pub number-again : (text : List ℕ) (value : ℕ) (byte : ℕ) (rest : List ℕ) → IsNumber text value

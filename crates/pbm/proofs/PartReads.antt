@@ -13,6 +13,7 @@ use Rattle.pbm.specs.Image.{is_whitespace}
 use Rattle.pbm.specs.Plain.{AreBitsRead, AreDigits, AreSomeRead, behind_space}
 use Rattle.pbm.proofs.Rasters.{with_front, with_front-nil, pixels-more, pixels-fault, pixels-done}
 use Rattle.pbm.proofs.Steps.{ok_is, bind_ok}
+use mir.Val.{bool_byte}
 use Rattle.std.proofs.Common.{rules}
 use Rattle.std.proofs.lemmas.Grind.{common_steps}
 use Rattle.std.proofs.lemmas.Bool.Decides.{nat_tests}
@@ -260,20 +261,20 @@ AreBitsRead-digits count bytes number are =
     record { all = all; size = size; read = read; bits = bits }
 
 -- the lowest bit of 1 is set, and that of 0 is not
-lowest_is : (number : ℕ) (value : Bool) → number ≡ cond value 1 0 → (bit_at number 0 == 1) ≡ value
+lowest_is : (number : ℕ) (value : Bool) → number ≡ bool_byte value → (bit_at number 0 == 1) ≡ value
 lowest_is number true is = rw is refl
 lowest_is number false is = rw is refl
 
 -- 1 and 0 are below 2
-bit_below : (number : ℕ) (value : Bool) → number ≡ cond value 1 0 → number < 2 ^ 1
+bit_below : (number : ℕ) (value : Bool) → number ≡ bool_byte value → number < 2 ^ 1
 bit_below number true is = omega arith
 bit_below number false is = omega arith
 
 -- one pixel that is read is the lowest bit of a number
-pub AreSomeRead-one : (bytes : List ℕ) (value : Bool) (number : ℕ) (rest : List ℕ)
-    → next_pixel bytes ≡ Ok (value, rest) → number ≡ cond value 1 0
-    → AreSomeRead 1 bytes 1 number rest
-AreSomeRead-one bytes value number rest read is = record {
+pub AreSomeRead-one : (most : ℕ) (bytes : List ℕ) (value : Bool) (number : ℕ) (rest : List ℕ)
+    → 0 < most → next_pixel bytes ≡ Ok (value, rest) → number ≡ bool_byte value
+    → AreSomeRead most bytes 1 number rest
+AreSomeRead-one most bytes value number rest some read is = record {
   some = omega arith;
   few = omega arith;
   read = IsPartRead-all 1 bytes 1 (bit_at number) number rest refl (λ i within. refl)

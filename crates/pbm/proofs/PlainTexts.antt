@@ -48,15 +48,8 @@ digits_from-raster : (black ends : ℕ → Bool) (start n : ℕ)
 unfolding digits_from IsRaster
 digits_from-raster black ends start zero = refl
 digits_from-raster black ends start (suc n) =
-    grind (
-      arith,
-      nat_tests,
-      common_steps,
-      IsBetween-line_end,
-      digits_from,
-      digits_from-raster
-          black ends (start + 1) n,
-    )
+    let others = digits_from-raster black ends (start + 1) n in
+    grind (arith, nat_tests, common_steps, IsBetween-line_end, digits_from, others)
 
 -- the last column ends its line
 ends_line-last : (width x : ℕ) → x + 1 ≡ width → ends_line width x ≡ true

@@ -1,17 +1,16 @@
 -- What is read at the front of some bytes is read where more bytes follow them.
-use Rattle.std.proofs.Common.{◌≡◌, ◌≢◌, ℕ, zero, suc, ◌+◌, ◌-◌, ◌*◌, ◌≤◌, Bool, true, false, cond}
-use Rattle.std.proofs.Common.{eqb, List, [], ◌∷◌, ◌++◌, length, drop, Ok, Err, refl, sym}
-use Rattle.std.proofs.Common.{ap, ◌∙◌, append_assoc, inl, inr, arith}
-use Rattle.metric.specs.declared.fault.PbmFault.TheVariants.{BadComment}
+use Rattle.std.proofs.Common.{◌≡◌, ◌≢◌, ℕ, zero, suc, ◌+◌, ◌-◌, ◌*◌, ◌≤◌, Bool, true, false}
+use Rattle.std.proofs.Common.{List, [], ◌∷◌, ◌++◌, length, drop, Ok, refl, sym}
+use Rattle.std.proofs.Common.{ap, ◌∙◌, append_assoc, arith}
 use Rattle.pbm.specs.declared.header.Form.{Form}
 use Rattle.pbm.specs.declared.header.Form.TheVariants.{Plain, Raw}
 use Rattle.pbm.specs.Faults.{◌>>=◌, magic, space, filling, gap, side, digits, number_and_rest}
 use Rattle.pbm.specs.Faults.{before_raster, header, pixel_at, next_pixel, pixels}
 use Rattle.std.specs.Prelude.{not}
-use Rattle.pbm.specs.Image.{is_whitespace, is_line_end}
+use Rattle.pbm.specs.Image.{is_line_end}
 use Rattle.pbm.specs.Plain.{AreBitsRead}
 use Rattle.pbm.specs.Writing.{form_digit}
-use Rattle.pbm.proofs.Steps.{ok_is, bind_ok, chosen}
+use Rattle.pbm.proofs.Steps.{ok_is, bind_ok}
 use Rattle.pbm.proofs.Rasters.{pixels-read}
 use Rattle.pbm.proofs.Headers.{header-read, behind_height, behind_width, behind_magic}
 use Rattle.pbm.specs.Windows.{Stands}
@@ -33,13 +32,9 @@ filling-with_more false [] rest more e = absurd cc
 filling-with_more true (byte ∷ others) rest more e =
     filling-with_more (not (is_line_end byte)) others rest more e
 filling-with_more false (byte ∷ others) rest more e =
-    grind (
-      arith,
-      nat_tests,
-      common_steps,
-      filling-with_more false others rest more,
-      filling-with_more true others rest more,
-    )
+    let spaces = filling-with_more false others rest more in
+    let comment = filling-with_more true others rest more in
+    grind (arith, nat_tests, common_steps, spaces, comment)
 
 -- a gap is read where more bytes follow
 gap-with_more : (bytes rest more : List ℕ) → gap bytes ≡ Ok rest
@@ -59,13 +54,8 @@ digits-with_more : (value : ℕ) (bytes : List ℕ) (found : ℕ × List ℕ) (m
 unfolding digits
 digits-with_more value [] found more some e = absurd (some ((side-anywhere value [] [] found e).0))
 digits-with_more value (byte ∷ others) found more some e =
-    grind (
-      arith,
-      nat_tests,
-      common_steps,
-      digits-with_more (10 * value + (byte - 48)) others found
-          more some,
-    )
+    let next = digits-with_more (10 * value + (byte - 48)) others found more some in
+    grind (arith, nat_tests, common_steps, next)
 
 -- a number is read where more bytes follow, if some follow already
 number-with_more : (bytes : List ℕ) (found : ℕ × List ℕ) (more : List ℕ) → found.1 ≢ []
@@ -133,26 +123,22 @@ pixel_at-with_more : (bytes : List ℕ) (found : Bool × List ℕ) (more : List 
 pixel_at-with_more [] found more e = absurd cc
 pixel_at-with_more (byte ∷ rest) found more e = grind (arith, nat_tests, common_steps)
 
+-- a pixel after the rest of a gap is read where more bytes follow
+spaced-with_more : (bytes : List ℕ) (found : Bool × List ℕ) (more : List ℕ)
+    → (filling false bytes >>= pixel_at) ≡ Ok found
+    → (filling false (bytes ++ more) >>= pixel_at) ≡ Ok (found.0, found.1 ++ more)
+spaced-with_more bytes found more e = let b = bind_ok (filling false bytes) pixel_at found e in
+    rw (filling-with_more false bytes b.0 more b.1) (pixel_at-with_more b.0 found more b.2)
+
 -- the next pixel is read where more bytes follow
 next_pixel-with_more : (bytes : List ℕ) (found : Bool × List ℕ) (more : List ℕ)
     → next_pixel bytes ≡ Ok found → next_pixel (bytes ++ more) ≡ Ok (found.0, found.1 ++ more)
 unfolding next_pixel
 next_pixel-with_more [] found more e = absurd cc
 next_pixel-with_more (byte ∷ rest) found more e =
-    elim (chosen (is_whitespace byte) (filling false rest >>= pixel_at)
-    (cond (eqb byte 35) (Err BadComment) (pixel_at (byte ∷ rest))) (Ok found) e) [
-      | inl spaced ↦
-          let is = spaced.0 in
-          let b = bind_ok (filling false rest) pixel_at found spaced.1 in
-          rw (is, filling-with_more false rest b.0 more b.1) (pixel_at-with_more b.0 found more b.2)
-      | inr here ↦
-          let no = here.0 in
-          elim (chosen (eqb byte 35) (Err BadComment) (pixel_at (byte ∷ rest)) (Ok found) here.1) [
-            | inl comment ↦ absurd (let nothing = comment.1 in cc)
-            | inr at ↦ let none = at.0 in
-                rw (no, none) (pixel_at-with_more (byte ∷ rest) found more at.1)
-          ]
-    ]
+    let behind = spaced-with_more rest found more in
+    let here = pixel_at-with_more (byte ∷ rest) found more in
+    grind (arith, nat_tests, common_steps, behind, here)
 
 -- as many pixels as are wanted are read where more bytes follow
 pixels-with_more : (n : ℕ) (bytes : List ℕ) (found : List Bool × List ℕ) (more : List ℕ)

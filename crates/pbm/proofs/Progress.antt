@@ -1,6 +1,5 @@
 -- How far a raster was read into its bitmap.
-use Rattle.std.proofs.Common.{◌≡◌, ℕ, ◌-◌, ◌*◌, Bool, false, List, length, Ok}
-use Rattle.std.proofs.Common.{arith}
+use Rattle.std.proofs.Common.{◌≡◌, ℕ, ◌-◌, ◌*◌, Bool, false, List, length, Ok, arith}
 use Rattle.bits.specs.Cells.{Cells, cells_where}
 use Rattle.pbm.specs.Faults.{pixels, cells_of_pixels}
 use Rattle.pbm.proofs.Rasters.{with_front, with_front-nil, pixels-done}

@@ -1,14 +1,13 @@
 -- Rasters: what is read is spelled so, and what is spelled so is read.
 use Rattle.std.proofs.Common.{◌≡◌, ℕ, zero, suc, ◌-◌, ◌+◌, ◌<◌, Bool, true, false, cond, eqb, List}
 use Rattle.std.proofs.Common.{[], ◌∷◌, ◌++◌, length, Result, Ok, Err, refl, sym, ap, ◌∙◌}
-use Rattle.std.proofs.Common.{append_assoc, inl, inr, arith}
+use Rattle.std.proofs.Common.{append_assoc, inl, inr, arith, rules}
 use Rattle.metric.specs.declared.fault.PbmFault.{PbmFault}
 use Rattle.metric.specs.declared.fault.PbmFault.TheVariants.{BadComment}
 use Rattle.pbm.specs.Faults.{◌>>=◌, filling, gap, pixel_at, next_pixel, pixels}
 use Rattle.pbm.specs.Image.{is_whitespace, IsGap, pixel_byte, IsBetween, IsRaster}
 use Rattle.pbm.proofs.Steps.{bind_ok, chosen}
 use Rattle.pbm.proofs.Gaps.{GapRead-from, EndsGap, filling-again, gap-again}
-use Rattle.std.proofs.Common.{rules}
 use Rattle.std.proofs.lemmas.Grind.{common_steps}
 use Rattle.std.proofs.lemmas.Bool.Decides.{nat_tests}
 
@@ -98,16 +97,8 @@ unfolding pixels
 pixels-read zero bytes found e =
     grind (arith, nat_tests, common_steps, RasterRead-one, bind_ok, next_pixel-read)
 pixels-read (suc n) bytes found e =
-    grind (
-      arith,
-      nat_tests,
-      common_steps,
-      RasterRead-cons,
-      bind_ok,
-      next_pixel-read,
-      pixels-read
-          n,
-    )
+    let others = pixels-read n in
+    grind (arith, nat_tests, common_steps, RasterRead-cons, bind_ok, next_pixel-read, others)
 
 -- a gap ends at a pixel
 pixel-ends : (pixel : Bool) → EndsGap (pixel_byte pixel)

@@ -1,6 +1,6 @@
 -- The rasters and images that a window takes.
 use Rattle.std.proofs.Common.{◌≡◌, ℕ, ◌*◌, ◌<◌, Bool, true, false, List, [], ◌∷◌, ◌++◌, length}
-use Rattle.std.proofs.Common.{Option, Ok, Err, refl, sym, ap, subst, arith}
+use Rattle.std.proofs.Common.{Option, Ok, Err, refl, sym, ap, subst, arith, rules}
 use Rattle.metric.specs.Stream.{AreAll}
 use Rattle.metric.specs.declared.fault.PbmFault.{PbmFault}
 use Rattle.metric.specs.declared.fault.PbmFault.TheVariants.{Memory}
@@ -11,7 +11,6 @@ use Rattle.pbm.specs.Windows.{HasFault, HasImage, IsStopped, Meets}
 use Rattle.pbm.proofs.Headers.{header-memory}
 use Rattle.pbm.proofs.Images.{image-reads, fault-none}
 use Rattle.pbm.proofs.Following.{Meets-end, Meets-whatever}
-use Rattle.std.proofs.Common.{rules}
 use Rattle.std.proofs.lemmas.Grind.{common_steps}
 use Rattle.std.proofs.lemmas.Bool.Decides.{nat_tests}
 

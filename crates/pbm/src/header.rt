@@ -7,13 +7,13 @@ ghost use Rattle.pbm.specs.Faults.{before_raster, header, magic};
 ghost use Rattle.pbm.specs.Writing.{form_digit};
 
 use crate::gap::{after_gap, after_space};
-use crate::number::read_number;
+use crate::number::read_side;
 use bits::Bitmap;
 use metric::PbmFault;
 use std::alloc::Global;
 
 /// The form of an image.
-#[derive(Clone, Copy, Debug, PartialEq, Eq)]
+#[derive(Clone, Copy)]
 pub enum Form {
     /// `P1`: a pixel is a digit.
     Plain,
@@ -34,7 +34,7 @@ impl Form {
 }
 
 /// What stands before a raster: the form of the image, and the sides of its bitmap.
-#[derive(Clone, Copy, Debug, PartialEq, Eq)]
+#[derive(Clone, Copy)]
 pub struct Header {
     pub form: Form,
     pub width: u16,
@@ -86,10 +86,8 @@ pub fn read_header(bytes: &[u8]) -> Result<(Header, &[u8]), PbmFault>
         (λ fault. header bytes.now ≡ Err fault) }
 {
     let (form, rest) = after_magic(bytes)?;
-    let rest = after_gap(rest)?;
-    let (width, rest) = read_number(rest)?;
-    let rest = after_gap(rest)?;
-    let (height, rest) = read_number(rest)?;
+    let (width, rest) = read_side(rest)?;
+    let (height, rest) = read_side(rest)?;
     let rest = at_raster(form, rest)?;
     let header = Header {
         form,

@@ -1,8 +1,9 @@
 //! The numbers of an image: the sides of its bitmap, in cells.
 
 ghost use Rattle.std.specs.Prelude.{◌≡◌, Ok, Err, MatchResult};
-ghost use Rattle.pbm.specs.Faults.{digits, number_and_rest, side};
+ghost use Rattle.pbm.specs.Faults.{◌>>=◌ as ◌followed_by◌, digits, gap, number_and_rest, side};
 
+use crate::gap::after_gap;
 use metric::PbmFault;
 
 /// The longest side of a bitmap.
@@ -41,13 +42,14 @@ fn read_digits(mut value: u16, bytes: &[u8]) -> Result<(u16, &[u8]), PbmFault>
     side_of(value, rest)
 }
 
-/// The side that the digits at the front spell.
+/// The side that the digits after a gap spell.
 #[tactic(auto, unfolding(crate::specs::Faults::number_and_rest))]
-pub fn read_number(bytes: &[u8]) -> Result<(u16, &[u8]), PbmFault>
-    ensures { MatchResult result (λ found. number_and_rest bytes.now ≡ Ok (found.0, found.1.now))
-        (λ fault. number_and_rest bytes.now ≡ Err fault) }
+pub fn read_side(bytes: &[u8]) -> Result<(u16, &[u8]), PbmFault>
+    ensures { MatchResult result
+        (λ found. (gap bytes.now followed_by number_and_rest) ≡ Ok (found.0, found.1.now))
+        (λ fault. (gap bytes.now followed_by number_and_rest) ≡ Err fault) }
 {
-    match bytes.split_first() {
+    match after_gap(bytes)?.split_first() {
         None => Err(PbmFault::Truncated),
         Some((digit @ b'0'..=b'9', rest)) => read_digits(u16::from(*digit - b'0'), rest),
         Some(_) => Err(PbmFault::BadNumber),

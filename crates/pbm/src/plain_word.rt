@@ -74,15 +74,6 @@ fn behind_space(bytes: &[u8]) -> &[u8]
     }
 }
 
-/// The next pixel as the lowest bit of a word.
-fn read_one(bytes: &[u8]) -> Result<(u16, u64, &[u8]), PbmFault>
-    ensures { MatchResult result (λ found. AreSomeRead 1 bytes.now found.0 found.1 found.2.now)
-        (λ fault. next_pixel bytes.now ≡ Err fault) }
-{
-    let (black, rest) = read_next(bytes)?;
-    Ok((1, u64::from(black), rest))
-}
-
 /// The number of pixels read next, from 1 to `most`, and their bits: the first is the lowest. Takes
 /// a whitespace byte before digits with them, as at the end of a line.
 fn read_some(bytes: &[u8], most: u16) -> Result<(u16, u64, &[u8]), PbmFault>
@@ -95,7 +86,8 @@ fn read_some(bytes: &[u8], most: u16) -> Result<(u16, u64, &[u8]), PbmFault>
     let (run, digits) = front_digits(line);
     let count = run.min(most);
     if count == 0 {
-        return read_one(bytes);
+        let (black, rest) = read_next(bytes)?;
+        return Ok((1, u64::from(black), rest));
     }
     let digits = digits & (u64::MAX >> (64 - count));
     Ok((count, digits, &line[usize::from(count)..]))

@@ -1,8 +1,7 @@
 //! Writing an image in the plain form.
 
 ghost use Rattle.std.specs.Prelude.{◌≡◌, ℕ, ◌+◌, ◌-◌, ◌*◌, ◌<◌, ◌≤◌, ◌++◌, ◌∷◌, [], length};
-ghost use Rattle.std.specs.Prelude.{slice_index};
-ghost use Rattle.std.specs.Prelude.{vec_len, vec_capacity, OnOk, OnErr, IfErr};
+ghost use Rattle.std.specs.Prelude.{slice_index, vec_len, vec_capacity, OnOk, OnErr, IfErr};
 ghost use Rattle.std.specs.List.{range_with_len, flat_map};
 ghost use Rattle.bits.specs.Cells.{has};
 ghost use Rattle.metric.specs.declared.refusal.Refusal.TheVariants.{Memory};

@@ -94,7 +94,7 @@ fn take_raw<R: Source>(
         window.next_row(reader, across, &mut reversed, &mut words)?;
         bitmap.set_row(y, &words);
     }
-    window.fill_whole(reader)
+    window.fill(reader, usize::MAX)
 }
 
 /// Takes the raster of an image of this form into a blank bitmap.

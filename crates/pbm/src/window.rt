@@ -147,21 +147,6 @@ impl Window {
         Ok(())
     }
 
-    /// Reads everything the source has.
-    pub fn fill_whole<R: Source>(&mut self, reader: &mut R) -> Result<(), ImageStop>
-        requires can_fail { CanFail (R.failed_reads reader.old) }
-        requires open { IsOpen self.old (R.rest reader.old) }
-        ensures open { IsOpen self.new (R.rest reader.new) }
-        ensures reads { OnOk result
-            (ReadsOn (R.rest reader.old) self.old (R.rest reader.new) self.new) }
-        ensures ended { OnOk result (AreAll (R.rest reader.new) []) }
-        ensures fault { IfErr result (λ stop. IsFaultOf stop (λ met. ⊥)) }
-        ensures counts { CountsReads (R.failed_reads reader.old) result
-            (R.failed_reads reader.new) }
-    {
-        self.fill(reader, usize::MAX)
-    }
-
     /// Drops the bytes taken, and reads on until the unread bytes have more than doubled and are at
     /// least a block, or the source has ended.
     pub fn refill<R: Source>(&mut self, reader: &mut R) -> Result<(), ImageStop>

@@ -1,6 +1,5 @@
 -- The lines so far were added; each has 70 digits.
-use Rattle.std.proofs.Common.{◌≡◌, ◌+◌, ◌-◌, ◌*◌, ◌%◌, ◌≤◌, ◌++◌, length, vec_len}
-use Rattle.std.proofs.Common.{vec_capacity}
+use Rattle.std.proofs.Common.{◌≡◌, ◌+◌, ◌-◌, ◌*◌, ◌%◌, ◌≤◌, ◌++◌, length, vec_len, vec_capacity}
 use Rattle.std.specs.List.{range_with_len, flat_map}
 use Rattle.pbm.specs.Writing.{plain_digit, row_length}
 use Rattle.pbm.proofs.plain_writer.push_lines.Given as goal

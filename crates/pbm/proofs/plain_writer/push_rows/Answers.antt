@@ -1,9 +1,19 @@
 -- One more row.
 use Rattle.std.proofs.Common.{◌≡◌, ℕ, ◌+◌, ◌-◌, ◌*◌, ◌++◌, List, ◌∙◌, ap, arith}
+use Rattle.std.proofs.lemmas.Grind.{common_steps}
 use Rattle.std.specs.List.{range_with_len, flat_map}
 use Rattle.pbm.specs.Writing.{plain_digit}
+use Rattle.pbm.proofs.Lines.{row-digits}
 use Rattle.pbm.proofs.Ranges.{flat_map-row_from}
 use Rattle.pbm.proofs.plain_writer.push_rows.Goals as goal
+
+pub push_lines-requires-clause-room : goal.push_lines-requires-clause-room
+push_lines-requires-clause-room c = grind (arith, common_steps)
+
+pub push_lines-requires-clause-digits : goal.push_lines-requires-clause-digits
+push_lines-requires-clause-digits c =
+    row-digits c.args.bitmap.now c.rows.y _ _ _ (omega arith) c.row_words.ensures
+    c.put_digits.ensures.pixels
 
 pub rows-preserved : goal.rows-preserved
 rows-preserved c =

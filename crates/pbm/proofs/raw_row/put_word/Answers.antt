@@ -1,6 +1,7 @@
 -- Each byte has eight bits of the word.
 use Rattle.std.proofs.Common.{◌≡◌, ℕ, ◌+◌, ◌-◌, ◌*◌, ◌∙◌, [], ◌∷◌, List, get_or, ap, arith}
 use Rattle.std.specs.Int.{bit_at}
+use Rattle.std.proofs.lemmas.Grind.{common_steps}
 use Rattle.bits.proofs.WordBits.{bit_of_part}
 use Rattle.pbm.proofs.Eights.{bit_of_lowest, get_or-written}
 use Rattle.pbm.proofs.Words.{each_of_eight}
@@ -28,3 +29,6 @@ returns-clause-bits c =
     ap (λ (n : ℕ). bit_at n i)
     (rw c.copy_from_slice.ensures.after
     (get_or-written c.args.first k c.args.row.now bytes _ (omega arith) few)) ∙ is
+
+pub returns-clause-others : goal.returns-clause-others
+returns-clause-others c = grind (arith, common_steps)

@@ -1,11 +1,15 @@
 -- One more row, and in the end all of them.
 use Rattle.std.proofs.Common.{◌≡◌, ℕ, ◌*◌, List, ◌++◌, map, ◌∙◌, ap, append_assoc, arith}
+use Rattle.std.proofs.lemmas.Grind.{common_steps}
 use Rattle.std.specs.List.{range_with_len}
 use Rattle.pbm.specs.declared.header.Form.TheVariants.{Raw}
 use Rattle.pbm.specs.Image.{bytes_across}
 use Rattle.pbm.specs.Writing.{front_text, raw_byte, raw_text}
 use Rattle.pbm.proofs.Ranges.{map-row}
 use Rattle.pbm.proofs.raw_writer.write_raw.Goals as goal
+
+pub push_row-requires-clause-room : goal.push_row-requires-clause-room
+push_row-requires-clause-room c = grind (arith, common_steps)
 
 pub rows-preserved : goal.rows-preserved
 rows-preserved c = record {

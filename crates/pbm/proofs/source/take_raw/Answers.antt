@@ -46,6 +46,6 @@ pub returns-clause-raster : goal.returns-clause-raster
 returns-clause-raster g c =
     let down : c.rows.y ≡ c.args.bitmap.now.height = omega arith in
     let whole = rw down at c.rows.invariant.taken in
-    on_ok_weaker c.fill_whole.result
-    (λ ended. Meets-follows (λ all left so. (left, IsRawTo-all _ _ all left _ so)) whole)
-    c.fill_whole.ensures.ended
+    on_ok_weaker c.fill.result
+    (λ more. Meets-follows (λ all left so. (left, IsRawTo-all _ _ all left _ so)) whole)
+    c.fill.ensures.more

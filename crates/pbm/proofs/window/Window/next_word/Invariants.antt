@@ -1,13 +1,12 @@
 -- What was read so far stands after what was there, nothing is taken, and no read has failed.
 use Rattle.std.proofs.Common.{◌≡◌, ◌-◌, ◌^◌, cond, length}
-use Rattle.pbm.specs.Windows.{Follows, IsOpen, unread}
+use Rattle.pbm.specs.Windows.{IsOpen, ReadsOn, unread}
 use Rattle.pbm.proofs.window.Window.next_word.Given as goal
 
 abbrev pub invariant-turns : goal.invariant-turns
 invariant-turns g l = record {
   open_still : IsOpen l.self (g.R.Source.rest l.reader);
-  reads : Follows (g.R.Source.rest l.fn.reader) (unread l.fn.self) (g.R.Source.rest l.reader)
-      (unread l.self) (λ all left. all ≡ left);
+  reads : ReadsOn (g.R.Source.rest l.fn.reader) l.fn.self (g.R.Source.rest l.reader) l.self;
   none_failed : g.R.Source.failed_reads l.reader ≡ g.R.Source.failed_reads l.fn.reader;
 }
 
