@@ -8,7 +8,7 @@ use bits::Bitmap;
 use metric::Edge;
 
 /// Rows `y0` to `y1 - 1` of a bitmap with this edge.
-#[derive(Clone, Copy, Debug)]
+#[derive(Clone, Copy)]
 pub struct Batch<'a> {
     pub bitmap: &'a Bitmap,
     pub edge: Edge,

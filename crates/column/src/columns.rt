@@ -40,17 +40,12 @@ impl Columns {
         ensures memory { IfErr result (λ refusal. refusal ≡ Memory) }
     {
         let mut entries = no_obstacles(alloc, usize::from(batch.columns()))?;
-        if !is_worth_a_walk(batch, entries.as_mut_slice()) {
-            return Ok(Columns {
-                carried: None,
-                entries,
-            });
-        }
-        let carried = Carried::of(alloc, batch)?;
-        Ok(Columns {
-            carried: Some(carried),
-            entries,
-        })
+        let carried = if is_worth_a_walk(batch, entries.as_mut_slice()) {
+            Some(Carried::of(alloc, batch)?)
+        } else {
+            None
+        };
+        Ok(Columns { carried, entries })
     }
 
     /// Reads row `y`, which is the next: its entries are then the row of a table of the bitmap.

@@ -13,7 +13,7 @@ use metric::Metric;
 
 /// A range of cells and a range of columns, each up to but not including its end. Both count the
 /// frame, if there is one.
-#[derive(Clone, Copy, Debug)]
+#[derive(Clone, Copy)]
 pub struct Piece {
     pub from: usize,
     pub end: usize,

@@ -33,7 +33,7 @@ const FAR_ROWS: u8 = 16;
 
 /// The buffers for the spans of one row, and for the parts and the words of its columns. Contracts
 /// see the width of the rows that it was made for.
-#[derive(Debug, Drop)]
+#[derive(Drop)]
 pub struct Stack {
     spans: Vec<Span>,
     parts: Vec<u16>,
@@ -194,9 +194,8 @@ fn fill_row<M: Metric, A: CellValue, B: Border>(
         return;
     }
     let (parts, spans) = (stack.parts.as_mut_slice(), stack.spans.as_mut_slice());
-    if !fill_beside::<M, A, B>(entries, y, parts, spans, answers) {
-        stack.far_rows = FAR_ROWS;
-    }
+    let found = fill_beside::<M, A, B>(entries, y, parts, spans, answers);
+    stack.far_rows = if found { 0 } else { FAR_ROWS };
 }
 
 /// Fills a row by the stack only.

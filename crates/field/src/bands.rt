@@ -21,21 +21,6 @@ struct Shared<'a, G: Gate> {
     gate: &'a G,
 }
 
-/// The bands after the first `above` ones, up to band `below`.
-#[derive(Clone, Copy)]
-struct Bands {
-    above: u8,
-    below: u8,
-}
-
-/// Bands in two halves: those down to `middle`, and those from there to `below`.
-#[derive(Clone, Copy)]
-struct Halves {
-    above: u8,
-    middle: u8,
-    below: u8,
-}
-
 /// The answer of `rows`, computed in bands, one per worker.
 ///
 /// A thread per band enters the gate first, even if the band has no rows, and then computes the
@@ -60,30 +45,26 @@ pub fn rows_with<M: Metric + Sync, G: Gate + Sync, R: Threads + Sync>(
         workers,
         gate,
     };
-    let bands = Bands {
-        above: 0,
-        below: workers.count,
-    };
-    work_bands::<M, G, R>(rt, &shared, bands, nears.as_mut_slice())?;
+    work_bands::<M, G, R>(rt, &shared, 0, workers.count, nears.as_mut_slice())?;
     Ok(nears)
 }
 
-/// Computes these bands, each in a thread of its own.
+/// Computes the bands after the first `above` ones, up to band `below`, each in a thread of its own.
 #[cycle(bands)]
 fn work_bands<M: Metric + Sync, G: Gate + Sync, R: Threads + Sync>(
     rt: &R,
     shared: &Shared<'_, G>,
-    bands: Bands,
+    above: u8,
+    below: u8,
     nears: &mut [Option<Near>],
 ) -> Result<(), Refusal>
-    requires bands { AreBands shared.now.workers.count bands.above bands.below }
-    requires room { HasBandRoom shared.now.batch.now shared.now.workers.count bands.above
-        bands.below nears.old }
+    requires bands { AreBands shared.now.workers.count above below }
+    requires room { HasBandRoom shared.now.batch.now shared.now.workers.count above below
+        nears.old }
     ensures rows { OnOk result (AreBandNears M.distance shared.now.batch.now
-        shared.now.workers.count bands.above bands.below nears.new) }
+        shared.now.workers.count above below nears.new) }
     ensures memory { IfErr result (λ refusal. refusal ≡ Memory) }
 {
-    let Bands { above, below } = bands;
     if below - above == 1 {
         return work_band::<M, G>(shared, below, nears);
     }
@@ -94,42 +75,32 @@ fn work_bands<M: Metric + Sync, G: Gate + Sync, R: Threads + Sync>(
         .rows_between(batch.y0, batch.y1, above, middle);
     let cells = usize::from(to - from) * batch.width();
     let (upper, lower) = nears.split_at_mut(cells);
-    let halves = Halves {
-        above,
-        middle,
-        below,
-    };
-    work_beside::<M, G, R>(rt, shared, halves, upper, lower)
+    work_beside::<M, G, R>(rt, shared, above, middle, below, upper, lower)
 }
 
-/// Computes the bands above the end of the middle one and those below it in parallel.
+/// Computes the bands down to `middle`, and those from there to `below`, in parallel.
 #[cycle(bands)]
 fn work_beside<M: Metric + Sync, G: Gate + Sync, R: Threads + Sync>(
     rt: &R,
     shared: &Shared<'_, G>,
-    halves: Halves,
+    above: u8,
+    middle: u8,
+    below: u8,
     upper: &mut [Option<Near>],
     lower: &mut [Option<Near>],
 ) -> Result<(), Refusal>
-    requires upper_bands { AreBands shared.now.workers.count halves.above halves.middle }
-    requires lower_bands { AreBands shared.now.workers.count halves.middle halves.below }
-    requires upper { HasBandRoom shared.now.batch.now shared.now.workers.count halves.above
-        halves.middle
+    requires upper_bands { AreBands shared.now.workers.count above middle }
+    requires lower_bands { AreBands shared.now.workers.count middle below }
+    requires upper { HasBandRoom shared.now.batch.now shared.now.workers.count above middle
         upper.old }
-    requires lower { HasBandRoom shared.now.batch.now shared.now.workers.count halves.middle
-        halves.below
+    requires lower { HasBandRoom shared.now.batch.now shared.now.workers.count middle below
         lower.old }
     ensures upper { OnOk result (AreBandNears M.distance shared.now.batch.now
-        shared.now.workers.count halves.above halves.middle upper.new) }
+        shared.now.workers.count above middle upper.new) }
     ensures lower { OnOk result (AreBandNears M.distance shared.now.batch.now
-        shared.now.workers.count halves.middle halves.below lower.new) }
+        shared.now.workers.count middle below lower.new) }
     ensures memory { IfErr result (λ refusal. refusal ≡ Memory) }
 {
-    let Halves {
-        above,
-        middle,
-        below,
-    } = halves;
     let mut first = move || -> Result<(), Refusal>
         requires { IsSync R.row × IsSync G.row × IsSync M.row
             × AreBands shared.now.workers.count above middle
@@ -137,17 +108,7 @@ fn work_beside<M: Metric + Sync, G: Gate + Sync, R: Threads + Sync>(
         ensures rows { OnOk result (AreBandNears M.distance shared.entry.now.batch.now
             shared.entry.now.workers.count above middle upper.exit.now) }
         ensures memory { IfErr result (λ refusal. refusal ≡ Memory) }
-    {
-        work_bands::<M, G, R>(
-            rt,
-            shared,
-            Bands {
-                above,
-                below: middle,
-            },
-            upper,
-        )
-    };
+    { work_bands::<M, G, R>(rt, shared, above, middle, upper) };
     let mut second = move || -> Result<(), Refusal>
         requires { IsSync R.row × IsSync G.row × IsSync M.row
             × AreBands shared.now.workers.count middle below
@@ -155,17 +116,7 @@ fn work_beside<M: Metric + Sync, G: Gate + Sync, R: Threads + Sync>(
         ensures rows { OnOk result (AreBandNears M.distance shared.entry.now.batch.now
             shared.entry.now.workers.count middle below lower.exit.now) }
         ensures memory { IfErr result (λ refusal. refusal ≡ Memory) }
-    {
-        work_bands::<M, G, R>(
-            rt,
-            shared,
-            Bands {
-                above: middle,
-                below,
-            },
-            lower,
-        )
-    };
+    { work_bands::<M, G, R>(rt, shared, middle, below, lower) };
     let (above_worked, below_worked) = join_mut(rt, &mut first, &mut second);
     above_worked?;
     below_worked

@@ -12,7 +12,7 @@ use std::marker::Model;
 const NOWHERE: i16 = -2;
 
 /// The spot of an obstacle, or none, which is what contracts see.
-#[derive(Clone, Copy, Debug)]
+#[derive(Clone, Copy)]
 pub struct ObstacleCell {
     x: i16,
     y: i16,

@@ -38,36 +38,19 @@ invariant_of-stack-then-stack-gt0 g c =
     let same = sym (kept spans.len spans.items c.fill_far.new.spans spans.ok.0) in
     (widths.0 ∙ ap (λ (n : ℕ). n + 272) same, widths.1 ∙ same, widths.2 ∙ same)
 
-pub returns-then-not-fill_beside-clause-answers : goal.returns-then-not-fill_beside-clause-answers
-returns-then-not-fill_beside-clause-answers g c = c.fill_beside.ensures
+pub returns-clause-answers : goal.returns-clause-answers
+returns-clause-answers g c = c.fill_beside-found.ensures
 
-pub returns-then-not-fill_beside-clause-stack : goal.returns-then-not-fill_beside-clause-stack
-returns-then-not-fill_beside-clause-stack g c =
+pub returns-clause-stack : goal.returns-clause-stack
+returns-clause-stack g c =
     let spans = c.stack.inside.spans in
-    kept spans.len spans.items c.fill_beside.new.spans spans.ok.0 ∙ c.stack.view_is
+    kept spans.len spans.items c.fill_beside-found.new.spans spans.ok.0 ∙ c.stack.view_is
 
-pub invariant_of-stack-then-not-fill_beside : goal.invariant_of-stack-then-not-fill_beside
-invariant_of-stack-then-not-fill_beside g c =
-    let spans = c.stack.inside.spans in
-    let parts = c.stack.inside.parts in
-    let widths = c.stack.invariant in
-    let same = sym (kept spans.len spans.items c.fill_beside.new.spans spans.ok.0) in
-    let part = kept parts.len parts.items c.fill_beside.new.parts parts.ok.0 in
-    (part ∙ (widths.0 ∙ ap (λ (n : ℕ). n + 272) same), widths.1 ∙ same, widths.2 ∙ same)
-
-pub returns-else-not-fill_beside-clause-answers : goal.returns-else-not-fill_beside-clause-answers
-returns-else-not-fill_beside-clause-answers g c = c.fill_beside.ensures
-
-pub returns-else-not-fill_beside-clause-stack : goal.returns-else-not-fill_beside-clause-stack
-returns-else-not-fill_beside-clause-stack g c =
-    let spans = c.stack.inside.spans in
-    kept spans.len spans.items c.fill_beside.new.spans spans.ok.0 ∙ c.stack.view_is
-
-pub invariant_of-stack-else-not-fill_beside : goal.invariant_of-stack-else-not-fill_beside
-invariant_of-stack-else-not-fill_beside g c =
+pub invariant_of-stack-2 : goal.invariant_of-stack-2
+invariant_of-stack-2 g c =
     let spans = c.stack.inside.spans in
     let parts = c.stack.inside.parts in
     let widths = c.stack.invariant in
-    let same = sym (kept spans.len spans.items c.fill_beside.new.spans spans.ok.0) in
-    let part = kept parts.len parts.items c.fill_beside.new.parts parts.ok.0 in
+    let same = sym (kept spans.len spans.items c.fill_beside-found.new.spans spans.ok.0) in
+    let part = kept parts.len parts.items c.fill_beside-found.new.parts parts.ok.0 in
     (part ∙ (widths.0 ∙ ap (λ (n : ℕ). n + 272) same), widths.1 ∙ same, widths.2 ∙ same)

@@ -10,25 +10,25 @@ work_bands-split_at_mut-upper-requires g t c =
     let shared = c.args.shared.now in
     let batch = shared.batch.now in
     let row = row_behind batch.y0 batch.y1 shared.workers.count in
-    let above = c.args.bands.above in
-    let middle = above + (c.args.bands.below - above) / 2 in
-    let lower = row_behind-grows batch.y0 batch.y1 shared.workers.count middle c.args.bands.below
+    let above = c.args.above in
+    let middle = above + (c.args.below - above) / 2 in
+    let lower = row_behind-grows batch.y0 batch.y1 shared.workers.count middle c.args.below
     shared.workers.few.some (omega (arith, c.requires.bands.some)) in
     let upper = row_behind-grows batch.y0 batch.y1 shared.workers.count above middle
     shared.workers.few.some (omega arith) in
     let cells : c.from.result * c.width.result ≡ (row middle - row above) * batch.bitmap.now.width =
     search rules in
     rw cells (room_above batch.bitmap.now (row above) (row middle)
-    (row c.args.bands.below) c.args.nears.now upper lower c.requires.room)
+    (row c.args.below) c.args.nears.now upper lower c.requires.room)
 
 pub work_bands-work_beside-requires-clause-lower : goal.work_bands-work_beside-requires-clause-lower
 work_bands-work_beside-requires-clause-lower g t c κs within =
     let shared = c.args.shared.now in
     let batch = shared.batch.now in
     let row = row_behind batch.y0 batch.y1 shared.workers.count in
-    let above = c.args.bands.above in
-    let middle = above + (c.args.bands.below - above) / 2 in
-    let lower = row_behind-grows batch.y0 batch.y1 shared.workers.count middle c.args.bands.below
+    let above = c.args.above in
+    let middle = above + (c.args.below - above) / 2 in
+    let lower = row_behind-grows batch.y0 batch.y1 shared.workers.count middle c.args.below
     shared.workers.few.some (omega (arith, c.requires.bands.some)) in
     let upper = row_behind-grows batch.y0 batch.y1 shared.workers.count above middle
     shared.workers.few.some (omega arith) in
@@ -38,7 +38,7 @@ work_bands-work_beside-requires-clause-lower g t c κs within =
     * batch.bitmap.now.width ≡ length c.args.nears.now =
     rw cells at c.split_at_mut-upper.ensures.back_len in
     room_below batch.bitmap.now (row above) (row middle)
-    (row c.args.bands.below) c.args.nears.now c.split_at_mut-upper.result.1.now upper lower
+    (row c.args.below) c.args.nears.now c.split_at_mut-upper.result.1.now upper lower
     c.requires.room rest
 
 pub work_bands-returns-clause-rows : goal.work_bands-returns-clause-rows
@@ -46,14 +46,14 @@ work_bands-returns-clause-rows g t c =
     let shared = c.args.shared.now in
     let batch = shared.batch.now in
     let row = row_behind batch.y0 batch.y1 shared.workers.count in
-    let above = c.args.bands.above in
-    let middle = above + (c.args.bands.below - above) / 2 in
-    let lower = row_behind-grows batch.y0 batch.y1 shared.workers.count middle c.args.bands.below
+    let above = c.args.above in
+    let middle = above + (c.args.below - above) / 2 in
+    let lower = row_behind-grows batch.y0 batch.y1 shared.workers.count middle c.args.below
     shared.workers.few.some (omega (arith, c.requires.bands.some)) in
     let upper = row_behind-grows batch.y0 batch.y1 shared.workers.count above middle
     shared.workers.few.some (omega arith) in
     on_ok_both c.work_beside.result
     (λ first second. AreNears-join g.M.Metric.distance batch.bitmap.now batch.edge (row above)
-    (row middle) (row c.args.bands.below) c.work_beside.new.upper c.work_beside.new.lower upper
+    (row middle) (row c.args.below) c.work_beside.new.upper c.work_beside.new.lower upper
     lower first second)
     c.work_beside.ensures.upper c.work_beside.ensures.lower
