@@ -1,5 +1,5 @@
 -- The rows so far are filled.
-use Rattle.std.proofs.Common.{◌≡◌, ℕ, ◌+◌, ◌-◌, ◌*◌, ◌<◌, ◌≤◌, length, slice_index_or}
+use Rattle.std.proofs.Common.{◌≡◌, ℕ, ◌+◌, ◌-◌, ◌*◌, ◌<◌, ◌≤◌, slice_index_or}
 use Rattle.bits.specs.Edges.{IsBlocked}
 use Rattle.envelope.specs.Rows.{SaysNear}
 use Rattle.field.specs.Phases.{IsNextLine}
@@ -13,6 +13,5 @@ invariant-rows g l = record {
       (IsBlocked l.batch.bitmap.now l.batch.edge) x b
       (slice_index_or l.values ((b - l.batch.y0) * l.batch.bitmap.now.width + x)
       g.V.CellValue.unset);
-  many : length l.values ≡ (l.batch.y1 - l.batch.y0) * l.batch.bitmap.now.width;
   phases : IsNextLine l.batch l.phases l.y;
 }
