@@ -1,12 +1,11 @@
 -- The bits so far are marked, and the other entries are as they were.
-use Rattle.std.proofs.Common.{◌≡◌, ℕ, ◌+◌, ◌<◌, ◌≤◌, ◌==◌, length, get_or}
+use Rattle.std.proofs.Common.{◌≡◌, ℕ, ◌+◌, ◌<◌, ◌≤◌, ◌==◌, get_or}
 use Rattle.std.specs.Int.{bit_at}
 use Rattle.column.specs.Marks.{marked}
 use Rattle.column.proofs.row.mark_last.Given as goal
 
 abbrev pub invariant-bits : goal.invariant-bits
 invariant-bits l = record {
-  len : length l.row ≡ length l.fn.row;
   marked : (i : ℕ) → i < l.place
       → get_or l.row (l.first + i) 0 ≡ marked (bit_at l.bits i == 1) l.y
       (get_or l.fn.row (l.first + i) 0);
