@@ -1,5 +1,6 @@
 -- The row's distances come after those of the rows before.
 use Rattle.std.proofs.Common.{refl, length, arith}
+use Rattle.std.proofs.lemmas.Grind.{common_steps}
 use Rattle.field.proofs.HalfLemmas.{numbers_kept-more}
 use Rattle.field.proofs.compact_strip.CompactStrip.push_row.Goals as goal
 
@@ -15,3 +16,6 @@ returns-clause-numbers c =
     (numbers_kept-more (length line) strip.low.items strip.high.items strip.starts.items line
     c.push_high.new.high.items c.in_ok-start.start c.requires.lines refl c.in_ok-start.ensures.high
     (λ x inside. let fits = c.type_inv.line x in omega (arith, fits)))
+
+pub returns-clause-lines : goal.returns-clause-lines
+returns-clause-lines c = grind (arith, common_steps)
