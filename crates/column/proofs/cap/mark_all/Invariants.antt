@@ -5,7 +5,6 @@ use Rattle.column.proofs.cap.mark_all.Given as goal
 
 abbrev pub invariant-columns : goal.invariant-columns
 invariant-columns l = record {
-  len : length l.entries ≡ length l.fn.entries;
   none : l.missing ≡ replicate (length l.fn.missing) 0;
   marked : (x : ℕ) → x < l.x
       → get_or l.entries x 0 ≡ first_marked true l.y (get_or l.fn.entries x 0);

@@ -14,19 +14,17 @@ put_line-requires c =
     rw c.deref.ensures.value (c.look.ensures.entries.as_many
     ∙ (framed_size batch.edge batch.bitmap.now).0) in
     let end = row_ends c.rows.y batch.y1 across c.rows-test.true in
-    rw (c.from.ensures, c.rows.invariant.width_is, many, c.rows.invariant.room) end
+    rw (c.from.ensures, c.from-width.ensures, c.columns.ensures.columns, many, c.rows.auto.entries,
+    c.requires.room) end
 
 pub rows-preserved : goal.rows-preserved
 rows-preserved c =
     let batch = c.args.batch.now in
     let start : c.from.result * c.from-width.result
     ≡ c.rows.y * (batch.bitmap.now.width + 2 * shift batch.edge) =
-    rw (c.from.ensures, c.rows.invariant.width_is) refl in
+    rw (c.from.ensures, c.from-width.ensures, c.columns.ensures.columns) refl in
     record {
-      bitmap = c.rows.invariant.bitmap;
-      width_is = c.rows.invariant.width_is;
       columns = c.look.ensures.ready;
-      room = c.put_line.ensures.len ∙ c.rows.invariant.room;
       rows = HasRows-more batch.bitmap.now batch.edge c.rows.y c.deref.result.now c.rows.entries
           c.put_line.new.lines (rw c.deref.ensures.value c.look.ensures.entries)
           (rw start at c.put_line.ensures.copied) (rw start at c.put_line.ensures.others)

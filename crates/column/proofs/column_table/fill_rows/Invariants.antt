@@ -8,9 +8,6 @@ use Rattle.column.proofs.column_table.fill_rows.Given as goal
 
 abbrev pub invariant-rows : goal.invariant-rows
 invariant-rows l = record {
-  bitmap : IsBitmap l.batch.bitmap.now;
-  width_is : l.width ≡ l.batch.bitmap.now.width + 2 * shift l.batch.edge;
   columns : IsNextRow l.batch l.columns l.y;
-  room : length l.entries ≡ l.batch.y1 * (l.batch.bitmap.now.width + 2 * shift l.batch.edge);
   rows : HasRows l.batch.bitmap.now l.batch.edge l.batch.bitmap.now.width l.y l.entries;
 }

@@ -5,10 +5,9 @@ use Rattle.column.proofs.lines.carry_up.Goals as goal
 
 pub rows-preserved : goal.rows-preserved
 rows-preserved c = record {
-  bitmap = c.rows.invariant.bitmap;
   at_least = omega arith;
   line = IsLineFrom-marked c.args.edge c.args.bitmap.now c.rows.y c.rows.line c.mark_line.new.line
-      c.rows.invariant.bitmap (omega arith) (omega arith) c.mark_line.ensures.len
+      c.requires.bitmap (omega arith) (omega arith) c.mark_line.ensures.len
       c.mark_line.ensures.marked c.rows.invariant.line;
 }
 

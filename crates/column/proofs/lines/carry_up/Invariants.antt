@@ -8,7 +8,6 @@ use Rattle.column.proofs.lines.carry_up.Given as goal
 
 abbrev pub invariant-rows : goal.invariant-rows
 invariant-rows l = record {
-  bitmap : IsBitmap l.bitmap;
   at_least : l.from ≤ l.y;
   line : IsLineFrom (capped l.edge l.bitmap) (l.y + shift l.edge) l.line;
 }

@@ -17,13 +17,10 @@ rows-preserved c =
     let lines : AreLinesBehind cells band.edge band.y0 ((c.rows.y - 1) + 1) band.y1 c.rows.lines =
     rw (← next) c.rows.invariant.lines in
     let start : c.from.result * c.width-width.result ≡ (c.rows.y - 1 - band.y0) * cells.width =
-    rw (c.from.ensures, c.rows.invariant.width_is) refl in
+    rw (c.from.ensures, c.width-width.ensures.width) refl in
     record {
-      bitmap = c.rows.invariant.bitmap;
-      width_is = c.rows.invariant.width_is;
-      room = rw c.put_line.ensures.len c.rows.invariant.room;
       line = IsLineFrom-marked band.edge cells c.rows.y c.rows.line c.mark_line.new.line
-          c.rows.invariant.bitmap (omega arith) (omega arith) c.mark_line.ensures.len
+          c.requires.bitmap (omega arith) (omega arith) c.mark_line.ensures.len
           c.mark_line.ensures.marked c.rows.invariant.line;
       lines = AreLinesBehind-next cells band.edge band.y0 y band.y1 c.rows.line c.rows.lines
           c.put_line.new.lines (omega arith) line

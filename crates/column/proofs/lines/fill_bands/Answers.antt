@@ -18,14 +18,11 @@ bands-preserved c =
     let lines : AreBandLines cells batch.edge batch.y0 batch.y1
     ((c.bands.band - 1) + 1) c.bands.bands = rw (← next) c.bands.invariant.bands in
     let start : c.from.result * c.width-width.result ≡ (c.bands.band - 1) * cells.width =
-    rw (c.from.ensures, c.bands.invariant.width_is) refl in
+    rw (c.from.ensures, c.width-width.ensures.width) refl in
     let few = c.bands.invariant.few in
     let first : min (batch.y0 + 64 * (c.bands.band - 1)) batch.y1
     ≡ batch.y0 + (c.bands.band - 1) * 64 = omega arith in
     record {
-      bitmap = c.bands.invariant.bitmap;
-      width_is = c.bands.invariant.width_is;
-      room = rw c.put_line.ensures.len c.bands.invariant.room;
       few = omega arith;
       line = rw first c.carry_up.ensures;
       bands = AreBandLines-next cells batch.edge batch.y0 batch.y1 band c.bands.line c.bands.bands

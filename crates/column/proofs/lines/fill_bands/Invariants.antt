@@ -8,9 +8,6 @@ use Rattle.column.proofs.lines.fill_bands.Given as goal
 
 abbrev pub invariant-bands : goal.invariant-bands
 invariant-bands l = record {
-  bitmap : IsBitmap l.batch.bitmap.now;
-  width_is : l.width ≡ l.batch.bitmap.now.width;
-  room : (l.batch.y1 - l.batch.y0 + 63) / 64 * l.batch.bitmap.now.width ≤ length l.bands;
   few : l.band ≤ (l.batch.y1 - l.batch.y0 + 63) / 64;
   line : IsLineFrom (capped l.batch.edge l.batch.bitmap.now)
       (min (l.batch.y0 + 64 * l.band) l.batch.y1 + shift l.batch.edge) l.line;

@@ -8,11 +8,10 @@ use Rattle.column.proofs.row.mark_word.Goals as goal
 
 pub parts-preserved : goal.parts-preserved
 parts-preserved c =
-    let len = c.parts.invariant.len in
+    let len = c.parts.auto.row in
     let part = c.parts.part in
     let first = c.args.first in
     record {
-      len = c.mark_part.ensures.len ∙ len;
       marked = λ i below inside. elim (cases_lt i (8 * part)) [
         | inl before ↦ c.mark_part.ensures.others (first + i) (inl (omega (arith, before)))
             ∙ c.parts.invariant.marked i before inside

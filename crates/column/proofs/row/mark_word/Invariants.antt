@@ -6,7 +6,6 @@ use Rattle.column.proofs.row.mark_word.Given as goal
 
 abbrev pub invariant-parts : goal.invariant-parts
 invariant-parts l = record {
-  len : length l.row ≡ length l.fn.row;
   marked : (i : ℕ) → i < 8 * l.part → l.first + i < length l.fn.row
       → get_or l.row (l.first + i) 0 ≡ marked (bit_at l.word i == 1) l.y
       (get_or l.fn.row (l.first + i) 0);

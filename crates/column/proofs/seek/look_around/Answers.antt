@@ -13,35 +13,29 @@ away-init c = record {
       (replicate 64 18446744073709551615) c.fill.new.self c.height.ensures.bitmap.width_is.few
       refl (c.fill.ensures.after (λ y same. same)
       ∙ ap (λ (n : ℕ). replicate n 65535) c.requires.width);
-  bitmap = c.height.ensures.bitmap;
-  words = refl;
-  rows_is = rw (c.height.ensures.height, c.shift.ensures) refl;
 }
 
 pub away-preserved : goal.away-preserved
 away-preserved c =
     let up = c.look_within in
     let down = c.look_within-in-away in
-    let high = (capped_map c.args.edge c.args.bitmap.now c.away.invariant.bitmap).height_few in
+    let high = (capped_map c.args.edge c.args.bitmap.now c.height.ensures.bitmap).height_few in
     record {
       seen =
           IsSeen-next (capped c.args.edge c.args.bitmap.now) c.args.y c.away.away c.away.missing
           down.new.missing c.away.entries up.new.entries down.new.entries
-          (capped_map c.args.edge c.args.bitmap.now c.away.invariant.bitmap) c.requires.row
+          (capped_map c.args.edge c.args.bitmap.now c.height.ensures.bitmap) c.requires.row
           c.away.invariant.seen
           up.ensures.len down.ensures.len (down.ensures.room ∙ up.ensures.room) down.ensures.missing
           (λ within. let above : (c.args.y + (65536 - c.away.away)) % 65536
           ≡ c.args.y - c.away.away = omega (arith, within) in
           (rw above at up.ensures.seen) (omega (arith, c.requires.row)))
           (λ out. up.ensures.none (omega (arith, out, high))) down.ensures.seen down.ensures.none;
-      bitmap = c.away.invariant.bitmap;
-      words = down.ensures.room ∙ (up.ensures.room ∙ c.away.invariant.words);
-      rows_is = c.away.invariant.rows_is;
     }
 
 pub returns : goal.returns
 returns c =
     IsRowOfTable-seen (capped c.args.edge c.args.bitmap.now) c.args.y c.away.away c.away.missing
-    c.away.entries (capped_map c.args.edge c.args.bitmap.now c.away.invariant.bitmap)
+    c.away.entries (capped_map c.args.edge c.args.bitmap.now c.height.ensures.bitmap)
     c.requires.row
     (omega arith) c.away.invariant.seen

@@ -9,7 +9,4 @@ use Rattle.column.proofs.seek.look_around.Given as goal
 abbrev pub invariant-away : goal.invariant-away
 invariant-away l = record {
   seen : IsSeen (capped l.edge l.bitmap) l.y l.away l.missing l.entries;
-  bitmap : IsBitmap l.bitmap;
-  words : length l.missing ≡ 64;
-  rows_is : l.rows ≡ l.bitmap.height + 2 * shift l.edge;
 }

@@ -8,5 +8,4 @@ abbrev pub invariant-rows : goal.invariant-rows
 invariant-rows l = record {
   sought : IsSought (capped l.edge l.bitmap) (IsRowToBefore (capped l.edge l.bitmap) l.row l.y)
       l.missing l.line;
-  bitmap : IsBitmap l.bitmap;
 }

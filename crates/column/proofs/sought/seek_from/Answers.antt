@@ -14,7 +14,6 @@ rows-init c = record {
       (replicate 64 18446744073709551615) c.fill.new.self c.requires.bitmap.width_is.few refl refl
       (c.fill.ensures.after (λ y same. same) ∙ ap (λ (n : ℕ). replicate n 65535) c.requires.width)
       (λ x b low high black. omega (arith, low, high));
-  bitmap = c.requires.bitmap;
 }
 
 pub rows-preserved : goal.rows-preserved
@@ -22,14 +21,13 @@ rows-preserved c = record {
   sought =
       IsSought-down (capped c.args.edge c.args.bitmap.now) c.args.y c.rows.row c.rows.missing
       c.look_at.new.missing c.rows.line c.look_at.new.entries
-      (capped_map c.args.edge c.args.bitmap.now c.rows.invariant.bitmap) (omega arith)
+      (capped_map c.args.edge c.args.bitmap.now c.requires.bitmap) (omega arith)
       (omega arith)
       c.rows.invariant.sought c.look_at.ensures.len c.look_at.ensures.room c.look_at.ensures.missing
       c.look_at.ensures.seen;
-  bitmap = c.rows.invariant.bitmap;
 }
 
 pub returns : goal.returns
 returns c = IsLineFrom-all (capped c.args.edge c.args.bitmap.now) c.args.y c.rows.row c.rows.missing
-    c.rows.line (capped_map c.args.edge c.args.bitmap.now c.rows.invariant.bitmap)
+    c.rows.line (capped_map c.args.edge c.args.bitmap.now c.requires.bitmap)
     (omega arith) c.rows.invariant.sought

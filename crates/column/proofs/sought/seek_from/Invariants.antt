@@ -8,5 +8,4 @@ abbrev pub invariant-rows : goal.invariant-rows
 invariant-rows l = record {
   sought : IsSought (capped l.edge l.bitmap) (IsRowFromTo (capped l.edge l.bitmap) l.y l.row)
       l.missing l.line;
-  bitmap : IsBitmap l.bitmap;
 }
