@@ -34,8 +34,6 @@ cells-preserved-in-Some g c =
     let low = c.fill_eight in
     let high = c.fill_eight-in-Some in
     record {
-      width = omega (arith, high.ensures.len, low.ensures.len, c.cells.invariant.width);
-      room = c.cells.invariant.room;
       within = omega (arith, c.cells-test.true, high.ensures.len, low.ensures.len);
       filled = λ x below inside.
           let here : x < length c.cells.answers = omega

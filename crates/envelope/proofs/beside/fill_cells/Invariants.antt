@@ -6,8 +6,6 @@ use Rattle.envelope.proofs.beside.fill_cells.Given as goal
 
 abbrev pub invariant-cells : goal.invariant-cells
 invariant-cells g l = record {
-  width : length l.answers + 2 * shift g.B.Border.EDGE ≡ length l.entries;
-  room : length l.entries ≤ length l.spans;
   within : l.start ≤ length l.answers + 15;
   filled : (x : ℕ) → x < l.start → x < length l.answers
       → IsSaid g.A.CellValue.says g.M.Metric.distance l.entries l.y g.B.Border.EDGE x

@@ -19,9 +19,9 @@ cells-preserved g c =
     let place : c.args.start + shift edge + c.cells.lane ≡ p + shift edge = omega arith in
     let some = c.requires.inside (omega (arith, c.cells-test.true)) in
     let inside : p < length c.cells.answers =
-    omega (arith, some, c.cells.invariant.width, c.cells-test.true) in
+    omega (arith, some, c.cells.auto.answers, c.cells-test.true) in
     let found = c.requires.told c.cells.lane (omega (arith, c.cells-test.true, c.requires.count))
-    (omega (arith, inside, c.cells.invariant.width, c.requires.width)) in
+    (omega (arith, inside, c.cells.auto.answers, c.requires.width)) in
     let near : IsNearColumn distance c.args.entries.now c.args.y edge (p + shift edge)
     (Some c.near_at.result) = rw (
       ← place,
@@ -29,7 +29,6 @@ cells-preserved g c =
           c.near_at.ensures.near,
     ) found.near in
     record {
-      width = search rules;
       filled = λ x from below.
           set_more (λ x answer. IsSaid says distance c.args.entries.now c.args.y edge x answer)
           c.args.start p c.cells.answers c.with.result g.A.CellValue.unset

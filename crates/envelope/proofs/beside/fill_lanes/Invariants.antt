@@ -5,7 +5,6 @@ use Rattle.envelope.proofs.beside.fill_lanes.Given as goal
 
 abbrev pub invariant-cells : goal.invariant-cells
 invariant-cells g l = record {
-  width : length l.answers ≡ length l.fn.answers;
   filled : (x : ℕ) → l.start ≤ x → x < l.start + l.lane
       → IsSaid g.A.CellValue.says g.M.Metric.distance l.entries l.y g.B.Border.EDGE x
       (slice_index_or l.answers x g.A.CellValue.unset);

@@ -56,7 +56,6 @@ spans-preserved g c =
     record {
       few = omega arith;
       within = omega (arith, some, within, c.from-end.ensures);
-      width = c.fill_span.auto.answers ∙ c.spans.invariant.width;
       covered = rw c.from-end.ensures last.1;
       filled = λ x after from below inside.
           let there : x < length c.spans.answers =

@@ -12,7 +12,6 @@ abbrev pub invariant-spans : goal.invariant-spans
 invariant-spans g l = record {
   few : l.count ≤ length l.spans;
   within : l.end ≤ l.piece.end;
-  width : length l.answers ≡ length l.fn.answers;
   covered : IsEnvelope g.M.Metric.distance (gap_of l.entries l.y)
       (IsColumnFrom l.entries l.piece.first l.piece.last) l.spans l.count l.end;
   filled : (x : ℕ) → l.end ≤ x + shift g.B.Border.EDGE → l.piece.from ≤ x + shift g.B.Border.EDGE

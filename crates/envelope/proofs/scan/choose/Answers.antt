@@ -22,9 +22,8 @@ pub cells-preserved : goal.cells-preserved
 cells-preserved g c =
     let left = slice_index c.cells.left c.cells.x in
     let room : c.cells.x < length c.cells.left =
-    omega (arith, c.cells-test.true, c.cells.invariant.room, c.requires.left_room) in
+    omega (arith, c.cells-test.true, c.cells.auto.left, c.requires.left_room) in
     record {
-      room = search rules;
       told = λ x below.
           set_more (IsToldBy g.M.Metric.distance c.args.entries.now c.args._y) 0 c.cells.x
           c.cells.left c.nearer.result 0 room (λ x low. c.cells.invariant.told x)

@@ -6,7 +6,6 @@ use Rattle.envelope.proofs.scan.choose.Given as goal
 
 abbrev pub invariant-cells : goal.invariant-cells
 invariant-cells g l = record {
-  room : length l.left ≡ length l.fn.left;
   told : (x : ℕ) → x < l.x
       → IsToldBy g.M.Metric.distance l.entries l.fn._y x (slice_index l.left x);
   others : (x : ℕ) → l.x ≤ x → slice_index l.left x ≡ slice_index l.fn.left x;

@@ -15,9 +15,9 @@ places-preserved c =
     let rights = λ (p : ℕ). slice_index c.args.right.now p in
     let below = c.places-test.true in
     let left_room : place < length c.places.left =
-    omega (arith, below, c.places.invariant.left_room, c.requires.left) in
+    omega (arith, below, c.places.auto.left, c.requires.left) in
     let right_room : end < length c.places.right =
-    omega (arith, below, c.places.invariant.right_room, c.requires.right) in
+    omega (arith, below, c.places.auto.right, c.requires.right) in
     let before : c.args.count - place ≡ end + 1 = omega (arith, below) in
     let after : c.args.count - (place + 1) ≡ end = omega (arith, below) in
     let low : IsLeast lefts 0 (place + 1) c.min-low.result =
@@ -29,8 +29,6 @@ places-preserved c =
     (slice_index c.places.right end) (rw before at c.places.invariant.high) (omega (arith, below))
     (c.places.invariant.right_rest end (omega (arith, below)))) in
     record {
-      left_room = search rules;
-      right_room = search rules;
       low = low;
       high = rw after high;
       left = λ x up_to. set_more (λ x word. IsLeast lefts 0 (x + 1) word) 0 place c.places.left

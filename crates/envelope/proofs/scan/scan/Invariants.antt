@@ -6,8 +6,6 @@ use Rattle.envelope.proofs.scan.scan.Given as goal
 
 abbrev pub invariant-places : goal.invariant-places
 invariant-places l = record {
-  left_room : length l.left ≡ length l.fn.left;
-  right_room : length l.right ≡ length l.fn.right;
   low : IsLeast (λ place. slice_index l.fn.left place) 0 l.place l.low;
   high : IsLeast (λ place. slice_index l.fn.right place) (l.count - l.place) l.count l.high;
   left : (x : ℕ) → x < l.place

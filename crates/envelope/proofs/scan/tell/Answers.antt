@@ -38,7 +38,6 @@ cells-preserved g c =
     (p + c.from-before.result) (slice_index c.args.words.now (p + c.from-before.result))
     c.near_at.result told (rw c.EDGE-edge.ensures at c.near_at.ensures.near) in
     record {
-      width = search rules;
       filled = λ x below.
           set_more (λ x answer. IsSaid g.A.CellValue.says g.M.Metric.distance c.args.entries.now
           c.args._y g.B.Border.EDGE x answer) 0 p c.cells.answers c.with.result

@@ -6,7 +6,6 @@ use Rattle.envelope.proofs.scan.tell.Given as goal
 
 abbrev pub invariant-cells : goal.invariant-cells
 invariant-cells g l = record {
-  width : length l.answers + 2 * shift g.B.Border.EDGE ≡ length l.entries;
   filled : (x : ℕ) → x < l.x
       → IsSaid g.A.CellValue.says g.M.Metric.distance l.entries l.fn._y g.B.Border.EDGE x
       (slice_index_or l.answers x g.A.CellValue.unset);

@@ -15,8 +15,6 @@ rows-preserved g c =
     let grown = c.in_ok-push_row.ensures.count in
     let numbers = rw width at c.in_ok-push_row.ensures.numbers in
     record {
-      width_is = width;
-      halves = c.push_row.auto.halves ∙ c.rows.invariant.halves;
       count = omega (arith, count, grown);
       kept = record {
         lines = rw width at c.in_ok-push_row.ensures.lines;

@@ -7,8 +7,6 @@ use Rattle.field.proofs.compact_rows.push_rows.Given as goal
 
 abbrev pub invariant-rows : goal.invariant-rows
 invariant-rows g l = record {
-  width_is : length l.line ≡ l.batch.bitmap.now.width;
-  halves : length l.halves ≡ l.batch.bitmap.now.width;
   count : vec_len l.strip.starts ≡ l.y - l.batch.y0;
   kept : KeepsDistances g.M.Metric.distance l.batch.bitmap.now l.batch.edge l.batch.y0 l.y l.strip;
   phases : IsNextLine l.batch l.phases l.y;

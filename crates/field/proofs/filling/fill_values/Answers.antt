@@ -12,15 +12,14 @@ rows-preserved g c =
     let cells = batch.bitmap.now in
     let row = c.fill_line.ensures.line in
     let start : c.from.result * c.width-width.result ≡ (c.rows.y - batch.y0) * cells.width =
-    rw (c.from.ensures, c.rows.invariant.width_is) refl in
+    rw (c.from.ensures, c.width-width.ensures.width) refl in
     let ends = row_ends (c.rows.y - batch.y0) (batch.y1 - batch.y0) cells.width
     (omega (arith, c.rows-test.true)) in
     record {
-      width_is = c.rows.invariant.width_is;
       filled = rows_put (SaysNear g.V.CellValue.says g.M.Metric.distance
           (IsBlocked cells batch.edge)) g.V.CellValue.unset cells.width batch.y0 c.rows.y
           (c.from.result * c.width-width.result) c.width-width.result c.rows.values
-          c.fill_line.new.line (omega arith) start c.rows.invariant.width_is
+          c.fill_line.new.line (omega arith) start c.width-width.ensures.width
           (omega (arith, start, ends, c.rows.auto.values, c.requires.room.as_many))
           row.as_many c.rows.invariant.filled row.each;
       phases = c.fill_line.ensures.ready;
@@ -33,8 +32,8 @@ slice_bounds-fill_line-end g c =
     (omega (arith, c.rows-test.true)) in
     let start : c.from.result * c.width-width.result
     ≡ (c.rows.y - batch.y0) * batch.bitmap.now.width =
-    rw (c.from.ensures, c.rows.invariant.width_is) refl in
-    omega (arith, start, ends, c.rows.invariant.width_is)
+    rw (c.from.ensures, c.width-width.ensures.width) refl in
+    omega (arith, start, ends, c.width-width.ensures.width)
 
 pub returns-clause-rows : goal.returns-clause-rows
 returns-clause-rows g c = record {

@@ -7,7 +7,6 @@ use Rattle.field.proofs.filling.fill_values.Given as goal
 
 abbrev pub invariant-rows : goal.invariant-rows
 invariant-rows g l = record {
-  width_is : l.width ≡ l.batch.bitmap.now.width;
   filled : (x b : ℕ) → x < l.batch.bitmap.now.width → l.batch.y0 ≤ b → b < l.y
       → SaysNear g.V.CellValue.says g.M.Metric.distance
       (IsBlocked l.batch.bitmap.now l.batch.edge) x b

@@ -5,6 +5,5 @@ use Rattle.field.proofs.halves.put_high.Given as goal
 
 abbrev pub invariant-cells : goal.invariant-cells
 invariant-cells l = record {
-  len : length l.high ≡ length l.line;
   each : (x : ℕ) → x < l.x → slice_index l.high x ≡ high_half (slice_index l.line x);
 }

@@ -6,11 +6,11 @@ use Rattle.field.proofs.halves.put_low.Goals as goal
 
 pub cells-preserved : goal.cells-preserved
 cells-preserved c = record {
-  len = search rules;
   each = search rules;
   most = kept_more c.args.line.now c.cells.x c.cells.all c.cells.invariant.most;
 }
 
 pub returns-clause-low : goal.returns-clause-low
-returns-clause-low c = map_is low_half c.args.line.now c.cells.low c.cells.invariant.len
+returns-clause-low c = map_is low_half c.args.line.now c.cells.low
+    (c.cells.auto.low ∙ c.requires)
     (λ x inside. c.cells.invariant.each x (omega (arith, inside)))

@@ -6,7 +6,6 @@ use Rattle.field.proofs.halves.put_low.Given as goal
 
 abbrev pub invariant-cells : goal.invariant-cells
 invariant-cells l = record {
-  len : length l.low ≡ length l.line;
   each : (x : ℕ) → x < l.x → slice_index l.low x ≡ low_half (slice_index l.line x);
   most : (x : ℕ) → x < l.x → kept_as (slice_index l.line x) ≤ l.all;
 }

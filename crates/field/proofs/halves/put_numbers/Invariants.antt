@@ -5,7 +5,6 @@ use Rattle.field.proofs.halves.put_numbers.Given as goal
 
 abbrev pub invariant-cells : goal.invariant-cells
 invariant-cells l = record {
-  len : length l.numbers ≡ length l.fn.numbers;
   each : (x : ℕ) → x < l.x
       → slice_index l.numbers x
       ≡ number_of (65536 * slice_index l.high x + slice_index l.low x);

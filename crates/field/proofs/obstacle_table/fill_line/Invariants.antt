@@ -5,7 +5,6 @@ use Rattle.field.proofs.obstacle_table.fill_line.Given as goal
 
 abbrev pub invariant-loop-x : goal.invariant-loop-x
 invariant-loop-x g l = record {
-  len : length l.nears ≡ length l.cells;
   seen : (x : ℕ) → x < l.x
       → slice_index_or l.nears x None ≡ seen_from g.M.Metric.distance x l.y
       (slice_index_or l.cells x None);

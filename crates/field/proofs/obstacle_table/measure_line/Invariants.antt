@@ -5,7 +5,6 @@ use Rattle.field.proofs.obstacle_table.measure_line.Given as goal
 
 abbrev pub invariant-loop-x : goal.invariant-loop-x
 invariant-loop-x g l = record {
-  len : length l.distances ≡ length l.cells;
   each : (x : ℕ) → x < l.x
       → IsMeasured g.M.Metric.distance
       (seen_from g.M.Metric.distance x l.y (slice_index_or l.cells x None))

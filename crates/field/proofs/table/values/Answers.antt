@@ -31,7 +31,6 @@ pub rows-init : goal.rows-init
 rows-init g c =
     let batch = c.args.batch.now in
     record {
-      width_is = c.width-width.ensures.width;
       said = no_values g.V.CellValue.says g.V.CellValue.unset g.M.Metric.distance
           batch.bitmap.now batch.edge batch.y0 c.in_ok-values.values.items
           c.in_ok-values.ensures.items;
@@ -46,7 +45,7 @@ pub fill_line-requires-clause-line : goal.fill_line-requires-clause-line
 fill_line-requires-clause-line g c =
     rest_length c.as_mut_slice.result.now c.len-start.result c.width-width.result
     c.args.batch.now.bitmap.now.width
-    (c.as_mut_slice.ensures.len ∙ c.in_ok-resize.ensures.len) c.rows.invariant.width_is
+    (c.as_mut_slice.ensures.len ∙ c.in_ok-resize.ensures.len) c.width-width.ensures.width
 
 pub returns-clause-rows : goal.returns-clause-rows
 returns-clause-rows g c =
@@ -62,10 +61,9 @@ rows-preserved g c =
     let start : c.len-start.result ≡ length c.rows.values.items =
     omega (arith, c.len-start.ensures, c.rows.values.ok.0) in
     let all : c.resize.new.self.len ≡ c.len-start.result + length c.fill_line.new.line =
-    rw many (rw c.rows.invariant.width_is at c.in_ok-resize.ensures.len) in
+    rw many (rw c.width-width.ensures.width at c.in_ok-resize.ensures.len) in
     let filled = rw c.in_ok-resize.ensures.items at c.as_mut_slice.ensures.value in
     record {
-      width_is = c.rows.invariant.width_is;
       said =
           rw (put_behind c.rows.values.items _ c.as_mut_slice.result.now c.fill_line.new.line _
           c.len-start.result (c.len-start.result + c.width-width.result) _ c.resize.new.self.len

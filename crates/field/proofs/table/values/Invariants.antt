@@ -6,7 +6,6 @@ use Rattle.field.proofs.table.values.Given as goal
 
 abbrev pub invariant-rows : goal.invariant-rows
 invariant-rows g l = record {
-  width_is : l.width ≡ l.batch.bitmap.now.width;
   said : AreValues g.V.CellValue.says g.V.CellValue.unset g.M.Metric.distance
       l.batch.bitmap.now l.batch.edge l.batch.y0 l.y l.values.items;
   phases : IsNextLine l.batch l.phases l.y;
