@@ -8,7 +8,7 @@ use bits::Bitmap;
 use metric::Edge;
 
 /// Rows `y0` to `y1 - 1` of a bitmap with this edge.
-#[derive(Clone, Copy)]
+#[derive(Clone, Copy, Debug)]
 pub struct Batch<'a> {
     pub bitmap: &'a Bitmap,
     pub edge: Edge,

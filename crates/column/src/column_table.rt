@@ -29,7 +29,7 @@ pub const NONE: u16 = u16::MAX;
 /// With a wall, the frame's cells are obstacles, and its columns have entries too. The entry of a
 /// cell is the row of its column's nearest obstacle, counted with the frame, or `NONE`. The rows of
 /// entries lie one after another.
-#[derive(Drop)]
+#[derive(Debug, Drop)]
 pub struct ColumnTable {
     width: u16,
     height: u16,

@@ -14,7 +14,7 @@ use metric::Metric;
 
 /// The cells of a row from `start` up to the start of the next span, to which one column is the
 /// nearest.
-#[derive(Clone, Copy)]
+#[derive(Clone, Copy, Debug)]
 pub struct Span {
     pub start: u16,
     pub column: u16,

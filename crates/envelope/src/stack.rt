@@ -33,7 +33,7 @@ const FAR_ROWS: u8 = 16;
 
 /// The buffers for the spans of one row, and for the parts and the words of its columns. Contracts
 /// see the width of the rows that it was made for.
-#[derive(Drop)]
+#[derive(Debug, Drop)]
 pub struct Stack {
     spans: Vec<Span>,
     parts: Vec<u16>,

@@ -21,6 +21,14 @@ struct Shared<'a, G: Gate> {
     gate: &'a G,
 }
 
+/// Bands in two halves: those down to `middle`, and those from there to `below`.
+#[derive(Clone, Copy)]
+struct Halves {
+    above: u8,
+    middle: u8,
+    below: u8,
+}
+
 /// The answer of `rows`, computed in bands, one per worker.
 ///
 /// A thread per band enters the gate first, even if the band has no rows, and then computes the
@@ -75,32 +83,42 @@ fn work_bands<M: Metric + Sync, G: Gate + Sync, R: Threads + Sync>(
         .rows_between(batch.y0, batch.y1, above, middle);
     let cells = usize::from(to - from) * batch.width();
     let (upper, lower) = nears.split_at_mut(cells);
-    work_beside::<M, G, R>(rt, shared, above, middle, below, upper, lower)
+    let halves = Halves {
+        above,
+        middle,
+        below,
+    };
+    work_beside::<M, G, R>(rt, shared, halves, upper, lower)
 }
 
-/// Computes the bands down to `middle`, and those from there to `below`, in parallel.
+/// Computes the bands above the end of the middle one and those below it in parallel.
 #[cycle(bands)]
 fn work_beside<M: Metric + Sync, G: Gate + Sync, R: Threads + Sync>(
     rt: &R,
     shared: &Shared<'_, G>,
-    above: u8,
-    middle: u8,
-    below: u8,
+    halves: Halves,
     upper: &mut [Option<Near>],
     lower: &mut [Option<Near>],
 ) -> Result<(), Refusal>
-    requires upper_bands { AreBands shared.now.workers.count above middle }
-    requires lower_bands { AreBands shared.now.workers.count middle below }
-    requires upper { HasBandRoom shared.now.batch.now shared.now.workers.count above middle
+    requires upper_bands { AreBands shared.now.workers.count halves.above halves.middle }
+    requires lower_bands { AreBands shared.now.workers.count halves.middle halves.below }
+    requires upper { HasBandRoom shared.now.batch.now shared.now.workers.count halves.above
+        halves.middle
         upper.old }
-    requires lower { HasBandRoom shared.now.batch.now shared.now.workers.count middle below
+    requires lower { HasBandRoom shared.now.batch.now shared.now.workers.count halves.middle
+        halves.below
         lower.old }
     ensures upper { OnOk result (AreBandNears M.distance shared.now.batch.now
-        shared.now.workers.count above middle upper.new) }
+        shared.now.workers.count halves.above halves.middle upper.new) }
     ensures lower { OnOk result (AreBandNears M.distance shared.now.batch.now
-        shared.now.workers.count middle below lower.new) }
+        shared.now.workers.count halves.middle halves.below lower.new) }
     ensures memory { IfErr result (λ refusal. refusal ≡ Memory) }
 {
+    let Halves {
+        above,
+        middle,
+        below,
+    } = halves;
     let mut first = move || -> Result<(), Refusal>
         requires { IsSync R.row × IsSync G.row × IsSync M.row
             × AreBands shared.now.workers.count above middle

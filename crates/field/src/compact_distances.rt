@@ -19,7 +19,7 @@ use std::thread::Threads;
 ///
 /// It has what a `DistanceTable` has, in half the memory where rows are short; a row is read by
 /// copying it.
-#[derive(Drop)]
+#[derive(Debug, Drop)]
 pub struct CompactDistances {
     strips: Strips<CompactStrip>,
 }

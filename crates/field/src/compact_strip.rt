@@ -11,7 +11,7 @@ use std::alloc::Global;
 
 /// The distances of the cells of some rows, in row-major order, each in two halves. A row's line of
 /// high halves is kept only if one of them isn't 0.
-#[derive(Drop)]
+#[derive(Debug, Drop)]
 pub struct CompactStrip {
     /// The low halves of all distances.
     pub low: Vec<u16>,

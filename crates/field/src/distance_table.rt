@@ -17,7 +17,7 @@ use std::thread::Threads;
 /// strips. Contracts see the strips.
 ///
 /// It takes less time to make than an `ObstacleTable`, from whose obstacles distances follow.
-#[derive(Drop)]
+#[derive(Debug, Drop)]
 pub struct DistanceTable {
     strips: Strips<Vec<u32>>,
 }

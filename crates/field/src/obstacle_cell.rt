@@ -12,7 +12,7 @@ use std::marker::Model;
 const NOWHERE: i16 = -2;
 
 /// The spot of an obstacle, or none, which is what contracts see.
-#[derive(Clone, Copy)]
+#[derive(Clone, Copy, Debug)]
 pub struct ObstacleCell {
     x: i16,
     y: i16,

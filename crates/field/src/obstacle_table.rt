@@ -17,7 +17,7 @@ use std::thread::Threads;
 
 /// The nearest obstacles of the cells of a range of rows by one metric, 4 bytes per cell. Contracts
 /// see these obstacles, in row-major order.
-#[derive(Drop)]
+#[derive(Debug, Drop)]
 pub struct ObstacleTable<M> {
     strips: Strips<Vec<ObstacleCell>>,
     by: PhantomData<M>,

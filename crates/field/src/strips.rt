@@ -41,7 +41,7 @@ impl<V: CellValue + Send> Strip for Vec<V> {
 }
 
 /// What is kept of rows `y0` to `y1 - 1` of this width.
-#[derive(Drop)]
+#[derive(Debug, Drop)]
 pub struct Strips<S> {
     pub width: u16,
     pub y0: u16,

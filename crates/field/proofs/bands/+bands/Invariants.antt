@@ -6,7 +6,7 @@ abbrev pub decreases-work_bands : goal.decreases-work_bands
 decreases-work_bands g l = 4 * (l.below - l.above)
 
 abbrev pub decreases-work_beside : goal.decreases-work_beside
-decreases-work_beside g l = 4 * (l.below - l.above) - 1
+decreases-work_beside g l = 4 * (l.halves.below - l.halves.above) - 1
 
 abbrev pub decreases-work_beside-first : goal.decreases-work_beside-first
 decreases-work_beside-first g l = 4 * (l.middle - l.above) + 1
