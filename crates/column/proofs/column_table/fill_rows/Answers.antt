@@ -14,14 +14,8 @@ put_line-requires c =
     rw c.deref.ensures.value (c.look.ensures.entries.as_many
     ∙ (framed_size batch.edge batch.bitmap.now).0) in
     let end = row_ends c.rows.y batch.y1 across c.rows-test.true in
-    rw (
-      c.from.ensures,
-      c.from-width.ensures,
-      c.columns.ensures.columns,
-      many,
-      c.rows.auto.entries,
-      c.requires.room,
-    ) end
+    let wide = c.from-width.ensures ∙ c.columns.ensures.columns in
+    rw (c.from.ensures, wide, many, c.rows.auto.entries ∙ c.requires.room) end
 
 pub rows-preserved : goal.rows-preserved
 rows-preserved c =

@@ -1,7 +1,4 @@
 -- The rows so far have their entries.
-use Rattle.std.proofs.Common.{◌≡◌, ◌+◌, ◌*◌, length}
-use Rattle.metric.specs.Edge.{shift}
-use Rattle.bits.specs.Cells.{IsBitmap}
 use Rattle.column.specs.Carrying.{IsNextRow}
 use Rattle.column.specs.Tabled.{HasRows}
 use Rattle.column.proofs.column_table.fill_rows.Given as goal

@@ -1,7 +1,6 @@
 -- The line has been carried up to the row.
 use Rattle.std.proofs.Common.{◌+◌, ◌≤◌}
 use Rattle.metric.specs.Edge.{shift}
-use Rattle.bits.specs.Cells.{IsBitmap}
 use Rattle.column.specs.Capped.{capped}
 use Rattle.column.specs.Lines.{IsLineFrom}
 use Rattle.column.proofs.lines.carry_up.Given as goal

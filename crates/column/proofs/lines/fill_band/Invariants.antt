@@ -1,7 +1,6 @@
 -- The rows from this one on have their lines.
-use Rattle.std.proofs.Common.{◌≡◌, ◌+◌, ◌-◌, ◌*◌, ◌≤◌, length}
+use Rattle.std.proofs.Common.{◌+◌}
 use Rattle.metric.specs.Edge.{shift}
-use Rattle.bits.specs.Cells.{IsBitmap}
 use Rattle.column.specs.Capped.{capped}
 use Rattle.column.specs.Lines.{AreLinesBehind, IsLineFrom}
 use Rattle.column.proofs.lines.fill_band.Given as goal

@@ -1,7 +1,6 @@
 -- The bands from this one on have their lines.
-use Rattle.std.proofs.Common.{◌≡◌, ◌+◌, ◌-◌, ◌*◌, ◌/◌, ◌≤◌, min, length}
+use Rattle.std.proofs.Common.{◌+◌, ◌-◌, ◌*◌, ◌/◌, ◌≤◌, min}
 use Rattle.metric.specs.Edge.{shift}
-use Rattle.bits.specs.Cells.{IsBitmap}
 use Rattle.column.specs.Capped.{capped}
 use Rattle.column.specs.Lines.{AreBandLines, IsLineFrom}
 use Rattle.column.proofs.lines.fill_bands.Given as goal

@@ -1,7 +1,4 @@
 -- The rows less than this many rows away have been searched.
-use Rattle.std.proofs.Common.{◌≡◌, ◌+◌, ◌*◌, length}
-use Rattle.metric.specs.Edge.{shift}
-use Rattle.bits.specs.Cells.{IsBitmap}
 use Rattle.column.specs.Capped.{capped}
 use Rattle.column.specs.Marks.{IsSeen}
 use Rattle.column.proofs.seek.look_around.Given as goal

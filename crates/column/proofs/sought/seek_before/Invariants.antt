@@ -1,5 +1,4 @@
 -- The rows so far have been searched.
-use Rattle.bits.specs.Cells.{IsBitmap}
 use Rattle.column.specs.Capped.{capped}
 use Rattle.column.proofs.SoughtLemmas.{IsSought, IsRowToBefore}
 use Rattle.column.proofs.sought.seek_before.Given as goal

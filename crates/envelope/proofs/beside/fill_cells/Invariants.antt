@@ -1,6 +1,5 @@
 -- The cells so far are filled.
-use Rattle.std.proofs.Common.{◌≡◌, ℕ, ◌-◌, ◌+◌, ◌*◌, ◌<◌, ◌≤◌, length, slice_index_or}
-use Rattle.metric.specs.Edge.{shift}
+use Rattle.std.proofs.Common.{ℕ, ◌-◌, ◌+◌, ◌<◌, ◌≤◌, length, slice_index_or}
 use Rattle.envelope.specs.Columns.{IsSaid}
 use Rattle.envelope.proofs.beside.fill_cells.Given as goal
 

@@ -1,5 +1,5 @@
 -- The cells so far are filled, and all others are as before.
-use Rattle.std.proofs.Common.{◌≡◌, ℕ, ◌+◌, ◌<◌, ◌≤◌, ◌⊎◌, length, slice_index_or}
+use Rattle.std.proofs.Common.{◌≡◌, ℕ, ◌+◌, ◌<◌, ◌≤◌, ◌⊎◌, slice_index_or}
 use Rattle.envelope.specs.Columns.{IsSaid}
 use Rattle.envelope.proofs.beside.fill_lanes.Given as goal
 

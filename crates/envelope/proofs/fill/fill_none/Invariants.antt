@@ -1,5 +1,5 @@
 -- The cells so far have no obstacle, and all others are as before.
-use Rattle.std.proofs.Common.{◌≡◌, ℕ, ◌<◌, ◌≤◌, ◌⊎◌, length, slice_index_or}
+use Rattle.std.proofs.Common.{◌≡◌, ℕ, ◌<◌, ◌≤◌, ◌⊎◌, slice_index_or}
 use Rattle.envelope.proofs.fill.fill_none.Given as goal
 
 -- the cells so far have none, and all others are as before

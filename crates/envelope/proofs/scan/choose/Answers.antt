@@ -1,5 +1,5 @@
 -- The word of the nearer one of two columns tells the cell.
-use Rattle.std.proofs.Common.{◌≢◌, ◌<◌, length, slice_index, ◌∙◌, arith, rules, get_or-set_other}
+use Rattle.std.proofs.Common.{◌≢◌, ◌<◌, length, slice_index, ◌∙◌, arith, get_or-set_other}
 use Rattle.envelope.specs.Scans.{IsToldBy}
 use Rattle.envelope.proofs.Filling.{set_more}
 use Rattle.envelope.proofs.ScanLemmas.{left_enough, right_enough, told_nearer}

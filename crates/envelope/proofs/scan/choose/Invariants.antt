@@ -1,6 +1,6 @@
 -- The cells so far are told by their words, and the others have the least words of the columns to
 -- their left.
-use Rattle.std.proofs.Common.{◌≡◌, ℕ, ◌<◌, ◌≤◌, length, slice_index}
+use Rattle.std.proofs.Common.{◌≡◌, ℕ, ◌<◌, ◌≤◌, slice_index}
 use Rattle.envelope.specs.Scans.{IsToldBy}
 use Rattle.envelope.proofs.scan.choose.Given as goal
 

@@ -1,6 +1,6 @@
 -- One more place at each end has the least of the words up to it.
 use Rattle.std.proofs.Common.{◌≡◌, ◌≢◌, ℕ, ◌+◌, ◌-◌, ◌<◌, length, slice_index, inl, inr, ◌∙◌, arith}
-use Rattle.std.proofs.Common.{rules, get_or-set_other, get_or-set_same}
+use Rattle.std.proofs.Common.{get_or-set_other, get_or-set_same}
 use Rattle.std.proofs.lemmas.Bool.{cases_lt}
 use Rattle.envelope.specs.Scans.{IsLeast}
 use Rattle.envelope.proofs.Filling.{set_more}

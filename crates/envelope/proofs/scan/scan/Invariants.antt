@@ -1,6 +1,6 @@
 -- The places so far, from both ends, have the least of the words up to each, and the others have
 -- their own.
-use Rattle.std.proofs.Common.{◌≡◌, ℕ, ◌+◌, ◌-◌, ◌<◌, ◌≤◌, length, slice_index}
+use Rattle.std.proofs.Common.{◌≡◌, ℕ, ◌+◌, ◌-◌, ◌<◌, ◌≤◌, slice_index}
 use Rattle.envelope.specs.Scans.{IsLeast}
 use Rattle.envelope.proofs.scan.scan.Given as goal
 

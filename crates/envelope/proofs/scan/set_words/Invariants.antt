@@ -1,5 +1,5 @@
 -- The columns so far have their words.
-use Rattle.std.proofs.Common.{◌≡◌, ℕ, ◌<◌, length, slice_index}
+use Rattle.std.proofs.Common.{◌≡◌, ℕ, ◌<◌, slice_index}
 use Rattle.envelope.specs.Scans.{left_word, right_word}
 use Rattle.envelope.proofs.scan.set_words.Given as goal
 

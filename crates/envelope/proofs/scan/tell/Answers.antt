@@ -1,5 +1,5 @@
 -- One more cell is filled with what its word tells.
-use Rattle.std.proofs.Common.{◌≡◌, ◌+◌, ◌%◌, ◌<◌, length, slice_index, Some, ◌∙◌, arith, rules}
+use Rattle.std.proofs.Common.{◌≡◌, ◌+◌, ◌%◌, ◌<◌, length, slice_index, Some, ◌∙◌, arith}
 use Rattle.metric.specs.Edge.{shift}
 use Rattle.envelope.specs.Columns.{IsNearColumn, IsSaid}
 use Rattle.envelope.proofs.Filling.{set_more}

@@ -1,5 +1,5 @@
 -- The current row comes after those so far.
-use Rattle.std.proofs.Common.{◌≡◌, ◌∙◌, length, arith}
+use Rattle.std.proofs.Common.{◌≡◌, length, arith}
 use Rattle.envelope.specs.Answer.{IsDistanceOf}
 use Rattle.field.specs.Compact.{numbers_in}
 use Rattle.field.proofs.RowLemmas.{AreValues-more}

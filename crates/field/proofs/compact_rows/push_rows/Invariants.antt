@@ -1,5 +1,5 @@
 -- The strip has the distances of the rows so far.
-use Rattle.std.proofs.Common.{◌≡◌, ◌-◌, length}
+use Rattle.std.proofs.Common.{◌≡◌, ◌-◌}
 use Rattle.std.specs.Vec.{vec_len}
 use Rattle.field.specs.Compact.{KeepsDistances}
 use Rattle.field.specs.Phases.{IsNextLine}

@@ -1,5 +1,5 @@
 -- The rows so far are filled.
-use Rattle.std.proofs.Common.{◌≡◌, ℕ, ◌+◌, ◌-◌, ◌*◌, ◌<◌, ◌≤◌, slice_index_or}
+use Rattle.std.proofs.Common.{ℕ, ◌+◌, ◌-◌, ◌*◌, ◌<◌, ◌≤◌, slice_index_or}
 use Rattle.bits.specs.Edges.{IsBlocked}
 use Rattle.envelope.specs.Rows.{SaysNear}
 use Rattle.field.specs.Phases.{IsNextLine}

@@ -1,5 +1,5 @@
 -- The cells so far have their high halves.
-use Rattle.std.proofs.Common.{◌≡◌, ℕ, ◌<◌, length, slice_index}
+use Rattle.std.proofs.Common.{◌≡◌, ℕ, ◌<◌, slice_index}
 use Rattle.field.specs.Compact.{high_half}
 use Rattle.field.proofs.halves.put_high.Given as goal
 

@@ -11,6 +11,5 @@ cells-preserved c = record {
 }
 
 pub returns-clause-low : goal.returns-clause-low
-returns-clause-low c = map_is low_half c.args.line.now c.cells.low
-    (c.cells.auto.low ∙ c.requires)
+returns-clause-low c = map_is low_half c.args.line.now c.cells.low (omega (arith, c.cells.auto.low))
     (λ x inside. c.cells.invariant.each x (omega (arith, inside)))

@@ -1,6 +1,6 @@
 -- The cells so far have their low halves, and what their distances are kept as isn't over the
 -- number.
-use Rattle.std.proofs.Common.{◌≡◌, ℕ, ◌<◌, ◌≤◌, length, slice_index}
+use Rattle.std.proofs.Common.{◌≡◌, ℕ, ◌<◌, ◌≤◌, slice_index}
 use Rattle.field.specs.Compact.{kept_as, low_half}
 use Rattle.field.proofs.halves.put_low.Given as goal
 

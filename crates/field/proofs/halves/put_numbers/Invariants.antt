@@ -1,5 +1,5 @@
 -- The cells so far have their distances.
-use Rattle.std.proofs.Common.{◌≡◌, ℕ, ◌+◌, ◌*◌, ◌<◌, length, slice_index}
+use Rattle.std.proofs.Common.{◌≡◌, ℕ, ◌+◌, ◌*◌, ◌<◌, slice_index}
 use Rattle.field.specs.Compact.{number_of}
 use Rattle.field.proofs.halves.put_numbers.Given as goal
 

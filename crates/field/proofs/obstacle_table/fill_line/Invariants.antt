@@ -1,5 +1,5 @@
 -- The cells so far are filled.
-use Rattle.std.proofs.Common.{◌≡◌, ℕ, ◌<◌, length, slice_index_or, None}
+use Rattle.std.proofs.Common.{◌≡◌, ℕ, ◌<◌, slice_index_or, None}
 use Rattle.field.specs.Obstacles.{seen_from}
 use Rattle.field.proofs.obstacle_table.fill_line.Given as goal
 

@@ -1,5 +1,5 @@
 -- The cells so far are measured.
-use Rattle.std.proofs.Common.{◌≡◌, ℕ, ◌<◌, length, slice_index_or, None}
+use Rattle.std.proofs.Common.{ℕ, ◌<◌, slice_index_or, None}
 use Rattle.field.specs.Obstacles.{IsMeasured, seen_from}
 use Rattle.field.proofs.obstacle_table.measure_line.Given as goal
 

@@ -1,5 +1,4 @@
 -- The values of the rows so far stand in order.
-use Rattle.std.proofs.Common.{◌≡◌}
 use Rattle.field.specs.Bands.{AreValues}
 use Rattle.field.specs.Phases.{IsNextLine}
 use Rattle.field.proofs.table.values.Given as goal
