@@ -57,7 +57,7 @@ pub fn rows_with<M: Metric + Sync, G: Gate + Sync, R: Threads + Sync>(
     Ok(nears)
 }
 
-/// Computes the bands after the first `above` ones, up to band `below`, each in a thread of its own.
+/// Computes the bands after band `above`, up to band `below`, each in a thread of its own.
 #[cycle(bands)]
 fn work_bands<M: Metric + Sync, G: Gate + Sync, R: Threads + Sync>(
     rt: &R,
