@@ -1,5 +1,6 @@
 -- The upper bands and the lower ones are all bands.
 use Rattle.std.proofs.Common.{◌≡◌, ◌+◌, ◌-◌, ◌*◌, ◌/◌, length, arith, rules}
+use Rattle.std.proofs.lemmas.Grind.{common_steps}
 use Rattle.metric.specs.Workers.{row_behind}
 use Rattle.field.proofs.BandLemmas.{AreNears-join, on_ok_both, room_above, room_below}
 use Rattle.field.proofs.BandLemmas.{row_behind-grows}
@@ -7,8 +8,7 @@ use Rattle.field.proofs.bands.+bands.Goals as goal
 
 pub work_bands-split_at_mut-upper-requires : goal.work_bands-split_at_mut-upper-requires
 work_bands-split_at_mut-upper-requires g t c =
-    let shared = c.args.shared.now in
-    let batch = shared.batch.now in
+    let shared = c.args.shared.now in let batch = shared.batch.now in
     let row = row_behind batch.y0 batch.y1 shared.workers.count in
     let above = c.args.above in
     let middle = above + (c.args.below - above) / 2 in
@@ -23,8 +23,7 @@ work_bands-split_at_mut-upper-requires g t c =
 
 pub work_bands-work_beside-requires-clause-lower : goal.work_bands-work_beside-requires-clause-lower
 work_bands-work_beside-requires-clause-lower g t c κs within =
-    let shared = c.args.shared.now in
-    let batch = shared.batch.now in
+    let shared = c.args.shared.now in let batch = shared.batch.now in
     let row = row_behind batch.y0 batch.y1 shared.workers.count in
     let above = c.args.above in
     let middle = above + (c.args.below - above) / 2 in
@@ -43,8 +42,7 @@ work_bands-work_beside-requires-clause-lower g t c κs within =
 
 pub work_bands-returns-clause-rows : goal.work_bands-returns-clause-rows
 work_bands-returns-clause-rows g t c =
-    let shared = c.args.shared.now in
-    let batch = shared.batch.now in
+    let shared = c.args.shared.now in let batch = shared.batch.now in
     let row = row_behind batch.y0 batch.y1 shared.workers.count in
     let above = c.args.above in
     let middle = above + (c.args.below - above) / 2 in
@@ -57,3 +55,9 @@ work_bands-returns-clause-rows g t c =
     (row middle) (row c.args.below) c.work_beside.new.upper c.work_beside.new.lower upper
     lower first second)
     c.work_beside.ensures.upper c.work_beside.ensures.lower
+
+pub work_beside-returns-clause-upper : goal.work_beside-returns-clause-upper
+work_beside-returns-clause-upper g t c = grind (arith, common_steps)
+
+pub work_beside-returns-clause-lower : goal.work_beside-returns-clause-lower
+work_beside-returns-clause-lower g t c = grind (arith, common_steps)
