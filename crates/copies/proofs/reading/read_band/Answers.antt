@@ -4,6 +4,7 @@ use Rattle.bits.specs.TileWords.{tile_words}
 use Rattle.shelf.specs.Roles.{ReaderView}
 use Rattle.copies.specs.Copies.{bitmap_seen}
 use Rattle.copies.proofs.BandCopies.{tile_more}
+use Rattle.std.proofs.lemmas.Grind.{common_steps}
 use Rattle.copies.proofs.reading.read_band.Goals as goal
 
 pub tiles-preserved : goal.tiles-preserved
@@ -22,3 +23,9 @@ tiles-preserved g c =
           c.tiles.invariant.seat)
           c.renew_tile.ensures.written;
     }
+
+pub look_rows-requires-clause-inside : goal.look_rows-requires-clause-inside
+look_rows-requires-clause-inside g c = grind (arith, common_steps)
+
+pub renew_tile-requires : goal.renew_tile-requires
+renew_tile-requires g c = grind (arith, common_steps)

@@ -2,6 +2,7 @@
 -- room.
 use Rattle.std.proofs.Common.{◌≡◌, ◌+◌, ◌-◌, ◌*◌, arith, rules}
 use Rattle.printing.proofs.RowLemmas.{rows_text-none, rows_text-more}
+use Rattle.std.proofs.lemmas.Grind.{common_steps}
 use Rattle.printing.proofs.parts.put_lines.Goals as goal
 
 pub rows-init : goal.rows-init
@@ -43,3 +44,6 @@ rows-preserved g c =
       room = omega (arith, c.rows.invariant.room, c.put_next-end.ensures.room);
       cells = c.put_next-end.ensures.cells;
     }
+
+pub put_next-end-requires : goal.put_next-end-requires
+put_next-end-requires g c = grind (arith, common_steps)

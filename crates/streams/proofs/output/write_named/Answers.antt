@@ -2,6 +2,8 @@
 -- the name.
 use Rattle.std.proofs.lemmas.Result.{err_from_is_err_and, on_err_weaker}
 use Rattle.streams.proofs.RefusalLines.{front_first, front_second}
+use Rattle.std.proofs.lemmas.Grind.{common_steps}
+use Rattle.std.proofs.Common.{arith}
 use Rattle.streams.proofs.output.write_named.Goals as goal
 
 pub returns-in_err-write_pair-clause-front : goal.returns-in_err-write_pair-clause-front
@@ -14,3 +16,6 @@ returns-clause-front g c =
     on_err_weaker c.write_pair-2.result
     (λ front. front_second _ _ _ _ _ c.in_ok-write_pair.ensures.whole front)
     c.write_pair-2.ensures.front
+
+pub returns-clause-whole : goal.returns-clause-whole
+returns-clause-whole g c = grind (arith, common_steps)

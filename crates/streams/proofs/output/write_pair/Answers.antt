@@ -2,6 +2,8 @@
 -- some of the second.
 use Rattle.std.proofs.lemmas.Result.{err_from_is_err_and, on_err_weaker}
 use Rattle.streams.proofs.RefusalLines.{front_first, front_second}
+use Rattle.std.proofs.lemmas.Grind.{common_steps}
+use Rattle.std.proofs.Common.{arith}
 use Rattle.streams.proofs.output.write_pair.Goals as goal
 
 pub returns-in_err-write_all-clause-front : goal.returns-in_err-write_all-clause-front
@@ -14,3 +16,6 @@ returns-clause-front g c =
     on_err_weaker c.write_all-2.result
     (λ front. front_second _ _ _ _ _ c.in_ok-write_all.ensures.all front)
     c.write_all-2.ensures.front
+
+pub returns-clause-whole : goal.returns-clause-whole
+returns-clause-whole g c = grind (arith, common_steps)
