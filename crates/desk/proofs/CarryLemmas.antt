@@ -5,7 +5,7 @@ use Rattle.desk.proofs.Names.{Some, None, Command}
 use Rattle.desk.proofs.Names.{Reply, Story, Blocks, refused}
 use Rattle.desk.proofs.Names.{steps_before, Base, slot_of, story, blocks, StoreId, readers_of, Task}
 use Rattle.desk.proofs.Names.{KeeperView, entries, with_command, committed, newest_slot, MayCommit}
-use Rattle.desk.proofs.Names.{entries-push, HasKept, the_reply, Holding, IsOneStep, Does, IsDraw}
+use Rattle.desk.proofs.Names.{entries-push, HasKept, the_reply, Holding, IsOneStep, Does}
 use Rattle.desk.proofs.Names.{Judged, IsJudged, CanCarry, IsCarried, IsInHand, IsWorked, signed}
 use Rattle.desk.proofs.Names.{task_of, with_task, arith}
 use Rattle.std.proofs.lemmas.Option.{same_Some}
@@ -55,10 +55,6 @@ worked_at_once z k h new by c d reply hand is once done =
   where
     no_scan : (s : Story) (c : Command) (reply : Reply) → IsOneStep c → HasKept s c reply []
     no_scan s c reply one = grind arith
-
--- a paint or a stamp is of one step
-pub drawn_once : (c : Command) → IsDraw c → IsOneStep c
-drawn_once c draws = grind arith
 
 -- a command that is worked, and that a reader asked for, may be committed
 pub may_commit : (z : StoreId) (k u : KeeperView) (h new : Holding) (by : ℕ) (c : Command)
@@ -110,5 +106,5 @@ carried z k q u l h new by c reply order worked step =
       does = worked.does;
     }
 
--- how a command is taken and worked
-pub ruleset carrying = (accepted, taken_in_hand, drawn_once, worked_at_once)
+-- how a command is taken
+pub ruleset carrying = (accepted, taken_in_hand)

@@ -10,7 +10,6 @@ use Rattle.desk.proofs.Names.{refused_by_ledger, place_of_ledger}
 use Rattle.events.proofs.logs.KeptLemmas.{seen_in-pin_word}
 use Rattle.desk.proofs.HoldOpen.{can_answer}
 use Rattle.desk.proofs.HoldLemmas.{tidy_told}
-use Rattle.desk.proofs.CarryLemmas.{has_task}
 
 -- a scan up to a reader has seen as many words as that reader's number
 pub seen_long : (seen : List (Option Seen)) (reader : ℕ) → reader ≤ length seen
@@ -89,6 +88,3 @@ collect_worked z k u h new by kept seen reply hand scanned all does kept_is of_s
           (kept_replied z.base log h new reply kept hand.told does kept_is ∙ of_scan);
       does = does;
     }
-
--- what a collect finds before it is worked
-pub ruleset collecting = (has_task, few_versions, newest_kept)

@@ -16,7 +16,6 @@ use events::{Reply, Seen};
 use shelf::{KeeperSeat, Request, StoreName};
 
 /// Does all steps but the last of the current command, and its effect on what the desk holds.
-#[tactic(auto, using(crate::proofs::CarryLemmas::carrying))]
 fn work<Id: StoreName>(
     keeper: &mut KeeperSeat<Id>,
     holding: &mut Holding,

@@ -40,7 +40,6 @@ fn scan_all<Id: StoreName>(
 
 /// Carries out the current collect, up to its commit. Stores what its scan saw in `announced`, and
 /// keeps the versions that this asks for.
-#[tactic(auto, using(crate::proofs::ScanSteps::collecting))]
 pub fn carry_collect<Id: StoreName>(
     keeper: &mut KeeperSeat<Id>,
     holding: &mut Holding,

@@ -25,7 +25,6 @@ use shelf::{ReaderSeat, Request, StoreEntry, StoreName, Ticket, meet};
 
 /// Judges a command, and reserves capacity for its entry, after all other refusals; a checkpoint
 /// needs none.
-#[tactic(auto, using(crate::proofs::HoldDraw::judged_none))]
 fn admit<'a>(
     holding: &Holding,
     command: &'a Command,

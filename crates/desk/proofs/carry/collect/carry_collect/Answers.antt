@@ -2,8 +2,21 @@
 -- them.
 use Rattle.desk.proofs.Names.{ap, ◌∙◌, Setting}
 use Rattle.desk.proofs.HoldOpen.{can_answer}
-use Rattle.desk.proofs.ScanSteps.{collect_worked, kept_computed}
+use Rattle.desk.proofs.CarryLemmas.{has_task}
+use Rattle.desk.proofs.ScanSteps.{collect_worked, few_versions, kept_computed, newest_kept}
 use Rattle.desk.proofs.carry.collect.carry_collect.Goals as goal
+
+pub scan_all-requires-clause-in_hand : goal.scan_all-requires-clause-in_hand
+scan_all-requires-clause-in_hand g c =
+    has_task g.Id.StoreName.store _ c.args.holding.now _ _ c.requires.in_hand
+
+pub scan_all-requires-clause-few : goal.scan_all-requires-clause-few
+scan_all-requires-clause-few g c =
+    few_versions _ c.args.keeper.now _ _ c.requires.in_hand.told c.requires.judged
+
+pub collect-requires-clause-newest : goal.collect-requires-clause-newest
+collect-requires-clause-newest g c =
+    c.kept_after-kept.ensures.newest (newest_kept _ c.args.keeper.now _ c.requires.in_hand.told)
 
 pub collect-requires-clause-able : goal.collect-requires-clause-able
 collect-requires-clause-able g c = can_answer _ _ _ c.requires.in_hand.told
