@@ -1,5 +1,5 @@
 -- Decimal numbers, a digit at a time.
-use Rattle.metric.proofs.Decimals.{value_from-push}
+use Rattle.metric.proofs.Decimals.{length-decimal_side, value_from-push}
 use Rattle.std.proofs.Common.{◌≡◌, ℕ, ◌+◌, ◌/◌, ◌%◌, ◌^◌, ◌<◌, ◌≤◌, true, List, [], ◌∷◌, ◌++◌}
 use Rattle.std.proofs.Common.{arith}
 use Rattle.std.specs.Fmt.{decimal}
@@ -38,3 +38,6 @@ IsNumber-more n text large is =
 pub IsNumber-decimal : (n : ℕ) → n < 2 ^ 64 → IsNumber (decimal n) n
 IsNumber-decimal n fits =
     decimal_by_steps (λ m text. IsNumber text m) IsNumber-one IsNumber-more n fits
+
+-- the numbers of a front have four digits at most
+pub ruleset side_digits = (length-decimal_side)

@@ -12,6 +12,7 @@ pub const FRONT_ROOM: usize = 13;
 
 /// Appends everything that comes before the raster of a bitmap's image. The buffer has capacity for
 /// it.
+#[tactic(auto, using(crate::proofs::Decimals::side_digits))]
 pub fn push_front(out: &mut Vec<u8>, form: Form, bitmap: &Bitmap)
     requires { vec_len out.old + 13 ≤ vec_capacity out.old }
     ensures text { out.new.items ≡ out.old.items ++ front_text form bitmap.now }
