@@ -1,7 +1,6 @@
 -- A line and the bytes that it counts, of which a reader gave a part.
-use Rattle.std.proofs.Common.{◌≡◌, ◌≢◌, ◌≤◌, ◌<◌, ℕ, List, [], ◌∷◌, ◌++◌, Option, inl, inr}
-use Rattle.std.proofs.Common.{sym, ap, subst, length, arith, ◌∙◌, append_assoc, Result, Ok, Err}
-use Rattle.std.proofs.Common.{OnErr}
+use Rattle.std.proofs.Common.{◌≡◌, ◌≢◌, ◌≤◌, ◌<◌, ℕ, List, [], ◌∷◌, ◌++◌, Option, inl, inr, sym, ap}
+use Rattle.std.proofs.Common.{subst, length, arith, ◌∙◌, append_assoc, Result, Ok, Err, OnErr}
 use Rattle.std.specs.Prelude.{◌⊎◌}
 use Rattle.std.specs.Str.Lines.{strip_carriage_return}
 use Rattle.std.proofs.Math.Nat.{eq-or-lt_of_le}

@@ -1,12 +1,10 @@
 -- Any obstacle that is nearer than a limit, as tiles are searched.
-use Rattle.std.proofs.Common.{◌≡◌, ◌≢◌, ℕ, ◌/◌, ◌<◌, None, arith}
+use Rattle.std.proofs.Common.{◌≡◌, ◌≢◌, ℕ, ◌/◌, ◌<◌, None, arith, get_or}
 use Rattle.std.specs.Int.{bit_at}
 use Rattle.metric.specs.declared.rect.Rect.{Rect}
 use Rattle.bits.specs.Cells.{Cells, IsBitmap}
-use Rattle.std.proofs.Common.{get_or}
 use Rattle.clearance.specs.Rows.{words_of_row}
-use Rattle.clearance.specs.Spots.{IsAnyBelow, IsInBand, IsInTile, IsInWord, IsLeastSpot}
-use Rattle.clearance.specs.Spots.{IsNearSpot}
+use Rattle.clearance.specs.Spots.{IsAnyBelow, IsInBand, IsInTile, IsInWord, IsLeastSpot, IsNearSpot}
 use Rattle.clearance.specs.declared.found.Found.{Found}
 use Rattle.clearance.proofs.RowWords.{IsRowOf-words}
 use Rattle.clearance.proofs.TileRows.{AreBandsLive, AreBandsLive-thinned, IsThinned-without}

@@ -1,15 +1,14 @@
 -- The rows that a search passes over, by their bands.
 use Rattle.std.proofs.Common.{◌≡◌, ℕ, ◌+◌, ◌-◌, ◌*◌, ◌/◌, ◌<◌, inl, inr, Bool, true, false, not}
-use Rattle.std.proofs.Common.{cond, get_or, Option, refl, sym, ◌∙◌, arith}
+use Rattle.std.proofs.Common.{cond, get_or, Option, refl, sym, ◌∙◌, arith, rules}
 use Rattle.std.proofs.lemmas.Bool.{cases_lt}
-use Rattle.std.proofs.lemmas.Nat.Bits.{bit_at-zero}
+use Rattle.std.proofs.lemmas.Nat.Bits.{bit_at-zero, same_from_bits_below}
 use Rattle.metric.specs.declared.rect.Rect.{Rect}
 use Rattle.bits.specs.Bands.{IsBanded}
 use Rattle.bits.specs.Cells.{Cells, has, IsBitmap, IsObstacle}
 use Rattle.bits.specs.Tiles.{word_where}
 use Rattle.bits.specs.Words.{words_across}
 use Rattle.bits.proofs.TileLemmas.{bit_at-word_where, word_where-lt}
-use Rattle.std.proofs.lemmas.Nat.Bits.{same_from_bits_below}
 use Rattle.clearance.specs.Bands.{IsMarkedRow, IsNextGap}
 use Rattle.clearance.specs.Nearest.{IsNearAmong, IsWithin}
 use Rattle.clearance.specs.Rows.{IsBlankRow, words_of_row}
@@ -19,7 +18,6 @@ use Rattle.clearance.proofs.NearestSearches.{IsNearAmong-same}
 use Rattle.clearance.proofs.RowWords.{word_in_row}
 use Rattle.clearance.proofs.Searches.{IsLeastAmong-same, obstacle_within}
 use Rattle.std.specs.Int.{abs_diff}
-use Rattle.std.proofs.Common.{rules}
 use Rattle.std.proofs.lemmas.Grind.{common_steps}
 use Rattle.std.proofs.lemmas.Bool.Decides.{nat_tests}
 

@@ -1,8 +1,8 @@
 -- The nearest of a map with its frame, from that of the frame and that of the map, and the least
 -- over a rectangle likewise.
 use Rattle.std.proofs.Common.{◌≡◌, ℕ, zero, suc, ◌+◌, ◌-◌, ◌^◌, ◌<◌, ◌≤◌, ℤ, pos, negsuc, Some}
-use Rattle.std.proofs.Common.{None}
-use Rattle.std.proofs.Common.{Option, IfSome, inl, inr, refl, sym, ap, subst, ◌∙◌, arith}
+use Rattle.std.proofs.Common.{None, Option, IfSome, inl, inr, refl, sym, ap, subst, ◌∙◌, arith}
+use Rattle.std.proofs.Common.{rules}
 use Rattle.std.specs.Int.{abs_diff}
 use Rattle.std.proofs.lemmas.Bool.{cases_lt}
 use Rattle.metric.specs.Cellwise.{Key, key_of, IsAtMost}
@@ -19,17 +19,14 @@ use Rattle.bits.proofs.CellsLemmas.{has-outside}
 use Rattle.bits.proofs.Framing.{count, count_back, distance_less, frame_cell, framed_blocked}
 use Rattle.bits.proofs.Framing.{same_distance}
 use Rattle.clearance.specs.declared.found.Found.{Found}
-use Rattle.clearance.specs.Nearest.{IsFound}
+use Rattle.clearance.specs.Nearest.{IsFound, IsFoundBelow}
 use Rattle.clearance.specs.Parts.{IsPart}
 use Rattle.clearance.specs.declared.part.Part.TheVariants.{Frame}
 use Rattle.clearance.specs.Rows.{IsFar}
 use Rattle.clearance.specs.Search.{IsInRect, IsLeastBelow, IsLeastInBits, IsReachedFrom}
 use Rattle.clearance.proofs.Searches.{IsFar-lower}
 use Rattle.clearance.specs.Firsts.{IsCellNear}
-use Rattle.clearance.specs.Frames.{IsBetterOfBoth, IsLoweredByFrame, key_found}
-use Rattle.clearance.specs.Nearest.{IsFoundBelow}
-use Rattle.clearance.specs.Frames.{counted_with_frame}
-use Rattle.std.proofs.Common.{rules}
+use Rattle.clearance.specs.Frames.{IsBetterOfBoth, IsLoweredByFrame, key_found, counted_with_frame}
 use Rattle.std.proofs.lemmas.Grind.{common_steps}
 use Rattle.std.proofs.lemmas.Bool.Decides.{nat_tests}
 

@@ -1,7 +1,6 @@
 -- The least distance of a rectangle's cells, as more rows are searched.
-use Rattle.std.proofs.Common.{◌≡◌, ℕ, ℤ, pos, negsuc, ◌+◌, ◌-◌, ◌/◌, ◌^◌, ◌<◌, ◌≤◌, ◌⊎◌}
-use Rattle.std.proofs.Common.{min, max, inl, inr, List, length, get_or, None}
-use Rattle.std.proofs.Common.{refl, sym, subst, ◌∙◌, arith}
+use Rattle.std.proofs.Common.{◌≡◌, ℕ, ℤ, pos, negsuc, ◌+◌, ◌-◌, ◌/◌, ◌^◌, ◌<◌, ◌≤◌, ◌⊎◌, min, max}
+use Rattle.std.proofs.Common.{inl, inr, List, length, get_or, None, refl, sym, subst, ◌∙◌, arith}
 use Rattle.std.specs.Int.{abs_diff, bit_at}
 use Rattle.std.proofs.lemmas.Bool.{cases_lt}
 use Rattle.metric.specs.declared.rect.Rect.{Rect}
@@ -19,8 +18,7 @@ use Rattle.clearance.specs.Parts.{IsBlackInRow, IsPart}
 use Rattle.clearance.specs.declared.part.Part.TheVariants.{Row}
 use Rattle.clearance.specs.Search.{IsInRect, IsLeastBelow, IsLeastInBits, column_gap, row_gap}
 use Rattle.clearance.specs.Search.{rect_distance, IsLeastAmong, IsLeastWithin, IsLoweredBy}
-use Rattle.clearance.specs.Search.{IsReachedCell}
-use Rattle.clearance.specs.Search.{IsLoweredRight, IsLoweredLeft}
+use Rattle.clearance.specs.Search.{IsReachedCell, IsLoweredRight, IsLoweredLeft}
 use Rattle.clearance.proofs.RowSearches.{mark_within}
 use Rattle.clearance.proofs.RowWords.{IsRowOf-words, length-words_of_row}
 use Rattle.std.proofs.lemmas.Grind.{common_steps}

@@ -20,8 +20,7 @@ use Rattle.clearance.specs.declared.found.Found.{Found}
 use Rattle.clearance.proofs.RowWords.{IsRowOf-words}
 use Rattle.clearance.proofs.Searches.{IsFar-greater, marked_obstacle, obstacle_marked}
 use Rattle.clearance.proofs.Searches.{obstacle_within}
-use Rattle.clearance.proofs.SpotSearches.{IsSpotBelow-merged, IsSpotBelow-same}
-use Rattle.clearance.proofs.SpotSearches.{IsSpotBelow-wider}
+use Rattle.clearance.proofs.SpotSearches.{IsSpotBelow-merged, IsSpotBelow-same, IsSpotBelow-wider}
 use Rattle.clearance.proofs.TileRows.{AreBandsLive}
 use Rattle.std.proofs.lemmas.Grind.{common_steps}
 use Rattle.std.proofs.lemmas.Bool.Decides.{nat_tests}

@@ -1,7 +1,6 @@
 -- The command line: this project's own rule, in the words of `clap`.
-use Rattle.std.specs.Prelude.{◌≡◌, ℕ, List, [], ◌∷◌, Some, None, IsSome, ◌⊎◌, codes, map}
-use Rattle.std.specs.Prelude.{Result, Ok, Err}
-use Rattle.std.specs.Prelude.{option_map, option_and_then, true, false}
+use Rattle.std.specs.Prelude.{◌≡◌, ℕ, List, [], ◌∷◌, Some, None, IsSome, ◌⊎◌, codes, map, Result}
+use Rattle.std.specs.Prelude.{Ok, Err, option_map, option_and_then, true, false}
 use Rattle.std.specs.Borrow.{Bor}
 use Rattle.clap.specs.Words.{App, Row, Rule, first_of, kind_of, takes, new_app, new_rule, one_of}
 use Rattle.clap.specs.Words.{subcommand_of, with_rule, with_subcommand}
@@ -17,8 +16,7 @@ use Rattle.command_line.specs.declared.arguments.AskOptions.{AskOptions}
 use Rattle.command_line.specs.declared.arguments.DistOptions.{DistOptions}
 use Rattle.command_line.specs.declared.arguments.ServeOptions.{ServeOptions}
 use Rattle.command_line.specs.declared.arguments.Options.{Options}
-use Rattle.command_line.specs.declared.arguments.Options.TheVariants.{Ask, Dist, Serve}
-use Rattle.command_line.specs.declared.arguments.Options.TheVariants.{Steps}
+use Rattle.command_line.specs.declared.arguments.Options.TheVariants.{Ask, Dist, Serve, Steps}
 use Rattle.command_line.specs.declared.arguments.Fault.{Fault}
 use Rattle.command_line.specs.declared.arguments.Fault.TheVariants.{Memory}
 use Rattle.command_line.specs.ServeLine.{AreAskOptions, AreServeOptions, ask_app, default_rule}

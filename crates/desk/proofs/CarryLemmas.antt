@@ -1,13 +1,11 @@
 -- A command that the keeper commits is carried out: the reply that is computed is the one that its
 -- log has.
-use Rattle.desk.proofs.Names.{◌≡◌, ℕ, ◌<◌, [], ◌∷◌, ◌++◌, refl, ap, sym, ◌∙◌}
-use Rattle.desk.proofs.Names.{Some, None, Command}
-use Rattle.desk.proofs.Names.{Reply, Story, Blocks, refused}
-use Rattle.desk.proofs.Names.{steps_before, Base, slot_of, story, blocks, StoreId, readers_of, Task}
-use Rattle.desk.proofs.Names.{KeeperView, entries, with_command, committed, newest_slot, MayCommit}
-use Rattle.desk.proofs.Names.{entries-push, HasKept, the_reply, Holding, IsOneStep, Does}
-use Rattle.desk.proofs.Names.{Judged, IsJudged, CanCarry, IsCarried, IsInHand, IsWorked, signed}
-use Rattle.desk.proofs.Names.{task_of, with_task, arith}
+use Rattle.desk.proofs.Names.{◌≡◌, ℕ, ◌<◌, [], ◌∷◌, ◌++◌, refl, ap, sym, ◌∙◌, Some, None, Command}
+use Rattle.desk.proofs.Names.{Reply, Story, Blocks, refused, steps_before, Base, slot_of, story}
+use Rattle.desk.proofs.Names.{blocks, StoreId, readers_of, Task, KeeperView, entries, with_command}
+use Rattle.desk.proofs.Names.{committed, newest_slot, MayCommit, entries-push, HasKept, the_reply}
+use Rattle.desk.proofs.Names.{Holding, IsOneStep, Does, Judged, IsJudged, CanCarry, IsCarried}
+use Rattle.desk.proofs.Names.{IsInHand, IsWorked, signed, task_of, with_task, arith}
 use Rattle.std.proofs.lemmas.Option.{same_Some}
 use Rattle.desk.proofs.HoldDraw.{judged_none}
 

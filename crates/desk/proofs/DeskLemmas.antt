@@ -1,18 +1,15 @@
 -- A desk's command: why it is refused, what the seat has then seen, and what the desk is then.
-use Rattle.desk.proofs.Names.{◌≡◌, ℕ, ◌+◌, ◌==◌, cond, false, if◌then◌else◌, List}
-use Rattle.desk.proofs.Names.{[], ◌∷◌, ◌++◌, length, refl, ap, sym, ◌∙◌, arith}
-use Rattle.desk.proofs.Names.{add-zero, Option, Some, Ok, Err, PlacesUsed, Seen}
-use Rattle.desk.proofs.Names.{Collect, nat_tests, inl}
-use Rattle.desk.proofs.Names.{inr, Refusal, Command, Reply, kept_after}
-use Rattle.desk.proofs.Names.{Story, newest, takes_room, told, refused}
-use Rattle.desk.proofs.Names.{kept_told, Base, story, StoreEntry, StoreId}
-use Rattle.desk.proofs.Names.{readers_of, entries-push, length-entries, prefix-push}
-use Rattle.desk.proofs.Names.{slots_apart, IsLegal, drop-append-le, drop_all, length-append}
-use Rattle.desk.proofs.Names.{KeeperView, ReaderView, entries, resting, unmet_by, met, met_by}
-use Rattle.desk.proofs.Names.{Holding, IsToldByLog, Refuses, CanCarry, IsCarried}
-use Rattle.desk.proofs.Names.{KeepsScanned, signed, DeskView, story_told, base_place, kept_part}
-use Rattle.desk.proofs.Names.{entries_kept_after, IsDesk, IsSteady, IsByScan, IsAccepted, IsWhy}
-use Rattle.desk.proofs.Names.{IsCommandRefused, IsApplied}
+use Rattle.desk.proofs.Names.{◌≡◌, ℕ, ◌+◌, ◌==◌, cond, false, if◌then◌else◌, List, [], ◌∷◌, ◌++◌}
+use Rattle.desk.proofs.Names.{length, refl, ap, sym, ◌∙◌, arith, add-zero, Option, Some, Ok, Err}
+use Rattle.desk.proofs.Names.{PlacesUsed, Seen, Collect, nat_tests, inl, inr, Refusal, Command}
+use Rattle.desk.proofs.Names.{Reply, kept_after, Story, newest, takes_room, told, refused}
+use Rattle.desk.proofs.Names.{kept_told, Base, story, StoreEntry, StoreId, readers_of, entries-push}
+use Rattle.desk.proofs.Names.{length-entries, prefix-push, slots_apart, IsLegal, drop-append-le}
+use Rattle.desk.proofs.Names.{drop_all, length-append, KeeperView, ReaderView, entries, resting}
+use Rattle.desk.proofs.Names.{unmet_by, met, met_by, Holding, IsToldByLog, Refuses, CanCarry}
+use Rattle.desk.proofs.Names.{IsCarried, KeepsScanned, signed, DeskView, story_told, base_place}
+use Rattle.desk.proofs.Names.{kept_part, entries_kept_after, IsDesk, IsSteady, IsByScan, IsAccepted}
+use Rattle.desk.proofs.Names.{IsWhy, IsCommandRefused, IsApplied}
 use mathlib.Core.List.{IsPrefix}
 use Rattle.events.proofs.logs.LogLemmas.{places_are, places-legal}
 use Rattle.events.proofs.logs.KeptAfter.{few_after}
@@ -56,11 +53,6 @@ reader_met z d k h kept x y desk steady is =
       met_steady z.base (resting (readers_of z) d.log) x 0 steady refl,
       add-zero x.made,
     ) at is
-
--- a command can be carried out by a keeper that rests at the desk's log
-pub can_carry : (z : StoreId) (d : DeskView) (k : KeeperView) (h : Holding)
-    → IsToldByLog z.base (entries d.log) h → k ≡ resting (readers_of z) d.log → CanCarry z k h
-can_carry z d k h told is = rw is record { keeper_is = refl; told = told }
 
 -- a command is refused where what is held refuses it, the desk is as before, and the reader has met
 -- the keeper

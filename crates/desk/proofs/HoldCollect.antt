@@ -1,13 +1,11 @@
 -- What is held after a collect.
-use Rattle.desk.proofs.Names.{◌≡◌, ℕ, ◌+◌, Bool, List, [], ◌∷◌}
-use Rattle.desk.proofs.Names.{map, refl, ap, ◌∙◌, arith, None, Contains, filter}
-use Rattle.desk.proofs.Names.{length-map, Collect, Reply, Collected, Kept, members, IsIn}
-use Rattle.desk.proofs.Names.{IsPartOfKept, least_kept, Story, newest, bitmap_of, kept, IsKept}
-use Rattle.desk.proofs.Names.{with_kept, inuse, IsAnswer, told, Blocks, directory_of, is_used}
-use Rattle.desk.proofs.Names.{moved, refused_by_ledger, IsSummary, Base, story, blocks, IsTidy}
-use Rattle.desk.proofs.Names.{freed_is, refused_next, ledger_collect, OldPiece, Sweeps}
-use Rattle.desk.proofs.Names.{retired_of}
-use Rattle.desk.proofs.Names.{retired_blocks, Holding, summary_of, Holds, Does, rules}
+use Rattle.desk.proofs.Names.{◌≡◌, ℕ, ◌+◌, Bool, List, [], ◌∷◌, map, refl, ap, ◌∙◌, arith, None}
+use Rattle.desk.proofs.Names.{Contains, filter, length-map, Collect, Reply, Collected, Kept}
+use Rattle.desk.proofs.Names.{members, IsIn, IsPartOfKept, least_kept, Story, newest, bitmap_of}
+use Rattle.desk.proofs.Names.{kept, IsKept, with_kept, inuse, IsAnswer, told, Blocks, directory_of}
+use Rattle.desk.proofs.Names.{is_used, moved, refused_by_ledger, IsSummary, Base, story, blocks}
+use Rattle.desk.proofs.Names.{IsTidy, freed_is, refused_next, ledger_collect, OldPiece, Sweeps}
+use Rattle.desk.proofs.Names.{retired_of, retired_blocks, Holding, summary_of, Holds, Does, rules}
 use Rattle.events.specs.declared.blocks.RetiredBlock.{RetiredBlock}
 use Rattle.events.proofs.logs.SummaryCollect.{summary_swept}
 use Rattle.events.proofs.invariants.TidyCollect.{IsChoice, kept_of}

@@ -1,18 +1,14 @@
 -- What is held after a paint or a stamp, and after a revert.
-use Rattle.desk.proofs.Names.{◌≡◌, ℕ, ◌+◌, true, false, List, []}
-use Rattle.desk.proofs.Names.{length, refl, ap, sym, ◌∙◌, arith}
-use Rattle.desk.proofs.Names.{Option, Some, None, length-map, Refusal}
-use Rattle.desk.proofs.Names.{Command, Revert}
-use Rattle.desk.proofs.Names.{Checkpoint, Entry, Reply, Painted, Reverted, Checkpointed}
-use Rattle.desk.proofs.Names.{Ledger, Setting, IsDraw, Story, newest, bitmap_of}
-use Rattle.desk.proofs.Names.{needed, refused, refused_blocks, IsAnswer, told, after_draw}
-use Rattle.desk.proofs.Names.{Blocks, directory_of, moved, drawn_blocks}
-use Rattle.desk.proofs.Names.{refused_by_ledger, refused_draw_blocks, Base}
-use Rattle.desk.proofs.Names.{story, blocks, IsTidy, refused_first, refused_next, refused_for_none}
-use Rattle.desk.proofs.Names.{inside_told, told_draw, ledger_draw, ledger_revert, ledger_checkpoint}
-use Rattle.desk.proofs.Names.{reply_is_answer, Draws, Reverts, draft, own_blocks, needed_by}
-use Rattle.desk.proofs.Names.{refused_by, block_if, Holding, Judged, IsJudged, summary_of, Holds}
-use Rattle.desk.proofs.Names.{IsToldByLog, Judges, Does}
+use Rattle.desk.proofs.Names.{◌≡◌, ℕ, ◌+◌, true, false, List, [], length, refl, ap, sym, ◌∙◌, arith}
+use Rattle.desk.proofs.Names.{Option, Some, None, length-map, Refusal, Command, Revert, Checkpoint}
+use Rattle.desk.proofs.Names.{Entry, Reply, Painted, Reverted, Checkpointed, Ledger, Setting}
+use Rattle.desk.proofs.Names.{IsDraw, Story, newest, bitmap_of, needed, refused, refused_blocks}
+use Rattle.desk.proofs.Names.{IsAnswer, told, after_draw, Blocks, directory_of, moved, drawn_blocks}
+use Rattle.desk.proofs.Names.{refused_by_ledger, refused_draw_blocks, Base, story, blocks, IsTidy}
+use Rattle.desk.proofs.Names.{refused_first, refused_next, refused_for_none, inside_told, told_draw}
+use Rattle.desk.proofs.Names.{ledger_draw, ledger_revert, ledger_checkpoint, reply_is_answer, Draws}
+use Rattle.desk.proofs.Names.{Reverts, draft, own_blocks, needed_by, refused_by, block_if, Holding}
+use Rattle.desk.proofs.Names.{Judged, IsJudged, summary_of, Holds, IsToldByLog, Judges, Does}
 use Rattle.events.proofs.steps.Events.{reply_draw}
 use Rattle.events.proofs.logs.SummaryDraw.{IsDrawnOn, moved_draw, summary_draw, summary_revert}
 use Rattle.events.proofs.logs.SummaryDraw.{summary_checkpoint}

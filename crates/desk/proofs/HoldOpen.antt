@@ -1,12 +1,11 @@
 -- What is held at the opening, what a command asks, and that all blocks come back at the end.
 use Rattle.desk.proofs.Names.{◌≡◌, ℕ, ◌+◌, ◌-◌, suc, List, [], ◌∷◌, ◌++◌, length, map, drop}
-use Rattle.desk.proofs.Names.{replicate, ap, sym, ◌∙◌, arith, None}
-use Rattle.desk.proofs.Names.{length-map, length-replicate, get_or-replicate, Cells, IsBitmap}
-use Rattle.desk.proofs.Names.{Setting, Entry, first_kept, opened, newest, bitmap_of, IsKept}
-use Rattle.desk.proofs.Names.{opened_blocks, directory_of, own_list, Base, tiles, story}
-use Rattle.desk.proofs.Names.{blocks, balanced, fits_ready, bad_field-none, draft, bitmap_at}
-use Rattle.desk.proofs.Names.{own_blocks, newest_blocks, retired_of, Holding, IsToldByLog}
-use Rattle.desk.proofs.Names.{CanAnswer, rules}
+use Rattle.desk.proofs.Names.{replicate, ap, sym, ◌∙◌, arith, None, length-map, length-replicate}
+use Rattle.desk.proofs.Names.{get_or-replicate, Cells, IsBitmap, Setting, Entry, first_kept, opened}
+use Rattle.desk.proofs.Names.{newest, bitmap_of, IsKept, opened_blocks, directory_of, own_list}
+use Rattle.desk.proofs.Names.{Base, tiles, story, blocks, balanced, fits_ready, bad_field-none}
+use Rattle.desk.proofs.Names.{draft, bitmap_at, own_blocks, newest_blocks, retired_of, Holding}
+use Rattle.desk.proofs.Names.{IsToldByLog, CanAnswer, rules}
 use Rattle.std.specs.List.{range_with_len}
 use Rattle.bits.specs.Tiles.{tile_count}
 use Rattle.events.specs.Setting.{bad_field}

@@ -1,11 +1,10 @@
 -- What is held after a publish.
-use Rattle.desk.proofs.Names.{◌≡◌, ℕ, ◌+◌, arith, None}
-use Rattle.desk.proofs.Names.{length-map, inl, inr, Publish, Reply, Published, first_free}
-use Rattle.desk.proofs.Names.{with_version, Story, bitmap_of, IsKept, IsAnswer, told, Blocks}
-use Rattle.desk.proofs.Names.{moved, refused_by_ledger, IsSummary}
-use Rattle.desk.proofs.Names.{Base, story, blocks, IsTidy, refused_next, ledger_publish, Seals}
-use Rattle.desk.proofs.Names.{bitmap_at, own_blocks, retired_blocks, block_if}
-use Rattle.desk.proofs.Names.{Holding, summary_of, Holds, Does, rules}
+use Rattle.desk.proofs.Names.{◌≡◌, ℕ, ◌+◌, arith, None, length-map, inl, inr, Publish, Reply}
+use Rattle.desk.proofs.Names.{Published, first_free, with_version, Story, bitmap_of, IsKept}
+use Rattle.desk.proofs.Names.{IsAnswer, told, Blocks, moved, refused_by_ledger, IsSummary, Base}
+use Rattle.desk.proofs.Names.{story, blocks, IsTidy, refused_next, ledger_publish, Seals, bitmap_at}
+use Rattle.desk.proofs.Names.{own_blocks, retired_blocks, block_if, Holding, summary_of, Holds}
+use Rattle.desk.proofs.Names.{Does, rules}
 use Rattle.events.proofs.logs.SummaryPublish.{newest_published, slots_published, summary_publish}
 use Rattle.events.proofs.invariants.TidyPublish.{newest-publish, bitmap_of-publish, bitmap_of-new}
 use Rattle.events.proofs.invariants.TidyPublish.{directory_of-new, kept_published}

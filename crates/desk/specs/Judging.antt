@@ -1,8 +1,7 @@
 -- Commands judged by what a desk holds: this project's own rule.
 use Rattle.std.specs.Prelude.{◌≡◌, None}
 use Rattle.events.specs.declared.command.Command.{Command}
-use Rattle.events.specs.declared.command.Command.TheVariants.{Publish, Revert, Collect}
-use Rattle.events.specs.declared.command.Command.TheVariants.{Checkpoint}
+use Rattle.events.specs.declared.command.Command.TheVariants.{Publish, Revert, Collect, Checkpoint}
 use Rattle.events.specs.Drawing.{IsDraw}
 use Rattle.events.specs.Ledger.{refused_by_ledger}
 use Rattle.grid.specs.Strokes.{IsStroke}

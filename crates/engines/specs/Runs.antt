@@ -6,8 +6,7 @@ use Rattle.command_line.specs.declared.arguments.Fault.{Fault}
 use Rattle.command_line.specs.declared.arguments.Options.{Options}
 use Rattle.command_line.specs.declared.arguments.Options.TheVariants.{Dist, Steps}
 use Rattle.engines.specs.dist.Dist.{AnswersImage as AnswersDist, BeginsToAnswerImage as BeginsDist}
-use Rattle.steps.specs.Steps.{AnswersText as AnswersSteps}
-use Rattle.steps.specs.Steps.{BeginsToAnswerText as BeginsSteps}
+use Rattle.steps.specs.Steps.{AnswersText as AnswersSteps, BeginsToAnswerText as BeginsSteps}
 
 -- an answer of the engine that the options name was wholly written; none if it needs the network
 abbrev pub AnswersAs : Options → Option (List ℕ) → Option (List ℕ) → Option (List ℕ) → ℕ → Type 0

@@ -1,8 +1,7 @@
 -- A bitmap once some of its rows are copied.
 use Rattle.libclearmap.proofs.Names.{◌≡◌, ℕ, ◌&&◌, ◌+◌, ◌*◌, ◌/◌, ◌%◌, ◌<◌, ◌≤◌, nat_lt}
-use Rattle.libclearmap.proofs.Names.{if◌then◌else◌, true, false, List, get_or, sym}
-use Rattle.libclearmap.proofs.Names.{◌∙◌, arith, bit_at, mul-le-mul_right, nat_tests}
-use Rattle.libclearmap.proofs.Names.{Cells, has, cells_where}
+use Rattle.libclearmap.proofs.Names.{if◌then◌else◌, true, false, List, get_or, sym, ◌∙◌, arith}
+use Rattle.libclearmap.proofs.Names.{bit_at, mul-le-mul_right, nat_tests, Cells, has, cells_where}
 use Rattle.libclearmap.proofs.Names.{IsBitmap, IsObstacle, cells_stored, is_stored, words_across}
 use Rattle.libclearmap.proofs.Names.{is_bit, cells_where-same, cells_where-has, has-cells_where}
 use Rattle.libclearmap.proofs.Names.{has-cells_where_right, words_of_row, IsRowOf-words, is_counted}

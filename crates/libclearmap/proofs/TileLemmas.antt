@@ -1,13 +1,12 @@
 -- The words of a map whose tiles have marks.
 use Rattle.libclearmap.proofs.Names.{◌≡◌, ◌≢◌, ℕ, ◌+◌, ◌*◌, ◌/◌, ◌^◌, ◌<◌, ◌==◌, ◌&&◌, true, false}
-use Rattle.libclearmap.proofs.Names.{if◌then◌else◌, List, get_or, ◌∙◌, arith, w64, bit_at}
-use Rattle.libclearmap.proofs.Names.{bit_not, bit_at_not, same_from_bits_below, word_where-lt}
-use Rattle.libclearmap.proofs.Names.{nat_tests, IsBanded, IsTiled, IsObstacle, IsSide, has}
-use Rattle.libclearmap.proofs.Names.{is_stored, words_across, IsBitmap-cells_where}
-use Rattle.libclearmap.proofs.Names.{cells_where-same, has-cells_where, has-outside, words_of_row}
-use Rattle.libclearmap.proofs.Names.{word_in_row, ClearmapBits, IsBlankTile, bands_down}
-use Rattle.libclearmap.proofs.Names.{cells_of_bits, cells_of_rows, is_counted, is_marked, is_set}
-use Rattle.libclearmap.proofs.Names.{is_tile_counted}
+use Rattle.libclearmap.proofs.Names.{if◌then◌else◌, List, get_or, ◌∙◌, arith, w64, bit_at, bit_not}
+use Rattle.libclearmap.proofs.Names.{bit_at_not, same_from_bits_below, word_where-lt, nat_tests}
+use Rattle.libclearmap.proofs.Names.{IsBanded, IsTiled, IsObstacle, IsSide, has, is_stored}
+use Rattle.libclearmap.proofs.Names.{words_across, IsBitmap-cells_where, cells_where-same}
+use Rattle.libclearmap.proofs.Names.{has-cells_where, has-outside, words_of_row, word_in_row}
+use Rattle.libclearmap.proofs.Names.{ClearmapBits, IsBlankTile, bands_down, cells_of_bits}
+use Rattle.libclearmap.proofs.Names.{cells_of_rows, is_counted, is_marked, is_set, is_tile_counted}
 use Rattle.libclearmap.proofs.LayoutLemmas.{cell_bits, maps}
 
 -- a word of a row counts where its tile isn't known to be blank

@@ -2,9 +2,8 @@
 
 ghost use Rattle.std.specs.Prelude.{◌≡◌, Some, None, option_map, option_and_then, MatchOption};
 ghost use Rattle.metric.specs.Kind.{metric_named};
-ghost use Rattle.words.specs.Numbers.{first_of};
+ghost use Rattle.words.specs.Numbers.{first_of, pair, points};
 ghost use Rattle.lines.specs.Corners.{corners_of, seen_corners};
-ghost use Rattle.words.specs.Numbers.{pair, points};
 ghost use Rattle.words.specs.Words.{words_left};
 
 use metric::{MetricKind, Rect};

@@ -5,14 +5,13 @@ use Rattle.std.proofs.Common.{List, [], ◌∷◌, ◌++◌, Bool, true, false, 
 use Rattle.std.proofs.Common.{drop, take}
 use Rattle.std.proofs.Common.{slice_index, slice_index_or, refl, sym, ap, arith, if◌then◌else◌}
 use Rattle.std.specs.Fmt.{decimal}
-use Rattle.std.specs.List.{flat_map, join_with_byte, range_with_len, slice_range}
+use Rattle.std.specs.List.{flat_map, join_with_byte, range_with_len, slice_range, take-map}
 use Rattle.std.proofs.Math.Path.{fun_ext}
 use Rattle.std.proofs.Math.Nat.{div-lt_iff_lt-mul, mod-lt, mul-le-mul_right}
 use Rattle.std.proofs.lemmas.Nat.{div-mul-add, mod-mul-add}
 use Rattle.std.proofs.lemmas.List.{drop-map, ext_get_or, get_or-drop, get_or-map, get_or-take}
 use Rattle.std.proofs.lemmas.List.{length-drop, length-map, length-take-le}
 use Rattle.std.proofs.lemmas.List.FromFn.{get_or-map-range_with_len, length-map-range_with_len}
-use Rattle.std.specs.List.{take-map}
 use Rattle.metric.specs.declared.edge.Edge.{Edge}
 use Rattle.metric.specs.declared.near.Near.{Near}
 use Rattle.metric.specs.Nearest.{IsNear}
@@ -22,8 +21,7 @@ use Rattle.field.specs.Distances.{Distances, IsFarAway, number_at}
 use Rattle.field.specs.Obstacles.{IsMeasured}
 use Rattle.printing.specs.Measured.{AreDistances, IsDistanceOf, distance_text}
 use Rattle.printing.specs.Table.{entry_text, table_text}
-use Rattle.printing.specs.Tabled.{HasAllNumbers, IsBelowNone, IsTableOf}
-use Rattle.printing.specs.Tabled.{some_near, some_nears}
+use Rattle.printing.specs.Tabled.{HasAllNumbers, IsBelowNone, IsTableOf, some_near, some_nears}
 use Rattle.printing.proofs.MeasuredLines.{distance_text-near}
 
 -- what is written of a measured number is what is written of its nearest obstacle

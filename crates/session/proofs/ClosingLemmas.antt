@@ -1,21 +1,19 @@
 -- A store is closed: its sessions are given up, the last one first, and their entries are counted.
 use Rattle.std.proofs.Common.{◌≡◌, ℕ, ◌+◌, List, [], ◌∷◌, ◌++◌, length, ap, subst, sym, ◌∙◌, arith}
 use Rattle.std.proofs.Common.{length-append}
-use Rattle.std.specs.Prelude.{All, sum_by, slice_index_or}
+use Rattle.std.specs.Prelude.{All, sum_by, slice_index_or, drop}
 use Rattle.std.proofs.lemmas.List.Elements.{All-append}
 use Rattle.std.proofs.lemmas.List.Sums.{sum_by-append}
 use mathlib.Core.List.{IsPrefix}
 use Rattle.shelf.specs.declared.store_entry.StoreEntry.{StoreEntry}
 use Rattle.shelf.specs.Close.{Closed}
-use Rattle.shelf.specs.Roles.{ReaderView, made_by}
+use Rattle.shelf.specs.Roles.{ReaderView, made_by, entries}
 use Rattle.session.specs.Sessions.{IsInLog, IsHandedOut}
-use Rattle.shelf.specs.Roles.{entries}
 use Rattle.shelf.specs.Store.{StoreId, readers_of}
 use Rattle.shelf.proofs.logs.LogParts.{length-entries}
 use Rattle.desk.specs.Desks.{story_told, base_place, kept_part}
 use Rattle.events.specs.Legal.{IsLegal}
 use Rattle.events.proofs.logs.LogLemmas.{places_are, places-legal}
-use Rattle.std.specs.Prelude.{drop}
 use Rattle.std.proofs.lemmas.List.{length-drop}
 
 -- these sessions are left, while others were given up

@@ -4,8 +4,7 @@ ghost use Rattle.std.specs.Prelude.{◌≡◌, ◌<◌, ◌≤◌, ◌^◌, leng
 ghost use Rattle.std.specs.Prelude.{MatchOption};
 ghost use Rattle.std.specs.List.{list_all};
 ghost use Rattle.metric.specs.Digits.{is_digit, value_from};
-ghost use Rattle.words.specs.Numbers.{first_of};
-ghost use Rattle.words.specs.Numbers.{number};
+ghost use Rattle.words.specs.Numbers.{first_of, number};
 ghost use Rattle.words.specs.Words.{bytes_left, words, words_left};
 
 use crate::number::read_number;

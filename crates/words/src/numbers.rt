@@ -1,9 +1,8 @@
 //! Numbers in the rest of a line.
 
 ghost use Rattle.std.specs.Prelude.{◌≡◌, ◌∷◌, Some, None, option_map, MatchOption};
-ghost use Rattle.words.specs.Numbers.{first_of};
-ghost use Rattle.words.specs.Numbers.{HasNoNumber, number, number_pair, number_triple, numbers};
-ghost use Rattle.words.specs.Numbers.{only_number};
+ghost use Rattle.words.specs.Numbers.{first_of, HasNoNumber, number, number_pair, number_triple};
+ghost use Rattle.words.specs.Numbers.{numbers, only_number};
 ghost use Rattle.words.specs.Words.{words_left};
 
 use crate::number::read_number;

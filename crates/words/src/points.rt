@@ -4,8 +4,7 @@ ghost use Rattle.std.specs.Prelude.{◌≡◌, ◌≢◌, ◌+◌, [], ◌∷◌
 ghost use Rattle.std.specs.Prelude.{option_map, MatchOption, Some, IfSome, IfOk, IfErr, IsOk};
 ghost use Rattle.std.specs.Prelude.{Ok, Err};
 ghost use Rattle.metric.specs.declared.refusal.Refusal.{Refusal};
-ghost use Rattle.words.specs.Numbers.{path_of};
-ghost use Rattle.words.specs.Numbers.{coordinate, points, only, pair, HasNoFirst};
+ghost use Rattle.words.specs.Numbers.{path_of, coordinate, points, only, pair, HasNoFirst};
 ghost use Rattle.words.specs.Words.{words_left, bytes_left};
 
 use crate::front::front_number;

@@ -3,8 +3,7 @@
 ghost use Rattle.std.specs.Prelude.{◌≡◌, ◌≢◌, ◌⊎◌, ℕ, List, [], OnOk, OnErr, IfErr, Err};
 ghost use Rattle.metric.specs.Stream.{Appends, AppendsFront, CanFail, Takes};
 ghost use Rattle.streams.specs.Counted.{IsCounted};
-ghost use Rattle.ask.specs.Talking.{IsReplyTo, asks_for_bytes, bytes_promised};
-ghost use Rattle.ask.specs.Talking.{counted_for};
+ghost use Rattle.ask.specs.Talking.{IsReplyTo, asks_for_bytes, bytes_promised, counted_for};
 ghost use Rattle.streams.specs.Gathered.{Gathers, TakesAtMost};
 ghost use Rattle.words.specs.TextLines.{lines_of};
 ghost use Rattle.ask.specs.declared.ask.Stop.TheVariants.{Net, Standard};

@@ -3,8 +3,7 @@ use Rattle.events.proofs.Names.{rules, ◌≡◌, ℕ, zero, suc, ◌+◌, ◌<�
 use Rattle.events.proofs.Names.{not, cond, List, [], ◌∷◌, ◌++◌, length, map, drop, replicate, ap}
 use Rattle.events.proofs.Names.{get_or, refl, arith, Option, Some, None, is_some, filter, Story}
 use Rattle.events.proofs.Names.{slice_get, nat_tests, trues, either, new_ones, RetiredBlock}
-use Rattle.events.proofs.Names.{own_list, own_after, mapped, replaced, given_back, blocks_of}
-use Rattle.events.proofs.Names.{times}
+use Rattle.events.proofs.Names.{own_list, own_after, mapped, replaced, given_back, blocks_of, times}
 
 -- a number that equals another counts once for it
 pub one_if : (n m : ℕ) → n ≡ m → ◌≡◌ {A = ℕ} (cond (n == m) 1 0) 1

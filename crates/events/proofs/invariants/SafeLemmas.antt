@@ -1,8 +1,7 @@
 -- What holds between words, keeper and readers gives the theorem, item by item.
 use Rattle.events.proofs.Names.{rules, ◌≡◌, ℕ, List, subst, sym, arith, inl, inr, Story, IsKept}
 use Rattle.events.proofs.Names.{cells_where-same, cells_where-has, bitmap_of, Blocks, Base, State}
-use Rattle.events.proofs.Names.{now_of, slot_of, story_of, blocks_of_state, IsOfMap, Shows}
-use Rattle.events.proofs.Names.{IsWhole}
+use Rattle.events.proofs.Names.{now_of, slot_of, story_of, blocks_of_state, IsOfMap, Shows, IsWhole}
 use Rattle.std.proofs.lemmas.Nat.{mod_below}
 use Rattle.bits.proofs.StoredLemmas.{test_of_bit}
 use Rattle.bits.proofs.TileLemmas.{bit_at-row_word, tile_has-tile_of, tile_of-lt}

@@ -16,8 +16,7 @@ use Rattle.events.proofs.accounts.FreedLemmas.{scanned_choice}
 use Rattle.events.proofs.invariants.TidyLog.{IsTidy-legal}
 use Rattle.events.proofs.accounts.SpareLemmas.{slot-within}
 use Rattle.events.proofs.logs.LogLemmas.{newest-beginning, beginning_itself, places-legal}
-use Rattle.events.proofs.shared_words.PlaceLemmas.{pin-now, map-pin, tile-pin, pin-pin}
-use Rattle.events.proofs.shared_words.PlaceLemmas.{pin-within}
+use Rattle.events.proofs.shared_words.PlaceLemmas.{pin-now, map-pin, tile-pin, pin-pin, pin-within}
 
 -- what follows of what an option has holds of it
 IfSome-each : {A : Type 0} (o : Option A) (P Q : A → Type 0) → ((x : A) → P x → Q x) → IfSome o P

@@ -9,8 +9,7 @@ use Rattle.events.proofs.Names.{length-map-range_with_len, get_or-map-range_with
 use Rattle.events.proofs.Names.{row_word, IsBitmap-cells_where, Command, drawn, touched, Story}
 use Rattle.events.proofs.Names.{tile_differs, newest, bitmap_of, IsKept, trues, either, new_ones}
 use Rattle.events.proofs.Names.{inuse, needed, after_draw, Blocks, directory_of, Base, own_list}
-use Rattle.events.proofs.Names.{own_after, drawn_blocks, given_back, tiles, times, IsOfMap}
-use Rattle.events.proofs.Names.{IsTidy}
+use Rattle.events.proofs.Names.{own_after, drawn_blocks, given_back, tiles, times, IsOfMap, IsTidy}
 use Rattle.events.specs.Legal.{refused_draw}
 use Rattle.events.proofs.accounts.CameLemmas.{came-same_changes}
 use Rattle.events.proofs.accounts.RetiredLemmas.{All-each}

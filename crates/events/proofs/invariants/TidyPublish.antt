@@ -1,13 +1,12 @@
 -- After one more publish each part of what holds after a legal log holds again.
-use Rattle.events.proofs.Names.{rules, ◌≡◌, ℕ, suc, ◌+◌, ◌<◌, ◌≤◌, ◌⊎◌, Bool, true, false, List}
-use Rattle.events.proofs.Names.{[], ◌∷◌, ◌++◌, length, map, replicate, get_or, refl, ap, subst}
-use Rattle.events.proofs.Names.{sym, ◌∙◌, arith, Option, None, is_some, AllByRecursion, cases_lt}
+use Rattle.events.proofs.Names.{rules, ◌≡◌, ℕ, suc, ◌+◌, ◌<◌, ◌≤◌, ◌⊎◌, Bool, true, false, List, []}
+use Rattle.events.proofs.Names.{◌∷◌, ◌++◌, length, map, replicate, get_or, refl, ap, subst, sym}
+use Rattle.events.proofs.Names.{◌∙◌, arith, Option, None, is_some, AllByRecursion, cases_lt}
 use Rattle.events.proofs.Names.{length-append, length-set, inl, inr, get_or_append_left, Story}
 use Rattle.events.proofs.Names.{get_or_push, get_or-set_same, first_free, with_version, newest}
 use Rattle.events.proofs.Names.{bitmap_of, kept, IsKept, came, RetiredBlock, Blocks, directory_of}
-use Rattle.events.proofs.Names.{own_list, mapped, Base, replaced, blocks_of, is_used, tiles}
-use Rattle.events.proofs.Names.{times, IsRetired, IsAmongRetired, HasNewest, AreSlots, IsShaped}
-use Rattle.events.proofs.Names.{IsTidy}
+use Rattle.events.proofs.Names.{own_list, mapped, Base, replaced, blocks_of, is_used, tiles, times}
+use Rattle.events.proofs.Names.{IsRetired, IsAmongRetired, HasNewest, AreSlots, IsShaped, IsTidy}
 use Rattle.std.proofs.lemmas.Grind.{common_steps}
 use Rattle.events.proofs.accounts.CameLemmas.{came-push, came-le, came-same, changed_before-push}
 use Rattle.events.proofs.accounts.CameLemmas.{changed_before_new}

@@ -8,8 +8,7 @@ ghost use Rattle.events.specs.Words.{tiles};
 ghost use Rattle.words.specs.Numbers.{numbers};
 ghost use Rattle.words.specs.Words.{words_left};
 ghost use Rattle.streams.specs.Refusals.{HasWordsAlone};
-ghost use Rattle.steps.specs.Opening.{base_opened, is_map_side, judged, opening_told};
-ghost use Rattle.steps.specs.Opening.{setting_of};
+ghost use Rattle.steps.specs.Opening.{base_opened, is_map_side, judged, opening_told, setting_of};
 
 use bits::Bitmap;
 use lines::Text;

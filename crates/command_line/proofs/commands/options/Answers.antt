@@ -6,9 +6,8 @@ use Rattle.std.proofs.lemmas.Result.{err_from_is_err_and}
 use Rattle.clap.specs.Words.{takes, found_of, rows_of}
 use Rattle.command_line.specs.CommandLine.{program_app}
 use Rattle.command_line.proofs.CommandLines.{takes_dist, takes_steps, named_dist, named_steps}
-use Rattle.command_line.proofs.CommandLines.{one_name}
-use Rattle.command_line.proofs.CommandLines.{dist_defaults, default_options-read, defaults_are_known}
-use Rattle.command_line.proofs.CommandLines.{flags_are_known, command_is_named}
+use Rattle.command_line.proofs.CommandLines.{one_name, dist_defaults, default_options-read}
+use Rattle.command_line.proofs.CommandLines.{defaults_are_known, flags_are_known, command_is_named}
 use Rattle.command_line.proofs.commands.options.Goals as goal
 
 pub returns-in_err-matches-clause-taken : goal.returns-in_err-matches-clause-taken

@@ -1,7 +1,6 @@
 -- A line in which a point is missing has no count, and it has fewer points than bytes, so the count
 -- can be raised. The point that was read joins those that are kept.
-use Rattle.std.proofs.Common.{◌+◌, ◌++◌, take, length, ap, ◌∙◌, sym, rules}
-use Rattle.std.proofs.Common.{arith}
+use Rattle.std.proofs.Common.{◌+◌, ◌++◌, take, length, ap, ◌∙◌, sym, rules, arith}
 use Rattle.std.specs.Prelude.{option_map}
 use Rattle.words.specs.Numbers.{points}
 use Rattle.words.specs.Words.{words_left}

@@ -1,9 +1,9 @@
 -- `cut` lets a block go, as a tile. Assumes `Logic`.
 use Rattle.std.proofs.Common.{◌≡◌, ℕ, ◌^◌, ◌+◌, ◌*◌, ◌<◌, List, [], ◌∷◌, ◌++◌, refl, ap, ◌∙◌}
 use Rattle.std.proofs.Common.{length, get_or, set, length-set, arith}
-use Rattle.arena.specs.Blocks.{out, held}
-use mir.Syntax.{Fn}
-use mir.Val.{Val}
+use Rattle.arena.specs.Blocks.{out, held, Home}
+use mir.Syntax.{Fn, w32}
+use mir.Val.{Val, vint}
 use base.Fraction.{full_share}
 use base.Logic.{SProp, emp}
 use prog.Wp.{Env, WpFn}
@@ -24,12 +24,9 @@ use denote.Triple.Entry.{alive}
 use denote.Triple.Walked.{Stays, stay_dropped, walk_of, Goes-dropped}
 use Rattle.core.proofs.alloc.Calls.{Goes-blank}
 use Rattle.std.proofs.raw_atomic.Walks.{proved_at, leaves}
-use Rattle.arena.specs.Blocks.{Home}
 use Rattle.arena.specs.Ownership.{block_row, blocks_from}
 use Rattle.arena.proofs.Values.{region_val, region_own, region_told, region_made, tile_val}
 use Rattle.arena.proofs.Values.{tile_own, tile_made}
-use mir.Syntax.{w32}
-use mir.Val.{vint}
 use Rattle.arena.proofs.Parts.{block_out, some_inside}
 use Rattle.arena.proofs.Walks.{slot_at}
 use Rattle.arena.specs.contracts.region.Region as region

@@ -1,9 +1,9 @@
 -- `fill` writes a block. Assumes `Logic`.
 use Rattle.std.proofs.Common.{◌≡◌, ◌^◌, ◌+◌, ◌*◌, ◌<◌, List, [], ◌∷◌, ◌++◌, refl, ap, ◌∙◌, length}
 use Rattle.std.proofs.Common.{get_or, set, length-set, arith}
-use Rattle.arena.specs.Blocks.{out, bare, held}
-use mir.Syntax.{Fn}
-use mir.Val.{Val}
+use Rattle.arena.specs.Blocks.{out, bare, held, Home}
+use mir.Syntax.{Fn, w64, w32}
+use mir.Val.{Val, vint}
 use base.Fraction.{full_share}
 use base.Logic.{SProp, emp}
 use prog.Wp.{Env, WpFn}
@@ -24,7 +24,6 @@ use denote.Triple.Entry.{alive}
 use denote.Triple.Walked.{Stays, stay_dropped, walk_of, Goes-dropped}
 use Rattle.core.proofs.alloc.Calls.{Goes-blank}
 use Rattle.std.proofs.raw_atomic.Walks.{proved_at, leaves}
-use Rattle.arena.specs.Blocks.{Home}
 use Rattle.arena.specs.Ownership.{block_ty, block_row, blocks_from}
 use base.Fml.{froom}
 use Rattle.core.proofs.cell.Inside.{one}
@@ -32,10 +31,7 @@ use denote.Array.{Array-Lawful}
 use borrow.Table.OneValue.{part_in}
 use denote.Plain.{uint_Lawful}
 use Rattle.std.specs.Borrow.{u64}
-use mir.Syntax.{w64}
 use Rattle.arena.proofs.Values.{region_val, region_own, region_told, region_made}
-use mir.Syntax.{w32}
-use mir.Val.{vint}
 use Rattle.arena.proofs.Parts.{besides, bare_out, filled, bare_inside}
 use Rattle.arena.proofs.Walks.{slot_at}
 use Rattle.arena.specs.contracts.region.Region as region

@@ -1,10 +1,10 @@
 -- `free` gives the allocator its memory and its token. Assumes `Logic`.
 use Rattle.std.proofs.Common.{◌≡◌, ℕ, ◌*◌, List, [], ◌∷◌, ◌++◌, refl, ap, ◌∙◌, arith, lit<}
-use mir.Syntax.{Ty, Fn, Args, a_type, dcons, dnil, place}
-use mir.Val.{Val, vptr, vunit}
+use mir.Syntax.{Ty, Fn, Args, a_type, dcons, dnil, place, w32, ty_array}
+use mir.Val.{Val, vptr, vunit, vint}
 use mir.MapTy.{inst_fn}
 use base.Logic.{SProp, id⊢}
-use base.Fml.{Lft, Share, ftrue, flft}
+use base.Fml.{Lft, Share, ftrue, flft, froom}
 use prog.Capped.{capped_is}
 use prog.Wp.{Env, WpFn}
 use contract.BorrowLft.{◌⊑◌, ⊑_trans}
@@ -15,7 +15,7 @@ use types.Kit.{use1, use3, split, split3, join, learn, rewrite, regoal, fsplit, 
 use types.Kit.{feq_i, await}
 use types.Part.{whole, sub}
 use types.Run.{stop, fld, lit, unit_lit, of_opd, no_more, and_then, first, blocks, exec, returns}
-use types.Run.{enter}
+use types.Run.{enter, un, bin}
 use types.ByLocal.{alloc_all, pass_all, free_all, look_at, get, get_in, sets, lands_last, env}
 use denote.RattleType.{RattleType, owns}
 use denote.RawPtr.{Ptr, block_ptr}
@@ -34,12 +34,8 @@ use Rattle.arena.proofs.Values.{region_val, region_told, lease_val, lease_told}
 use Rattle.arena.specs.Blocks.{Home, IsHeld}
 use Rattle.arena.specs.Ownership.{block_ty, region_ty}
 use Rattle.arena.proofs.Parts.{all_room}
-use base.Fml.{froom}
-use mir.Syntax.{w32, ty_array}
-use mir.Val.{vint}
 use Rattle.std.specs.List.{All}
 use Rattle.std.proofs.Common.{◌^◌, ◌<◌, length, sym}
-use types.Run.{un, bin}
 use Rattle.arena.specs.contracts.region.Region.free.{ended, clauses}
 use Rattle.arena.specs.contracts.region.Region.free.Key.{name as #self}
 use Rattle.arena.proofs.region.Region.free.Statement.{statement}

@@ -1,7 +1,7 @@
 -- `join` takes a block back. Assumes `Logic`.
 use Rattle.std.proofs.Common.{◌≡◌, ◌+◌, ◌*◌, ◌<◌, List, [], ◌∷◌, ◌++◌, refl, ap, ◌∙◌, length}
 use Rattle.std.proofs.Common.{get_or, set, length-set, subst, arith}
-use Rattle.arena.specs.Blocks.{out, held}
+use Rattle.arena.specs.Blocks.{out, held, Home}
 use mir.Syntax.{Fn}
 use mir.Val.{Val}
 use base.Fraction.{full_share}
@@ -22,7 +22,6 @@ use denote.Triple.Entry.{alive}
 use denote.Triple.Walked.{Stays, stay_dropped, walk_of}
 use Rattle.core.proofs.alloc.Calls.{Goes-blank}
 use Rattle.std.proofs.raw_atomic.Walks.{proved_at, leaves}
-use Rattle.arena.specs.Blocks.{Home}
 use Rattle.std.specs.Ptr.{lies_at}
 use Rattle.arena.specs.Ownership.{block_row, blocks_from}
 use Rattle.arena.proofs.Values.{region_val, region_own, region_told, region_made, tile_val}

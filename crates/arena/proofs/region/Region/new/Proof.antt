@@ -1,7 +1,7 @@
 -- `new` asks its allocator for room for all blocks, and answers a region of it with its lease.
 -- Assumes `Logic`.
 use Rattle.std.proofs.Common.{◌≡◌, ◌*◌, List, [], ◌∷◌, ◌++◌, refl, arith, lit<, Some, None}
-use mir.Syntax.{Ty, Fn, Args, a_type, dcons, dnil}
+use mir.Syntax.{Ty, Fn, Args, a_type, dcons, dnil, w32, ty_array}
 use mir.Val.{Val, vint, vptr, vcons, vnil}
 use mir.MapTy.{inst_fn}
 use base.Logic.{SProp, emp, id⊢}
@@ -40,7 +40,6 @@ use Rattle.arena.proofs.Values.{lease_made}
 use Rattle.arena.specs.Blocks.{Home, bare}
 use Rattle.arena.specs.Ownership.{block_ty, blocks_from}
 use Rattle.arena.proofs.Parts.{all_bare}
-use mir.Syntax.{w32, ty_array}
 use Rattle.std.proofs.Common.{ℕ, ◌^◌, ◌<◌, ◌≤◌, replicate}
 use Rattle.std.proofs.lemmas.List.{length-replicate}
 use types.Run.{un, bin}

@@ -1,8 +1,7 @@
 -- `number` reads the field of the tile that a `&` refers to. Assumes `Logic`.
 use Rattle.std.proofs.Common.{◌≡◌, ◌+◌, ◌*◌, ◌^◌, List, [], ◌∷◌, refl}
-use mir.Syntax.{Fn, named}
+use mir.Syntax.{Fn, named, w32}
 use mir.Val.{Val, vptr, vint}
-use mir.Syntax.{w32}
 use denote.Builtin.{u32}
 use base.Logic.{SProp}
 use base.Fml.{ftrue, flft}

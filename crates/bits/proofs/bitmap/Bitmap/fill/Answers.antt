@@ -1,8 +1,7 @@
 -- Each step of the filling, by the lemma of that step.
 use Rattle.std.proofs.Common.{◌∙◌, refl, sym, arith}
-use Rattle.bits.proofs.FillLemmas.{filling_none, filling_kept, filling_set}
-use Rattle.bits.proofs.FillLemmas.{filling_all, other_value}
-use Rattle.bits.proofs.FillLemmas.{same_value}
+use Rattle.bits.proofs.FillLemmas.{filling_none, filling_kept, filling_set, filling_all}
+use Rattle.bits.proofs.FillLemmas.{other_value, same_value}
 use Rattle.bits.proofs.bitmap.Bitmap.fill.Goals as goal
 use Rattle.bits.proofs.bitmap.Bitmap.fill.Goals.{then-get-black, else-get-black}
 

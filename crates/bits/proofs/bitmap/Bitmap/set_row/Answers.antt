@@ -4,7 +4,6 @@ use Rattle.std.proofs.Common.{◌/◌, ◌%◌, arith, rules}
 use Rattle.std.proofs.lemmas.Bool.{eqb-true}
 use Rattle.std.proofs.lemmas.List.{with_items_is}
 use Rattle.bits.proofs.BandLemmas.{kept_written}
-use Rattle.std.proofs.lemmas.Grind.{common_steps}
 use Rattle.bits.proofs.bitmap.Bitmap.set_row.Goals as goal
 
 pub invariant_of-self : goal.invariant_of-self
@@ -20,6 +19,3 @@ invariant_of-self c =
       c.marked_by-self-inside.ensures.kept (b / 64) (omega arith) seen.0,
       c.mark_row.ensures.kept (b / 64) (a / 64) (omega arith) seen.1,
     )))
-
-pub returns-clause-written : goal.returns-clause-written
-returns-clause-written c = grind (arith, common_steps)

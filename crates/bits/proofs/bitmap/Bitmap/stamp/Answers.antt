@@ -1,7 +1,6 @@
 -- Each step of the stamping, by the lemma of that step.
 use Rattle.std.proofs.Common.{◌∙◌, sym, arith}
-use Rattle.bits.proofs.FillLemmas.{filling_none, filling_kept, filling_set}
-use Rattle.bits.proofs.FillLemmas.{other_value, same_value}
+use Rattle.bits.proofs.FillLemmas.{filling_none, filling_kept, filling_set, other_value, same_value}
 use Rattle.bits.proofs.bitmap.Bitmap.stamp.Goals as goal
 use Rattle.bits.proofs.bitmap.Bitmap.stamp.Goals.{then-get-black, else-get-black}
 

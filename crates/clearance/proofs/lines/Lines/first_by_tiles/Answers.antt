@@ -1,8 +1,7 @@
 -- An obstacle that is found near is near to one of the lines that are left.
 use Rattle.metric.specs.declared.edge.Edge.TheVariants.{Open}
 use Rattle.bits.specs.Edges.{IsBlocked}
-use Rattle.clearance.proofs.LineTiles.{IsFirstBefore-longer, IsFirstBefore-tiles}
-use Rattle.clearance.proofs.LineTiles.{IsSomeNear-spot}
+use Rattle.clearance.proofs.LineTiles.{IsFirstBefore-longer, IsFirstBefore-tiles, IsSomeNear-spot}
 use Rattle.clearance.proofs.Searches.{obstacle_within}
 use Rattle.clearance.proofs.lines.Lines.first_by_tiles.Goals as goal
 
