@@ -6,7 +6,7 @@ use Rattle.desk.proofs.Names.{Reply, kept_after, Story, newest, takes_room, told
 use Rattle.desk.proofs.Names.{kept_told, Base, story, StoreEntry, StoreId, readers_of, entries-push}
 use Rattle.desk.proofs.Names.{length-entries, prefix-push, slots_apart, IsLegal, drop-append-le}
 use Rattle.desk.proofs.Names.{drop_all, length-append, KeeperView, ReaderView, entries, resting}
-use Rattle.desk.proofs.Names.{unmet_by, met, met_by, Holding, IsToldByLog, Refuses, CanCarry}
+use Rattle.desk.proofs.Names.{unmet_by, met, met_by, Holding, IsToldByLog, Refuses}
 use Rattle.desk.proofs.Names.{IsCarried, KeepsScanned, signed, DeskView, story_told, base_place}
 use Rattle.desk.proofs.Names.{kept_part, entries_kept_after, IsDesk, IsSteady, IsByScan, IsAccepted}
 use Rattle.desk.proofs.Names.{IsWhy, IsCommandRefused, IsApplied}
