@@ -1,4 +1,4 @@
--- Want of memory is the refusal of a command that nothing else refuses.
+-- Out of memory is the refusal of a command that nothing else refuses.
 use Rattle.std.proofs.Common.{rules}
 use Rattle.desk.proofs.HoldDraw.{judged_none}
 use Rattle.desk.proofs.desk.commands.admit.Goals as goal
