@@ -116,12 +116,13 @@ class Below(unittest.TestCase):
         (self.top / "crates.txt").write_text(uses)
         for name in ("low", "short", "next", "last", "top"):
             self.make(name, 1, seconds=0)
-        for count, second in ((15, "short"), (16, "long")):
+        for count, next_two in ((15, ["short", "long"]), (16, ["long", "short"])):
             with self.subTest(count):
                 self.make("long", count, proofs=5000, seconds=0)
                 self.notes.write_text("")
                 self.assertEqual(self.prove("--at-once", "1")[0], 0)
-                self.assertEqual([line.split()[0] for line in self.noted()][:2], ["low", second])
+                order = [line.split()[0] for line in self.noted()]
+                self.assertEqual(order, ["low", *next_two, "next", "last"])
 
     def test_none_waits_for_a_shorter_way(self):
         """More than processors are at work then, but no more with as much above them."""
