@@ -64,17 +64,17 @@ next_slot_is z k h slot told is = rw told.holds.summary.ledger_is.kept_is at is
 
 -- a publish that has stored the rows of its own tiles, and then the directory, is worked once what
 -- it does is done
-pub publish_worked : (z : StoreId) (k a u : KeeperView) (h new : Holding) (by stored : ℕ)
-    (reply : Reply) → IsInHand z k h by Publish → a ≡ writing k by (64 * stored)
-    → stored ≡ length (own_list (blocks z.base (entries k.log)).own)
-    → u ≡ writing a by (64 * stored + tiles z.base) → Does h Publish reply new
+pub publish_worked : (z : StoreId) (k u : KeeperView) (h new : Holding) (by stored p : ℕ)
+    (reply : Reply) → IsInHand z k h by Publish
+    → stored ≡ length (own_list (blocks z.base (entries k.log)).own) → p ≡ tiles z.base
+    → u ≡ writing k by (64 * stored + p) → Does h Publish reply new
     → IsWorked z k h by Publish reply u new
 unfolding steps_before
-publish_worked z k a u h new by stored reply hand rows count directory does = record {
-  done = 64 * stored + tiles z.base;
+publish_worked z k u h new by stored p reply hand count every stores does = record {
+  done = 64 * stored + p;
   words = [];
-  keeper_is = rw rows at directory;
-  all_done = rw (← count) refl;
+  keeper_is = stores;
+  all_done = rw (← count, ← every) refl;
   reply_is = the_reply (story z.base (entries k.log)) Publish reply []
       (does z.base (entries k.log) hand.told).0.reply_is tt;
   does = does;

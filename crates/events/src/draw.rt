@@ -1,8 +1,7 @@
 //! The effect of a command on a bitmap.
 
-ghost use Rattle.std.specs.Prelude.{◌≡◌, IfOk, IfErr, IsTrue, true};
+ghost use Rattle.std.specs.Prelude.{◌≡◌, IfOk, IfErr, true};
 ghost use Rattle.bits.specs.Cells.{IsBitmap};
-ghost use Rattle.bits.specs.Changes.{changes};
 ghost use Rattle.metric.specs.declared.refusal.Refusal.TheVariants.{Memory};
 ghost use Rattle.events.specs.Drawing.{drawn, draws, is_inside, lies_within, cells_changed};
 ghost use Rattle.events.specs.Ledger.{takes_room};

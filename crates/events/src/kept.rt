@@ -117,18 +117,6 @@ fn slot_after(newest: u32, seen: &[Option<Seen>], slot: u32) -> u32
     }
 }
 
-/// The least free slot; the number of slots if none is free.
-fn first_free(slots: &[u32]) -> usize
-    ensures { result ≡ first_free slots.now }
-{
-    for (slot, kept) in slots.iter().enumerate() {
-        if *kept == 0 {
-            return slot;
-        }
-    }
-    slots.len()
-}
-
 impl Kept {
     /// Only version 0, in slot 0.
     pub fn first() -> Kept
@@ -170,7 +158,12 @@ impl Kept {
         requires { length (members self.now.slots) < 64 }
         ensures { result ≡ first_free self.now.slots }
     {
-        first_free(&self.slots) as u32
+        for (slot, kept) in self.slots.iter().enumerate() {
+            if *kept == 0 {
+                return slot as u32;
+            }
+        }
+        unreachable!()
     }
 
     /// The slot of a version. Requires that the version is kept.

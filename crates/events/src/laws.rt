@@ -1,7 +1,7 @@
 //! Laws of the core: of blocks and kept versions after any legal log, and of a world after each
 //! event.
 
-ghost use Rattle.std.specs.Prelude.{◌≡◌, ◌+◌, ◌≤◌, ℕ, List, length, Option, Some};
+ghost use Rattle.std.specs.Prelude.{◌≡◌, ◌+◌, ◌≤◌, List, length, Option, Some};
 ghost use Rattle.events.specs.declared.command.Entry.{Entry};
 ghost use Rattle.events.specs.declared.event.Event.{Event};
 ghost use Rattle.events.specs.declared.kept.Seen.{Seen};

@@ -25,17 +25,6 @@ pub struct Setting {
     pub edge: Edge,
 }
 
-/// The number of tiles of a map of this size.
-fn tiles_of(width: u16, height: u16) -> u16
-    requires width { IsSide width }
-    requires height { IsSide height }
-    ensures { result ≡ words_across width * tiles_down height }
-{
-    let across = width.div_ceil(64);
-    let down = height.div_ceil(64);
-    across * down
-}
-
 impl Setting {
     /// Checks that each field is within its limits for a map of this many tiles.
     #[tactic(auto, unfolding(crate::specs::Setting::bad_field))]
@@ -73,6 +62,8 @@ impl Setting {
             (IsOk result)
             (λ field. result ≡ Err (BadSetting field)) }
     {
-        self.fits_tiles(tiles_of(width, height))
+        let across = width.div_ceil(64);
+        let down = height.div_ceil(64);
+        self.fits_tiles(across * down)
     }
 }

@@ -2,7 +2,6 @@
 
 ghost use Rattle.std.specs.Prelude.{◌≡◌, ◌<◌, ◌&&◌, not, map, length, is_some, IsSome, IfSome};
 ghost use Rattle.std.specs.Prelude.{slice_index};
-ghost use Rattle.bits.specs.Cells.{IsBitmap};
 ghost use Rattle.bits.specs.Tiles.{tile_count};
 ghost use Rattle.events.specs.Drawing.{tile_differs, differing};
 ghost use Rattle.events.specs.Story.{trues, new_ones};

@@ -1,14 +1,14 @@
 //! Opens a store: its table, the keeper's seat and the readers' seats, before the store has a name.
 
-ghost use Rattle.std.specs.Prelude.{◌≡◌, ◌+◌, ◌<◌, [], None, OnOk, IfOk, IfErr};
+ghost use Rattle.std.specs.Prelude.{◌≡◌, [], None, OnOk, IfOk, IfErr};
 ghost use Rattle.std.specs.Arc.{arc_value};
 ghost use Rattle.bits.specs.Tiles.{tile_count};
 ghost use Rattle.metric.specs.declared.refusal.Refusal.TheVariants.{Memory};
 ghost use Rattle.events.specs.Setting.{bad_field};
 ghost use Rattle.shelf.specs.Roles.{keeping, resting};
-ghost use Rattle.shelf.specs.Seats.{store_at, base_of, IsOf};
+ghost use Rattle.shelf.specs.Seats.{store_at, IsOf};
 ghost use Rattle.shelf.specs.Store.{readers_of};
-ghost use Rattle.shelf.specs.Open.{newcomer, newcomers};
+ghost use Rattle.shelf.specs.Open.{newcomers};
 
 use crate::fresh::{FreshKeeper, FreshReader};
 use crate::opened::Opening;
@@ -21,36 +21,7 @@ use std::alloc::Global;
 use std::snapshot::Snapshot;
 use std::sync::Arc;
 
-/// Deals the next reader.
-fn deal(
-    words: &Arc<Words, Global>,
-    keeper: &mut TableSeat,
-    plan: Plan,
-    number: u32,
-) -> Result<FreshReader, Refusal>
-    requires of { IsOf (store_at keeper.old.table_id (arc_value words.now).shared.key)
-        (arc_value words.now).shared.table_id (arc_value words.now).shared.key keeper.old.table_id
-        plan }
-    requires keeper { keeper.old.me ≡ (keeping (resting number []), []) }
-    requires below { number < readers_of
-        (store_at keeper.old.table_id (arc_value words.now).shared.key) }
-    ensures table { keeper.new.table_id ≡ keeper.old.table_id }
-    ensures keeper { OnOk result (keeper.new.me ≡ (keeping (resting (number + 1) []), [])) }
-    ensures reader { IfOk result (λ reader. reader
-        ≡ newcomer number (store_at keeper.old.table_id (arc_value words.now).shared.key)) }
-    ensures memory { IfErr result (λ refusal. refusal ≡ Memory) }
-{
-    let own = Arc::try_clone(words)?;
-    let seat = words.shared.split_seat::<Deal>(keeper).into_badge();
-    Ok(FreshReader {
-        seat,
-        words: own,
-        plan,
-        number,
-    })
-}
-
-/// Deals all readers.
+/// Deals all readers, by number.
 fn deal_all(
     alloc: Global,
     words: &Arc<Words, Global>,
@@ -78,8 +49,14 @@ fn deal_all(
     let readers = plan.setting.sessions;
     let mut dealt = Vec::with_capacity(alloc, readers as usize)?;
     for number in 0..readers {
-        let reader = deal(words, keeper, plan, number)?;
-        dealt.push_reserved(reader);
+        let own = Arc::try_clone(words)?;
+        let seat = words.shared.split_seat::<Deal>(keeper).into_badge();
+        dealt.push_reserved(FreshReader {
+            seat,
+            words: own,
+            plan,
+            number,
+        });
     }
     Ok(dealt)
 }

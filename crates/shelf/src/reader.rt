@@ -1,7 +1,6 @@
 //! A reader's seat, and its steps.
 
-ghost use Rattle.std.specs.Prelude.{◌≡◌, ◌<◌, ◌≤◌, ℕ, length, slice_index, true, None, Some};
-ghost use Rattle.std.specs.Prelude.{is_some};
+ghost use Rattle.std.specs.Prelude.{◌≡◌, ◌<◌, ℕ, length, slice_index, true, None, Some, is_some};
 ghost use mathlib.Core.List.{IsPrefix};
 ghost use Rattle.bits.specs.Tiles.{row_word};
 ghost use Rattle.events.specs.Story.{newest, bitmap_of};

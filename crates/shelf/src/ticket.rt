@@ -1,11 +1,8 @@
 //! Tickets: what the keeper knew, passed from one reader to another.
 
-ghost use Rattle.std.specs.Prelude.{◌≡◌, ◌<◌, [], ◌∷◌, length};
+ghost use Rattle.std.specs.Prelude.{◌≡◌, ◌<◌, [], ◌∷◌};
 ghost use mathlib.Core.List.{IsPrefix};
-ghost use Rattle.events.specs.Story.{newest};
-ghost use Rattle.events.specs.Words.{word_count, place_told, version_told};
 ghost use Rattle.events.specs.Legal.{IsLegal};
-ghost use Rattle.events.specs.Views.{story};
 ghost use Rattle.shelf.specs.Roles.{reading, entries, ticket};
 ghost use Rattle.shelf.specs.Seats.{base_of, reader_on, ticket_on};
 ghost use Rattle.shelf.specs.Steps.{loaded, LearnsIt};

@@ -95,28 +95,6 @@ fn load_some<Id: StoreName>(
     }
 }
 
-/// Loads all rows of a block.
-#[inline(always)]
-fn load_rows<Id: StoreName>(
-    words: &Words,
-    seat: &mut TableSeat,
-    plan: Plan,
-    block: u32,
-    rows: &mut [u64; 64],
-)
-    requires of { IsOf Id.store words.now.shared.table_id words.now.shared.key
-        seat.old.table_id plan }
-    requires reader { seat.old.me.0 ≡ reading (reader_in seat.old.me.0) }
-    requires block { block < Id.store.base.setting.blocks }
-    ensures seat { (seat.new.table_id ≡ seat.old.table_id) × (seat.new.me ≡ seat.old.me) }
-    ensures rows { ShowRows Id.store.base (reader_in seat.old.me.0) block 64 rows.new }
-{
-    load_some::<Id>(words, seat, plan, block, 0, rows);
-    load_some::<Id>(words, seat, plan, block, 16, rows);
-    load_some::<Id>(words, seat, plan, block, 32, rows);
-    load_some::<Id>(words, seat, plan, block, 48, rows);
-}
-
 impl<Id: StoreName> ReaderSeat<Id> {
     /// Loads a row of the tile at a position of the version that it holds: bit j is column j. Does
     /// what `look_map` and `look_tile` do one after the other.
@@ -155,7 +133,10 @@ impl<Id: StoreName> ReaderSeat<Id> {
         let mut seat = replace(&mut self.seat, Badge::blank()).into_seat::<Request>();
         let (words, plan): (&Words, Plan) = (&self.words, self.plan);
         let block = load_block::<Id>(words, &mut seat, plan, version, slot, u32::from(position));
-        load_rows::<Id>(words, &mut seat, plan, block, rows);
+        load_some::<Id>(words, &mut seat, plan, block, 0, rows);
+        load_some::<Id>(words, &mut seat, plan, block, 16, rows);
+        load_some::<Id>(words, &mut seat, plan, block, 32, rows);
+        load_some::<Id>(words, &mut seat, plan, block, 48, rows);
         self.seat = seat.into_badge();
     }
 }

@@ -1,9 +1,15 @@
--- Each round deals the next reader, for which there is room.
-use Rattle.shelf.proofs.Names.{◌++◌, ◌∷◌, [], ap, ◌∙◌, arith, length, arc_value, TableId, newcomer}
-use Rattle.shelf.proofs.Names.{store_at}
+-- Each round deals the next reader, for which there is room, and keeps the rule.
+use Rattle.shelf.proofs.Names.{◌++◌, ◌∷◌, [], ap, ◌∙◌, arith, length, arc_value, newcomer, ◌≡◌}
+use Rattle.shelf.proofs.Names.{store_at, rules, now-within}
 use Rattle.std.proofs.lemmas.List.FromFn.{length-map-range_with_len}
 use Rattle.shelf.proofs.seats.Newcomers.{newcomers-push}
+use Rattle.shelf.proofs.steps.OpeningSteps.{deals}
 use Rattle.shelf.proofs.opening.deal_all.Goals as goal
+
+pub split_seat-requires : goal.split_seat-requires
+split_seat-requires c =
+    let role = ap (λ m. m.0) c.loop-number.invariant.role in
+    rw (c.deref.ensures, role) (search (rules, now-within, deals))
 
 pub push_reserved-requires : goal.push_reserved-requires
 push_reserved-requires c =
@@ -14,15 +20,13 @@ push_reserved-requires c =
 pub loop-number-preserved : goal.loop-number-preserved
 loop-number-preserved c =
     let n = c.loop-number.number in
-    let of = λ (t : TableId). newcomer n (store_at t (arc_value c.args.words.now).shared.key) in
-    let reader_is = (c.in_ok-reader.ensures {u = tt}).reader
-    ∙ ap of c.loop-number.invariant.table in
+    let store = store_at c.args.keeper.now.table_id (arc_value c.args.words.now).shared.key in
+    let reader_is : newcomer n (store_at c.into_badge-seat.result.table_id
+    (arc_value c.in_ok-own.own).shared.key) ≡ newcomer n store = search rules in
     record {
-      table = c.deal.ensures.table ∙ c.loop-number.invariant.table;
-      role = (c.in_ok-reader.ensures {u = tt}).keeper;
+      table = c.split_seat.ensures.0 ∙ c.loop-number.invariant.table;
+      role = search rules;
       dealt = c.push_reserved.ensures.items
-          ∙ ((λ i. c.loop-number.invariant.dealt i ++ reader_is i ∷ [])
-          ∙ newcomers-push (store_at c.args.keeper.now.table_id
-          (arc_value c.args.words.now).shared.key) n);
+          ∙ ((λ i. c.loop-number.invariant.dealt i ++ reader_is i ∷ []) ∙ newcomers-push store n);
       room = rw c.push_reserved.ensures.capacity c.loop-number.invariant.room;
     }

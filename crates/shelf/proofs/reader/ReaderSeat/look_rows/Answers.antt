@@ -1,5 +1,5 @@
 -- The rows that are loaded are the tile's.
-use Rattle.shelf.proofs.Names.{ap, ◌∙◌, bitmap_of, story, Me, Request, Role, entries, reader_in}
+use Rattle.shelf.proofs.Names.{ap, ◌∙◌, bitmap_of, story, entries, reader_in}
 use Rattle.shelf.proofs.Names.{ShowRows}
 use Rattle.bits.proofs.TileDrawLemmas.{tile_words_is}
 use Rattle.shelf.proofs.seats.OwnTable.{its_role}
@@ -12,10 +12,14 @@ returns-clause-rows g c =
     (ap (λ b. b.views) c.replace.ensures.value ∙ c.self.invariant.1) in
     let first = ap reader_in role ∙ c.self.view_is in
     let block = rw (c.from.ensures, first) at c.load_block-block.ensures.block in
-    let then = ap (λ (m : Me Request Role). reader_in m.0) c.load_block-block.ensures.seat.1
-    ∙ first in
-    let shown : ShowRows z c.args.self.now c.load_block-block.result 64 c.load_rows.new.rows =
-    rw then at c.load_rows.ensures.rows in
+    let shown : ShowRows z c.args.self.now c.load_block-block.result 64 c.load_some-4.new.rows =
+    rw (
+      c.load_some-3.ensures.seat.1,
+      c.load_some-2.ensures.seat.1,
+      c.load_some.ensures.seat.1,
+      c.load_block-block.ensures.seat.1,
+      first,
+    ) at c.load_some-4.ensures.rows in
     tile_words_is (bitmap_of (story z (entries c.args.self.now.seen)) c.args.version)
-    c.args.position c.load_rows.new.rows c.load_rows.array_long
+    c.args.position c.load_some-4.new.rows c.load_some-4.array_long
     (λ i row. shown i row c.args.version c.args.position c.requires.held c.requires.inside block)
