@@ -21,17 +21,6 @@ fn digits_of(eight: u8) -> u8x8
     black.select(u8x8::splat(b'1'), u8x8::splat(b'0'))
 }
 
-/// Writes the digits of eight pixels from index `first` on.
-#[inline(always)]
-fn put_eight(eight: u8, first: usize, digits: &mut [u8])
-    requires { first + 8 ≤ length digits.old }
-    ensures len { length digits.new ≡ length digits.old }
-    ensures pixels { (i : ℕ) → i < 8 → slice_index digits.new (first + i) ≡ 48 + bit_at eight i }
-    ensures others { (x : ℕ) → x < first → slice_index digits.new x ≡ slice_index digits.old x }
-{
-    digits_of(eight).copy_to_slice(&mut digits[first..]);
-}
-
 /// Writes the digits of a word's pixels from index `first` on.
 #[inline(always)]
 fn put_word(word: u64, first: usize, digits: &mut [u8])
@@ -42,7 +31,8 @@ fn put_word(word: u64, first: usize, digits: &mut [u8])
 {
     'parts: for part in 0..8 {
         let eight = ((word >> (8 * part)) & 0xff) as u8;
-        put_eight(eight, first + 8 * part, digits);
+        let start = first + 8 * part;
+        digits_of(eight).copy_to_slice(&mut digits[start..]);
     }
 }
 

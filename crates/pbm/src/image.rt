@@ -1,8 +1,8 @@
 //! Reading an image.
 
-ghost use Rattle.std.specs.Prelude.{◌≡◌, ◌≢◌, ℕ, false, Ok, Err, IfOk, IfErr, IsOk, MatchResult};
-ghost use Rattle.bits.specs.Cells.{Cells, cells_where};
-ghost use Rattle.pbm.specs.Faults.{header, image, raster};
+ghost use Rattle.std.specs.Prelude.{◌≡◌, ◌≢◌, ℕ, Ok, Err, IfOk, IfErr, IsOk, MatchResult};
+ghost use Rattle.bits.specs.Cells.{Cells};
+ghost use Rattle.pbm.specs.Faults.{header, image};
 ghost use Rattle.pbm.specs.Image.{Reads};
 
 use crate::header::{Form, read_header};
@@ -11,21 +11,6 @@ use crate::raw_raster::read_raw;
 use bits::Bitmap;
 use metric::PbmFault;
 use std::alloc::Global;
-
-/// Reads the raster of an image of this form into a blank bitmap, and returns the bytes after the
-/// image. On a fault, some pixels may have been read.
-fn read_raster<'a>(form: Form, bitmap: &mut Bitmap, bytes: &'a [u8]) -> Result<&'a [u8], PbmFault>
-    requires { bitmap.old ≡ cells_where bitmap.old.width bitmap.old.height (λ x y. false) }
-    ensures raster { IfOk result (λ rest. raster form bitmap.old.width bitmap.old.height bytes.now
-        ≡ Ok (bitmap.new, rest.now)) }
-    ensures fault { IfErr result (λ fault. raster form bitmap.old.width bitmap.old.height bytes.now
-        ≡ Err fault) }
-{
-    match form {
-        Form::Plain => read_plain(bitmap, bytes),
-        Form::Raw => read_raw(bitmap, bytes),
-    }
-}
 
 /// The image at the front, and the bytes after it.
 #[tactic(auto, unfolding(crate::specs::Faults::image))]
@@ -36,7 +21,10 @@ fn read_front(alloc: Global, bytes: &[u8]) -> Result<(Bitmap, &[u8]), PbmFault>
 {
     let (header, rest) = read_header(bytes)?;
     let mut bitmap = header.blank(alloc)?;
-    let rest = read_raster(header.form, &mut bitmap, rest)?;
+    let rest = match header.form {
+        Form::Plain => read_plain(&mut bitmap, rest)?,
+        Form::Raw => read_raw(&mut bitmap, rest)?,
+    };
     Ok((bitmap, rest))
 }
 

@@ -1,11 +1,11 @@
 //! A plain image in pieces, for a stream that takes one piece after another.
 
-ghost use Rattle.std.specs.Prelude.{◌≡◌, ◌+◌, ◌-◌, ◌*◌, ◌<◌, ◌≤◌, length, vec_len, vec_capacity};
-ghost use Rattle.std.specs.Prelude.{IfOk, IfErr};
+ghost use Rattle.std.specs.Prelude.{◌≡◌, ◌-◌, ◌*◌, ◌<◌, ◌≤◌, length, vec_len, vec_capacity, IfOk};
+ghost use Rattle.std.specs.Prelude.{IfErr};
 ghost use Rattle.std.specs.List.{range_with_len, flat_map};
 ghost use Rattle.metric.specs.declared.refusal.Refusal.TheVariants.{Memory};
 ghost use Rattle.pbm.specs.declared.header.Form.TheVariants.{Plain};
-ghost use Rattle.pbm.specs.Writing.{front_text, plain_digit, plain_text, row_length};
+ghost use Rattle.pbm.specs.Writing.{front_text, plain_digit, plain_text};
 
 use crate::front::push_front;
 use crate::header::Form;
@@ -38,17 +38,6 @@ pub fn plain_length(bitmap: &Bitmap, first: &[u8]) -> usize
     first.len() + usize::from(bitmap.height()) * row_length(bitmap.width())
 }
 
-/// The row after those that fit one piece from row `from` on, at most the height.
-fn end_of_piece(bitmap: &Bitmap, from: u16) -> u16
-    requires { from < bitmap.now.height }
-    ensures more { from < result }
-    ensures inside { result ≤ bitmap.now.height }
-    ensures few { (result - from) * row_length bitmap.now.width ≤ 65536 }
-{
-    let rows = PIECE / row_length(bitmap.width());
-    (usize::from(from) + rows).min(usize::from(bitmap.height())) as u16
-}
-
 /// Replaces a piece by the next: the lines of as many rows from `from` on as fit 64 KB. Returns the
 /// row after them.
 pub fn next_piece(bitmap: &Bitmap, from: u16, piece: &mut Vec<u8>) -> u16
@@ -61,7 +50,8 @@ pub fn next_piece(bitmap: &Bitmap, from: u16, piece: &mut Vec<u8>) -> u16
     ensures few { vec_len piece.new ≤ 65536 }
     ensures room { 65536 ≤ vec_capacity piece.new }
 {
-    let to = end_of_piece(bitmap, from);
+    let rows = PIECE / row_length(bitmap.width());
+    let to = (usize::from(from) + rows).min(usize::from(bitmap.height())) as u16;
     piece.clear();
     push_rows(piece, bitmap, from, to);
     to

@@ -1,7 +1,7 @@
 //! The pixels of a plain raster, up to 64 as a word.
 
-ghost use Rattle.std.specs.Prelude.{◌≡◌, ℕ, ◌+◌, ◌*◌, ◌^◌, ◌<◌, ◌≤◌, ◌==◌, cond, slice_index_or};
-ghost use Rattle.std.specs.Prelude.{Ok, Err, MatchResult};
+ghost use Rattle.std.specs.Prelude.{◌≡◌, ℕ, ◌<◌, ◌≤◌, ◌==◌, cond, slice_index_or, Ok, Err};
+ghost use Rattle.std.specs.Prelude.{MatchResult};
 ghost use Rattle.std.specs.Int.{bit_at};
 ghost use Rattle.pbm.specs.Faults.{next_pixel, pixel_at, pixels};
 ghost use Rattle.pbm.specs.Plain.{AreBitsRead, AreDigits, AreSomeRead, behind_space};
@@ -93,18 +93,6 @@ fn read_some(bytes: &[u8], most: u16) -> Result<(u16, u64, &[u8]), PbmFault>
     Ok((count, digits, &line[usize::from(count)..]))
 }
 
-/// Sets `count` more bits in a word from bit `place` on.
-fn with_bits(word: u64, place: u16, bits: u64, count: u16) -> u64
-    requires room { place + count ≤ 64 }
-    requires some { 0 < count }
-    requires word { word < 2 ^ place }
-    requires bits { bits < 2 ^ count }
-    ensures joined { result ≡ bits * 2 ^ place + word }
-    ensures below { result < 2 ^ (place + count) }
-{
-    word + (bits << place)
-}
-
 /// The next pixels, up to 64, as the bits of a word: the first is the lowest, and bits past the
 /// last are 0.
 pub fn read_word(bytes: &[u8], count: u16) -> Result<(u64, &[u8]), PbmFault>
@@ -115,7 +103,7 @@ pub fn read_word(bytes: &[u8], count: u16) -> Result<(u64, &[u8]), PbmFault>
     let (mut word, mut place, mut rest) = (0u64, 0u16, bytes);
     'turns: while place < count {
         let (more, digits, others) = read_some(rest, count - place)?;
-        word = with_bits(word, place, digits, more);
+        word += digits << place;
         place += more;
         rest = others;
     }

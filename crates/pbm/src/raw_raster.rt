@@ -4,7 +4,7 @@ ghost use Rattle.std.specs.Prelude.{◌≡◌, ℕ, ◌+◌, ◌*◌, ◌-◌, �
 ghost use Rattle.std.specs.Prelude.{slice_index, Ok, Err, IfOk, IfErr};
 ghost use Rattle.std.specs.Int.{bit_at, reverse_bits_onto};
 ghost use Rattle.bits.specs.Cells.{cells_where};
-ghost use Rattle.pbm.specs.Faults.{raw_cells, raw_raster};
+ghost use Rattle.pbm.specs.Faults.{raw_raster};
 ghost use Rattle.pbm.specs.Image.{bytes_across};
 
 use crate::raw_row::MOST_ACROSS;
@@ -81,24 +81,6 @@ pub fn read_row(
     }
 }
 
-/// Reads the bytes of a raster into a blank bitmap, row by row.
-fn read_words(bitmap: &mut Bitmap, raster: &[u8])
-    requires blank { bitmap.old ≡ cells_where bitmap.old.width bitmap.old.height (λ x y. false) }
-    requires all { length raster.now ≡ bitmap.old.height * bytes_across bitmap.old.width }
-    ensures { bitmap.new ≡ raw_cells bitmap.old.width bitmap.old.height raster.now }
-{
-    let width = bitmap.width();
-    let height = bitmap.height();
-    let across = usize::from(bytes_across(width));
-    let mut reversed = [0; MOST_ACROSS];
-    let mut words = [0; 64];
-    'rows: for y in 0..height {
-        let start = usize::from(y) * across;
-        read_row(raster, start, across, &mut reversed, &mut words);
-        bitmap.set_row(y, &words);
-    }
-}
-
 /// Reads a raw raster into a blank bitmap, and returns the bytes after it. On a fault, nothing has
 /// been read.
 #[tactic(auto, unfolding(crate::specs::Faults::raw_raster))]
@@ -110,11 +92,19 @@ pub fn read_raw<'a>(bitmap: &mut Bitmap, bytes: &'a [u8]) -> Result<&'a [u8], Pb
         ≡ Err fault) }
     ensures as_before { IfErr result (λ fault. bitmap.new ≡ bitmap.old) }
 {
-    let needed = usize::from(bitmap.height()) * usize::from(bytes_across(bitmap.width()));
+    let height = bitmap.height();
+    let across = usize::from(bytes_across(bitmap.width()));
+    let needed = usize::from(height) * across;
     if bytes.len() < needed {
         return Err(PbmFault::Truncated);
     }
     let (raster, rest) = bytes.split_at(needed);
-    read_words(bitmap, raster);
+    let mut reversed = [0; MOST_ACROSS];
+    let mut words = [0; 64];
+    'rows: for y in 0..height {
+        let start = usize::from(y) * across;
+        read_row(raster, start, across, &mut reversed, &mut words);
+        bitmap.set_row(y, &words);
+    }
     Ok(rest)
 }

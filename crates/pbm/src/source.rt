@@ -1,10 +1,9 @@
 //! Reads an image from a source, and packs it as its bytes come.
 
-ghost use Rattle.std.specs.Prelude.{◌≡◌, ◌*◌, List, [], Bool, ℕ, false, Ok, IfOk, IfErr, OnOk};
+ghost use Rattle.std.specs.Prelude.{◌≡◌, ◌*◌, List, [], Bool, false, Ok, IfOk, IfErr, OnOk};
 ghost use Rattle.metric.specs.Stream.{AreAll, CanFail};
 ghost use Rattle.bits.specs.Cells.{cells_where};
-ghost use Rattle.pbm.specs.Faults.{cells_of_pixels, image, pixels, plain_raster, raster};
-ghost use Rattle.pbm.specs.Faults.{raw_raster};
+ghost use Rattle.pbm.specs.Faults.{cells_of_pixels, image, pixels, raster, raw_raster};
 ghost use Rattle.pbm.specs.Windows.{CountsReads, Follows, HasFault, HasImage, IsFaultOf, IsOpen};
 ghost use Rattle.pbm.specs.Windows.{IsPassed, IsStopped, Meets, MeetsCells, MeetsFault, unread};
 
@@ -48,28 +47,6 @@ fn take_pixels<R: Source>(
     Ok(())
 }
 
-/// Takes a plain raster into a blank bitmap, and checks that the image may end where its pixels do.
-fn take_plain<R: Source>(
-    window: &mut Window,
-    reader: &mut R,
-    bitmap: &mut Bitmap,
-) -> Result<(), ImageStop>
-    requires can_fail { CanFail (R.failed_reads reader.old) }
-    requires open { IsOpen window.old (R.rest reader.old) }
-    requires blank { bitmap.old ≡ cells_where bitmap.old.width bitmap.old.height (λ x y. false) }
-    ensures open { IsOpen window.new (R.rest reader.new) }
-    ensures raster { OnOk result (MeetsCells (plain_raster bitmap.old.width bitmap.old.height)
-        (R.rest reader.old) window.old bitmap.new) }
-    ensures fault { IfErr result (MeetsFault (plain_raster bitmap.old.width bitmap.old.height)
-        (R.rest reader.old) window.old) }
-    ensures counts { CountsReads (R.failed_reads reader.old) result (R.failed_reads reader.new) }
-{
-    take_pixels(window, reader, bitmap)?;
-    window.fill(reader, 0)?;
-    after_image(window.unread())?;
-    Ok(())
-}
-
 /// Takes a raw raster into a blank bitmap, row by row, and keeps what the source has after it.
 fn take_raw<R: Source>(
     window: &mut Window,
@@ -97,7 +74,8 @@ fn take_raw<R: Source>(
     window.fill(reader, usize::MAX)
 }
 
-/// Takes the raster of an image of this form into a blank bitmap.
+/// Takes the raster of an image of this form into a blank bitmap, and checks that a plain image may
+/// end where its pixels do.
 fn take_raster<R: Source>(
     window: &mut Window,
     reader: &mut R,
@@ -115,7 +93,12 @@ fn take_raster<R: Source>(
     ensures counts { CountsReads (R.failed_reads reader.old) result (R.failed_reads reader.new) }
 {
     match form {
-        Form::Plain => take_plain(window, reader, bitmap),
+        Form::Plain => {
+            take_pixels(window, reader, bitmap)?;
+            window.fill(reader, 0)?;
+            after_image(window.unread())?;
+            Ok(())
+        }
         Form::Raw => take_raw(window, reader, bitmap),
     }
 }

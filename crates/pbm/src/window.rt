@@ -1,7 +1,7 @@
 //! A window on the bytes of a source, refilled as its bytes are taken.
 
-ghost use Rattle.std.specs.Prelude.{◌≡◌, ℕ, ◌+◌, ◌*◌, ◌<◌, ◌≤◌, ◌++◌, List, [], Option, false};
-ghost use Rattle.std.specs.Prelude.{drop, length, vec_len, IfErr, OnOk};
+ghost use Rattle.std.specs.Prelude.{◌≡◌, ℕ, ◌*◌, ◌<◌, ◌≤◌, List, [], Option, false, drop};
+ghost use Rattle.std.specs.Prelude.{length, vec_len, IfErr, OnOk};
 ghost use Rattle.metric.specs.Stream.{CanFail};
 
 use metric::{PbmFault, ReadFault, Source};

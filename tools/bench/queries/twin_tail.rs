@@ -57,7 +57,7 @@ fn ask(bitmap: &Bitmap, edge: Edge, draws: &mut Draws, kind: usize, points: &mut
     }
 }
 
-fn read_raw(bytes: &[u8]) -> Bitmap {
+fn bitmap_of(bytes: &[u8]) -> Bitmap {
     let mut lines = bytes.splitn(3, |byte| *byte == b'\n');
     lines.next();
     let sides = String::from_utf8(lines.next().unwrap().to_vec()).unwrap();
@@ -65,7 +65,7 @@ fn read_raw(bytes: &[u8]) -> Bitmap {
     let (width, height) = (sides[0], sides[1]);
     let across = usize::from(width).div_ceil(64);
     let mut bitmap = Bitmap { width, height, words: vec![0; across * usize::from(height)], bands: 0, marks: vec![0; 64] };
-    read_words(&mut bitmap, lines.next().unwrap());
+    assert!(read_raw(&mut bitmap, lines.next().unwrap()).is_ok());
     bitmap
 }
 
@@ -75,11 +75,11 @@ fn main() {
     let mut least = u128::MAX;
     for _ in 0..5 {
         let start = Instant::now();
-        std::hint::black_box(read_raw(&bytes));
+        std::hint::black_box(bitmap_of(&bytes));
         least = least.min(start.elapsed().as_micros());
     }
     println!("read_image {least} 0");
-    let bitmap = read_raw(&bytes);
+    let bitmap = bitmap_of(&bytes);
     for (kind, (name, count)) in [("at", 2000), ("least_in", 200), ("along", 200), ("clear_of", 2000), ("walk", 50)].iter().enumerate() {
         let mut points = [Cell { x: 0, y: 0 }; 1000];
         let (mut least, mut answers) = (u128::MAX, 0u64);

@@ -1,6 +1,7 @@
 -- Digits read are bits after those before.
-use Rattle.std.proofs.Common.{◌≡◌, ℕ, ◌+◌, ◌≤◌, ◌-◌, refl, ap, ◌∙◌, arith}
+use Rattle.std.proofs.Common.{◌≡◌, ℕ, ◌+◌, ◌*◌, ◌^◌, ◌%◌, ◌≤◌, ◌-◌, refl, ap, ◌∙◌, arith}
 use Rattle.std.specs.Int.{bit_at}
+use Rattle.pbm.proofs.Digits.{fits-behind}
 use Rattle.pbm.proofs.Following.{failed-so}
 use Rattle.std.proofs.lemmas.Nat.Bits.{bit_at_cat_low, bit_at_cat_high}
 use Rattle.pbm.proofs.PartReads.{IsPartRead-none, IsPartRead-add, IsPartRead-fault_one}
@@ -22,27 +23,37 @@ returns-in_err-more c =
     (bit_at c.turns.word) c.turns.rest.now c.in_err-more.field-0.0 c.turns-test.true
     c.in_err-more.ensures c.turns.invariant.read)
 
+pub overflow_add-word : goal.overflow_add-word
+overflow_add-word c =
+    let few = c.in_ok-more.ensures.few in
+    let fits = fits-behind c.turns.word c.turns.place c.in_ok-more.digits c.in_ok-more.more
+    (omega arith) c.turns.invariant.below c.in_ok-more.ensures.below in
+    omega (arith, fits.0, fits.1)
+
 pub turns-preserved : goal.turns-preserved
 turns-preserved c =
     let few = c.in_ok-more.ensures.few in
     let more = c.turns-test.true in
     let within : c.turns.place + c.in_ok-more.more ≤ c.args.count = omega arith in
+    let fits = fits-behind c.turns.word c.turns.place c.in_ok-more.digits c.in_ok-more.more
+    (omega arith) c.turns.invariant.below c.in_ok-more.ensures.below in
+    let word : ℕ = c.in_ok-more.digits * 2 ^ c.turns.place + c.turns.word in
+    let sum : c.turns.word + c.in_ok-more.digits * 2 ^ c.turns.place % 18446744073709551616
+    ≡ c.in_ok-more.digits * 2 ^ c.turns.place + c.turns.word = omega (arith, fits.0, fits.1) in
     record {
       within = within;
-      below = c.with_bits-word.ensures.below;
-      read =
+      below = rw sum fits.0;
+      read = rw sum (
           IsPartRead-add c.args.count c.args.bytes.now c.turns.place c.in_ok-more.more
-          (bit_at c.turns.word) (bit_at c.with_bits-word.result) c.turns.rest.now
+          (bit_at c.turns.word) (bit_at word) c.turns.rest.now
           c.in_ok-more.digits c.in_ok-more.others.now within c.in_ok-more.ensures.read
-          (λ i before. ap (λ (n : ℕ). bit_at n i) c.with_bits-word.ensures.joined
-          ∙ bit_at_cat_low c.in_ok-more.digits c.turns.place c.turns.word i before)
+          (λ i before. bit_at_cat_low c.in_ok-more.digits c.turns.place c.turns.word i before)
           (λ i before.
           let behind : c.turns.place + i - c.turns.place ≡ i = omega arith in
-          ap (λ (n : ℕ). bit_at n (c.turns.place + i)) c.with_bits-word.ensures.joined
-          ∙ (bit_at_cat_high c.in_ok-more.digits c.turns.place c.turns.word
+          bit_at_cat_high c.in_ok-more.digits c.turns.place c.turns.word
           (c.turns.place + i) c.turns.invariant.below (omega arith)
-          ∙ ap (bit_at c.in_ok-more.digits) behind))
-          c.turns.invariant.read;
+          ∙ ap (bit_at c.in_ok-more.digits) behind)
+          c.turns.invariant.read);
     }
 
 pub returns : goal.returns

@@ -1,7 +1,7 @@
 -- The pixels before the next word are in the bitmap.
 use Rattle.pbm.proofs.PlainWords.{pixels_before}
 use Rattle.pbm.proofs.Progress.{IsReadTo}
-use Rattle.pbm.proofs.raster.read_pixels.Given as goal
+use Rattle.pbm.proofs.raster.read_plain.Given as goal
 
 abbrev pub invariant-words : goal.invariant-words
 invariant-words l =
