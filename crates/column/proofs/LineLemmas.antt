@@ -3,6 +3,8 @@ use Rattle.std.proofs.Common.{◌≡◌, ℕ, ◌+◌, ◌-◌, ◌*◌, ◌<◌
 use Rattle.std.proofs.Common.{◌≢◌, false, List, Option, Some, None, length, get_or}
 use Rattle.std.proofs.Common.{arith, refl, sym}
 use Rattle.std.specs.Int.{abs_diff}
+use Rattle.std.proofs.lemmas.Grind.{common_steps}
+use Rattle.std.proofs.lemmas.Bool.Decides.{nat_tests}
 use Rattle.std.proofs.lemmas.Bool.{cases_lt, cases_eq, false≢true}
 use Rattle.metric.specs.Edge.{shift}
 use Rattle.metric.specs.declared.edge.Edge.{Edge}
@@ -20,16 +22,8 @@ use Rattle.column.proofs.Nearest.{IsRowAtMost-by, nearer_by, row_of-none, row_of
 -- past a free cell the lowest obstacle before a row stays
 before_free : (cells : Cells) (x y : ℕ) (row : Option ℕ) → has cells x y ≡ false
     → IsRowBefore cells x y row → IsRowBefore cells x (y + 1) row
-before_free cells x y None free before =
-    λ b within black. elim (cases_eq b y)
-    [ inl here ↦ absurd (cc) | inr apart ↦ before b (omega arith) black ]
-before_free cells x y (Some row) free before =
-    let lower = before.1 in (
-      before.0,
-      omega arith,
-      λ b within black. elim (cases_eq b y)
-          [ inl here ↦ absurd (cc) | inr apart ↦ before.2 b (omega arith) black ],
-    )
+before_free cells x y None free before = grind (arith, nat_tests, common_steps)
+before_free cells x y (Some row) free before = grind (arith, nat_tests, common_steps)
 
 -- an entry of the obstacles before a row, once it is marked in that row, tells those before the
 -- next row
@@ -44,16 +38,8 @@ before_marked cells x y entry small before false is = before_free cells x y (row
 -- past a free cell the uppermost obstacle from a row on stays
 from_free : (cells : Cells) (x y : ℕ) (row : Option ℕ) → has cells x y ≡ false
     → IsRowFrom cells x (y + 1) row → IsRowFrom cells x y row
-from_free cells x y None free behind =
-    λ b within black. elim (cases_eq b y)
-    [ inl here ↦ absurd (cc) | inr apart ↦ behind b (omega arith) black ]
-from_free cells x y (Some row) free behind =
-    let upper = behind.1 in (
-      behind.0,
-      omega arith,
-      λ b within black. elim (cases_eq b y)
-          [ inl here ↦ absurd (cc) | inr apart ↦ behind.2 b (omega arith) black ],
-    )
+from_free cells x y None free behind = grind (arith, nat_tests, common_steps)
+from_free cells x y (Some row) free behind = grind (arith, nat_tests, common_steps)
 
 -- an entry of the obstacles after a row, once it is marked in that row, tells those from that row
 -- on
@@ -112,35 +98,14 @@ IsLineFrom-marked edge cells y old new bitmap some within len marks line =
 -- where no obstacle lies below a row, the nearest is the lowest at or above it
 only_before : (cells : Cells) (x y : ℕ) (row : Option ℕ) → IsRowBefore cells x (y + 1) row
     → IsRowFrom cells x (y + 1) None → IsNearestRow cells x y row
-only_before cells x y None before behind =
-    λ b black. elim (cases_lt y b) [
-      | inl low ↦ behind b (omega arith) black
-      | inr high ↦ before b (omega arith) black
-    ]
-only_before cells x y (Some row) before behind = (
-  before.0,
-  λ b black.
-      let lower = before.1 in
-      elim (cases_lt y b) [
-        | inl low ↦ absurd (behind b (omega arith) black)
-        | inr high ↦ let lowest = before.2 b (omega arith) black in
-            IsRowAtMost-by y row b (omega arith) (λ same. omega arith)
-      ],
-)
+only_before cells x y None before behind = grind (arith, nat_tests, common_steps, IsRowAtMost-by)
+only_before cells x y (Some row) before behind =
+    grind (arith, nat_tests, common_steps, IsRowAtMost-by)
 
 -- where no obstacle lies at or above a row, the nearest is the uppermost below it
 only_behind : (cells : Cells) (x y row : ℕ) → IsRowBefore cells x (y + 1) None
     → IsRowFrom cells x (y + 1) (Some row) → IsNearestRow cells x y (Some row)
-only_behind cells x y row before behind = (
-  behind.0,
-  λ b black.
-      let upper = behind.1 in
-      elim (cases_lt y b) [
-        | inl low ↦ let uppermost = behind.2 b (omega arith) black in
-            IsRowAtMost-by y row b (omega arith) (λ same. omega arith)
-        | inr high ↦ absurd (before b (omega arith) black)
-      ],
-)
+only_behind cells x y row before behind = grind (arith, nat_tests, common_steps, IsRowAtMost-by)
 
 -- the uppermost obstacle below a row is the nearest where it is nearer than the lowest at or above
 -- the row
@@ -148,16 +113,7 @@ behind_wins : (cells : Cells) (x y above below : ℕ) → abs_diff y below < abs
     → IsRowBefore cells x (y + 1) (Some above) → IsRowFrom cells x (y + 1) (Some below)
     → IsNearestRow cells x y (Some below)
 behind_wins cells x y above below wins before behind =
-    let up = before.1 in
-    let down = behind.1 in (
-      behind.0,
-      λ b black. elim (cases_lt y b) [
-        | inl low ↦ let uppermost = behind.2 b (omega arith) black in
-            IsRowAtMost-by y below b (omega arith) (λ same. omega arith)
-        | inr high ↦ let lowest = before.2 b (omega arith) black in
-            IsRowAtMost-by y below b (omega arith) (λ same. omega arith)
-      ],
-    )
+    grind (arith, nat_tests, common_steps, IsRowAtMost-by)
 
 -- the lowest obstacle at or above a row is the nearest where the uppermost below the row isn't
 -- nearer
@@ -165,16 +121,7 @@ before_wins : (cells : Cells) (x y above below : ℕ) → abs_diff y above ≤ a
     → IsRowBefore cells x (y + 1) (Some above) → IsRowFrom cells x (y + 1) (Some below)
     → IsNearestRow cells x y (Some above)
 before_wins cells x y above below wins before behind =
-    let up = before.1 in
-    let down = behind.1 in (
-      before.0,
-      λ b black. elim (cases_lt y b) [
-        | inl low ↦ let uppermost = behind.2 b (omega arith) black in
-            IsRowAtMost-by y above b (omega arith) (λ same. omega arith)
-        | inr high ↦ let lowest = before.2 b (omega arith) black in
-            IsRowAtMost-by y above b (omega arith) (λ same. omega arith)
-      ],
-    )
+    grind (arith, nat_tests, common_steps, IsRowAtMost-by)
 
 -- an obstacle of a map with its frame is in one of its rows
 capped_row : (edge : Edge) (cells : Cells) (x y : ℕ) → IsBitmap cells

@@ -2,7 +2,6 @@
 use Rattle.std.proofs.Common.{◌≡◌, ℕ, ◌+◌, ◌*◌, ◌<◌, ◌≤◌, ◌⊎◌, ◌==◌, ◌∙◌, Bool, true, false, List}
 use Rattle.std.proofs.Common.{Option, Some, None, length, get_or, arith, sym, ap}
 use Rattle.std.proofs.lemmas.Bool.{cases_eq, cases_lt, eq-eqb, ne_eqb}
-use Rattle.std.proofs.Math.Nat.{mul-le-mul}
 use mathlib.Core.Logic.{inl, inr}
 use Rattle.metric.specs.Edge.{shift}
 use Rattle.metric.specs.declared.edge.Edge.{Edge}
@@ -12,7 +11,7 @@ use Rattle.bits.proofs.CellsLemmas.{cells_where-same, cells_where-has, IsBitmap-
 use Rattle.bits.proofs.Framing.{framed_size, has-framed, shift_few}
 use Rattle.column.specs.Columns.{IsNearestRow, IsRowOfTable, row_of}
 use Rattle.column.specs.Tabled.{Bordered, HasRows, IsTabled, cells_tabled, place_in}
-use Rattle.column.proofs.Places.{place_above, row_ends}
+use Rattle.column.proofs.Places.{place_above}
 use Rattle.column.proofs.Nearest.{row_of-none, row_of-some}
 
 -- the nearest row of a column, seen from an obstacle's row, is that row
@@ -116,34 +115,3 @@ IsBitmap-cells_tabled width height edge entries tabled =
 -- a bitmap is given its border
 abbrev pub bordered : Cells → Edge → Bordered
 bordered cells edge = record { cells = cells; edge = edge }
-
--- the entries of a row of a table are its row
-pub IsRowOfTable-tabled : (width height : ℕ) (edge : Edge) (entries line : List ℕ) (y : ℕ)
-    → IsTabled width height edge entries → y < height → length line ≡ width + 2 * shift edge
-    → ((x : ℕ) → x < width + 2 * shift edge
-    → get_or line x 0 ≡ get_or entries (y * (width + 2 * shift edge) + x) 0)
-    → IsRowOfTable (framed edge (cells_tabled width height edge entries)) (y + shift edge) line
-IsRowOfTable-tabled width height edge entries line y tabled row len read =
-    let size = framed_size edge (cells_tabled width height edge entries) in
-    let wide = size.0 in
-    record {
-      as_many = len ∙ sym wide;
-      each = λ x column.
-          let inside : x < width + 2 * shift edge = omega (arith, column, wide) in
-          rw (read x inside) (tabled.rows.each x y inside row);
-    }
-
--- a row of a table lies within it, and in fewer entries than a number of 32 bits counts
-pub line_within : (width height : ℕ) (edge : Edge) (entries : List ℕ) (y : ℕ)
-    → IsTabled width height edge entries → y < height
-    → (y * (width + 2 * shift edge) + (width + 2 * shift edge) ≤ length entries)
-    × (y * (width + 2 * shift edge) + (width + 2 * shift edge) < 4294967296)
-line_within width height edge entries y tabled row =
-    let within = row_ends y height (width + 2 * shift edge) row in
-    let many = tabled.as_many in
-    let high = tabled.height_is.few in
-    let few = tabled.width_is.few in
-    let least = shift_few edge in
-    let wide : width + 2 * shift edge ≤ 4098 = omega (arith, few, least) in
-    let all : height * (width + 2 * shift edge) ≤ 4096 * 4098 = mul-le-mul high wide in
-    (omega (arith, within, many), omega (arith, within, all))

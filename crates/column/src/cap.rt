@@ -1,6 +1,6 @@
 //! The frame in rows of entries: its first and last row, and the ends of each row.
 
-ghost use Rattle.std.specs.Prelude.{◌≡◌, ℕ, ◌+◌, ◌*◌, ◌<◌, ◌≤◌, true, length, slice_index};
+ghost use Rattle.std.specs.Prelude.{◌≡◌, ℕ, ◌*◌, ◌<◌, ◌≤◌, true, length, slice_index};
 ghost use Rattle.metric.specs.Edge.{shift};
 ghost use Rattle.column.specs.Capped.{is_cap, is_side};
 ghost use Rattle.column.specs.Marks.{AreMissing, first_marked, marked};

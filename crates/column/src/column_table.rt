@@ -1,15 +1,13 @@
 //! A table of the nearest obstacles in all columns.
 
-ghost use Rattle.std.specs.Prelude.{◌≡◌, ◌≢◌, ℕ, pos, ◌+◌, ◌*◌, ◌^◌, ◌<◌, ◌≤◌, ◌<ℤ◌, ◌≤ℤ◌, ◌+ℤ◌};
-ghost use Rattle.std.specs.Prelude.{length, slice_index, IfOk, IfErr};
+ghost use Rattle.std.specs.Prelude.{◌≡◌, ◌≢◌, pos, ◌+◌, ◌*◌, ◌<◌, ◌≤◌, ◌<ℤ◌, ◌≤ℤ◌, ◌+ℤ◌, IfOk};
+ghost use Rattle.std.specs.Prelude.{IfErr};
 ghost use Rattle.std.specs.Option.{option_map};
 ghost use Rattle.metric.specs.Edge.{shift, spot_of};
 ghost use Rattle.bits.specs.Cells.{IsBitmap};
 ghost use Rattle.bits.specs.Edges.{framed};
-ghost use Rattle.column.specs.Carrying.{IsNextRow};
 ghost use Rattle.column.specs.Columns.{IsRowOfTable, row_of};
 ghost use Rattle.column.specs.Spots.{IsNearestSpotRow};
-ghost use Rattle.column.specs.Tabled.{HasRows};
 ghost use Rattle.metric.specs.declared.refusal.Refusal.TheVariants.{Memory};
 
 use crate::batch::Batch;
@@ -58,10 +56,14 @@ impl ColumnTable {
     {
         let (width, height) = (bitmap.width(), bitmap.height());
         let batch = Batch::new(bitmap, edge, 0, height);
-        let cells = usize::from(height) * usize::from(batch.columns());
+        let across = usize::from(batch.columns());
         let mut columns = Columns::of(alloc, &batch)?;
-        let mut entries = vec![in alloc; NONE; cells]?;
-        fill_rows(&batch, &mut columns, entries.as_mut_slice());
+        let mut entries = vec![in alloc; NONE; usize::from(height) * across]?;
+        let lines = entries.as_mut_slice();
+        'rows: for y in 0..height {
+            columns.look(&batch, y);
+            put_line(&columns.entries, usize::from(y) * across, lines);
+        }
         Ok(ColumnTable {
             width,
             height,
@@ -119,37 +121,9 @@ impl ColumnTable {
         ensures bitmap { IsBitmap self.now.cells }
     {
         let width = usize::from(self.width + 2 * self.edge.shift());
-        line_of(&self.entries, usize::from(y), width)
+        let start = usize::from(y) * width;
+        &self.entries[start..start + width]
     }
-}
-
-/// Fills the entries of all rows of a bitmap, from the first on.
-fn fill_rows(batch: &Batch<'_>, columns: &mut Columns, entries: &mut [u16])
-    requires first { batch.now.y0 ≡ 0 }
-    requires columns { IsNextRow batch.now columns.old 0 }
-    requires room { length entries.old ≡ batch.now.y1
-        * (batch.now.bitmap.now.width + 2 * shift batch.now.edge) }
-    ensures len { length entries.new ≡ length entries.old }
-    ensures rows { HasRows batch.now.bitmap.now batch.now.edge batch.now.bitmap.now.width
-        batch.now.y1 entries.new }
-{
-    let width = usize::from(batch.columns());
-    'rows: for y in 0..batch.y1 {
-        columns.look(batch, y);
-        put_line(&columns.entries, usize::from(y) * width, entries);
-    }
-}
-
-/// One of several consecutive lines of entries.
-fn line_of(entries: &[u16], line: usize, width: usize) -> &[u16]
-    requires within { line * width + width ≤ length entries.now }
-    requires small { line * width + width < 2 ^ 32 }
-    ensures len { length result.now ≡ width }
-    ensures entries { (x : ℕ) → x < width
-        → slice_index result.now x ≡ slice_index entries.now (line * width + x) }
-{
-    let start = line * width;
-    &entries[start..start + width]
 }
 
 /// The column of a map with its frame, counted with the frame.

@@ -12,10 +12,10 @@ ghost use Rattle.column.specs.Marks.{IsEntry, marked, nearer};
 
 use crate::batch::Batch;
 use crate::cap::mark_sides;
-use crate::row::{mark_row, nearer};
+use crate::row::{mark_word, nearer};
 use crate::sought::{seek_before, seek_from};
 use bits::Bitmap;
-use metric::{BAND_ROWS, Edge, LAST_FRAMED};
+use metric::{BAND_ROWS, Edge, LAST_FRAMED, WORD_BITS};
 
 /// Rows per band.
 pub const BAND: u16 = BAND_ROWS;
@@ -56,27 +56,13 @@ pub fn seek_bands(batch: &Batch<'_>, before: &mut [u16], line: &mut [u16], bands
     let (bitmap, edge) = (batch.bitmap, batch.edge);
     seek_before(bitmap, edge, batch.y0 + edge.shift(), before);
     seek_from(bitmap, edge, batch.y1 + edge.shift(), line);
-    fill_bands(batch, line, bands);
-}
-
-/// Writes, for each band of the batch, the line of the obstacles below it, given the line below the
-/// batch in `line`, which is carried up on the way.
-fn fill_bands(batch: &Batch<'_>, line: &mut [u16], bands: &mut [u16])
-    requires bitmap { IsBitmap batch.now.bitmap.now }
-    requires room { (batch.now.y1 - batch.now.y0 + 63) / 64 * batch.now.bitmap.now.width
-        ≤ length bands.old }
-    requires line { IsLineFrom (capped batch.now.edge batch.now.bitmap.now)
-        (batch.now.y1 + shift batch.now.edge) line.old }
-    ensures { AreBandLines batch.now.bitmap.now batch.now.edge batch.now.y0 batch.now.y1 0
-        bands.new }
-{
     let width = batch.width();
     let count = (batch.y1 - batch.y0).div_ceil(BAND);
     'bands: for band in (0..count).rev() {
         let first = batch.y0 + band * BAND;
         let end = batch.y1.min(first + BAND);
         put_line(line, usize::from(band) * width, bands);
-        carry_up(batch.bitmap, batch.edge, first, end, line);
+        carry_up(bitmap, edge, first, end, line);
     }
 }
 
@@ -129,7 +115,14 @@ fn mark_line(bitmap: &Bitmap, edge: Edge, y: u16, line: &mut [u16])
         ≡ marked (has (capped edge bitmap.now) x (y + shift edge)) (y + shift edge)
         (slice_index line.old x) }
 {
-    mark_row(bitmap.row_words(y), y + edge.shift(), line);
+    let row = bitmap.row_words(y);
+    let framed = y + edge.shift();
+    'words: for (index, word) in row.iter().enumerate() {
+        let first = index * WORD_BITS;
+        if *word != 0 && first < line.len() {
+            mark_word(*word, framed, first, line);
+        }
+    }
 }
 
 /// Copies a line to index `start` of others.

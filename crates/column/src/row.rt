@@ -1,30 +1,14 @@
-//! One row of entries: where it has obstacles, and what the row below it takes over.
+//! One row of entries: where a word has obstacles, and what the row below it takes over.
 
-ghost use Rattle.std.specs.Prelude.{◌≡◌, ℕ, ◌+◌, ◌*◌, ◌<◌, ◌≤◌, ◌==◌, ◌⊎◌, length, slice_index};
+ghost use Rattle.std.specs.Prelude.{◌≡◌, ℕ, ◌+◌, ◌<◌, ◌≤◌, ◌==◌, ◌⊎◌, length, slice_index};
 ghost use Rattle.std.specs.Int.{bit_at};
-ghost use Rattle.column.specs.Marks.{IsEntry, is_marked, marked, nearer};
+ghost use Rattle.column.specs.Marks.{IsEntry, marked, nearer};
 
-use metric::{LAST_FRAMED, WORD_BITS};
+use metric::LAST_FRAMED;
 use std::simd::prelude::*;
 
 /// The lowest eight bits, one each.
 const PLACES: [u16; 8] = [1, 2, 4, 8, 16, 32, 64, 128];
-
-/// Writes row `y` into the entry of each of its obstacles.
-pub fn mark_row(words: &[u64], y: u16, row: &mut [u16])
-    requires few { length words.now ≤ 64 }
-    requires all { length row.old ≤ 64 * length words.now }
-    ensures len { length row.new ≡ length row.old }
-    ensures marked { (x : ℕ) → x < length row.old
-        → slice_index row.new x ≡ marked (is_marked words.now x) y (slice_index row.old x) }
-{
-    'words: for (index, word) in words.iter().enumerate() {
-        let first = index * WORD_BITS;
-        if *word != 0 && first < row.len() {
-            mark_word(*word, y, first, row);
-        }
-    }
-}
 
 /// Writes row `y` into the entries of one word's obstacles; the first column is that of the lowest
 /// bit.
@@ -40,28 +24,12 @@ pub fn mark_word(word: u64, y: u16, first: usize, row: &mut [u16])
     'parts: for part in 0..8 {
         let start = first + 8 * part;
         let bits = ((word >> (8 * part)) & 0xff) as u16;
-        mark_part(bits, y, start, row);
-    }
-}
-
-/// Writes row `y` into the entries of the obstacles of eight cells, as far as the row goes.
-#[inline(always)]
-fn mark_part(bits: u16, y: u16, first: usize, row: &mut [u16])
-    requires { first ≤ length row.old + 56 }
-    ensures len { length row.new ≡ length row.old }
-    ensures marked { (i : ℕ) → i < 8 → first + i < length row.old
-        → slice_index row.new (first + i) ≡ marked (bit_at bits i == 1) y
-        (slice_index row.old (first + i)) }
-    ensures others { (x : ℕ) → (x < first) ⊎ (first + 8 ≤ x)
-        → slice_index row.new x ≡ slice_index row.old x }
-{
-    if first + 8 <= row.len() {
-        let entries = u16x8::from_slice(&row[first..]);
-        marked_lanes(bits, y, entries).copy_to_slice(&mut row[first..]);
-        return;
-    }
-    if first < row.len() {
-        mark_last(bits, y, first, row);
+        if start + 8 <= row.len() {
+            let entries = u16x8::from_slice(&row[start..]);
+            marked_lanes(bits, y, entries).copy_to_slice(&mut row[start..]);
+        } else if start < row.len() {
+            mark_last(bits, y, start, row);
+        }
     }
 }
 

@@ -1,15 +1,14 @@
 //! The nearest obstacles of all columns seen from one row, without a table. With a wall, rows count
 //! the frame.
 
-ghost use Rattle.std.specs.Prelude.{◌≡◌, ℕ, ◌+◌, ◌-◌, ◌*◌, ◌<◌, ◌≤◌, ◌==◌, ◌⊎◌, false, length};
-ghost use Rattle.std.specs.Prelude.{slice_index, bit_and};
-ghost use Rattle.std.specs.Int.{bit_at};
+ghost use Rattle.std.specs.Prelude.{◌≡◌, ℕ, ◌+◌, ◌*◌, ◌<◌, ◌≤◌, false, length, bit_and};
+ghost use Rattle.std.specs.Prelude.{slice_index};
 ghost use Rattle.metric.specs.Edge.{shift};
 ghost use Rattle.bits.specs.Cells.{IsBitmap, has};
 ghost use Rattle.bits.specs.Edges.{framed};
 ghost use Rattle.column.specs.Capped.{capped};
 ghost use Rattle.column.specs.Columns.{IsRowOfTable};
-ghost use Rattle.column.specs.Marks.{AreMissing, first_marked, is_marked};
+ghost use Rattle.column.specs.Marks.{AreMissing, first_marked};
 
 use crate::NONE;
 use crate::cap::{is_cap, mark_all, mark_sides};
@@ -105,29 +104,16 @@ pub fn look_at(bitmap: &Bitmap, edge: Edge, y: u16, missing: &mut [u64], entries
         mark_all(y, missing, entries);
         return;
     }
-    let words = bitmap.row_words(y - edge.shift());
-    mark_missing(words, y, missing, entries);
-}
-
-/// Writes row `y` into the entries of those of its obstacles whose columns are missing.
-fn mark_missing(words: &[u64], y: u16, missing: &mut [u64], entries: &mut [u16])
-    requires row { y < FRAMED_SIDE }
-    requires few { length words.now ≤ 64 }
-    requires all { length entries.old ≤ 64 * length words.now }
-    requires no_more { 64 * length words.now < length entries.old + 64 }
-    requires room { length missing.old ≡ 64 }
-    requires missing { AreMissing missing.old entries.old }
-    ensures len { length entries.new ≡ length entries.old }
-    ensures room { length missing.new ≡ length missing.old }
-    ensures missing { AreMissing missing.new entries.new }
-    ensures marked { (x : ℕ) → x < length entries.old → slice_index entries.new x
-        ≡ first_marked (is_marked words.now x) y (slice_index entries.old x) }
-{
-    if !has_new(words, missing) {
+    let row = bitmap.row_words(y - edge.shift());
+    if !has_new(row, missing) {
         return;
     }
-    'words: for (index, word) in words.iter().enumerate() {
-        missing[index] = mark_new(*word, y, index * WORD_BITS, missing[index], entries);
+    'words: for (index, word) in row.iter().enumerate() {
+        let new = *word & missing[index];
+        if new != 0 {
+            mark_word(new, y, index * WORD_BITS, entries);
+            missing[index] &= !*word;
+        }
     }
 }
 
@@ -142,28 +128,4 @@ fn has_new(words: &[u64], missing: &[u64]) -> bool
         new |= words[index] & missing[index];
     }
     new != 0
-}
-
-/// Writes row `y` into the entries of those of a word's obstacles whose columns are missing.
-/// Returns which columns are missing then.
-fn mark_new(word: u64, y: u16, first: usize, missing: u64, entries: &mut [u16]) -> u64
-    requires row { y < FRAMED_SIDE }
-    requires first { first ≤ length entries.old }
-    requires missing { (i : ℕ) → i < 64 → first + i < length entries.old
-        → (bit_at missing i == 1) ≡ (slice_index entries.old (first + i) == 65535) }
-    ensures len { length entries.new ≡ length entries.old }
-    ensures missing { (i : ℕ) → i < 64 → first + i < length entries.old
-        → (bit_at result i == 1) ≡ (slice_index entries.new (first + i) == 65535) }
-    ensures marked { (i : ℕ) → i < 64 → first + i < length entries.old
-        → slice_index entries.new (first + i) ≡ first_marked (bit_at word i == 1) y
-        (slice_index entries.old (first + i)) }
-    ensures others { (x : ℕ) → (x < first) ⊎ (first + 64 ≤ x)
-        → slice_index entries.new x ≡ slice_index entries.old x }
-{
-    let new = word & missing;
-    if new == 0 {
-        return missing;
-    }
-    mark_word(new, y, first, entries);
-    missing & !word
 }

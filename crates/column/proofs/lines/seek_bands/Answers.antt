@@ -4,7 +4,7 @@ use Rattle.metric.specs.Edge.{shift}
 use Rattle.column.specs.Capped.{capped}
 use Rattle.column.specs.Lines.{AreBandLines, IsLineFrom}
 use Rattle.column.proofs.LineLemmas.{AreBandLines-next}
-use Rattle.column.proofs.lines.fill_bands.Goals as goal
+use Rattle.column.proofs.lines.seek_bands.Goals as goal
 
 pub bands-preserved : goal.bands-preserved
 bands-preserved c =

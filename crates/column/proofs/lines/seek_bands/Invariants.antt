@@ -3,7 +3,7 @@ use Rattle.std.proofs.Common.{◌+◌, ◌-◌, ◌*◌, ◌/◌, ◌≤◌, min
 use Rattle.metric.specs.Edge.{shift}
 use Rattle.column.specs.Capped.{capped}
 use Rattle.column.specs.Lines.{AreBandLines, IsLineFrom}
-use Rattle.column.proofs.lines.fill_bands.Given as goal
+use Rattle.column.proofs.lines.seek_bands.Given as goal
 
 abbrev pub invariant-bands : goal.invariant-bands
 invariant-bands l = record {
