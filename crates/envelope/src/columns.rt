@@ -3,7 +3,7 @@
 //! A column with an obstacle has an entry: the row of its obstacle nearest to the current row, `y`.
 //! Its gap is how many rows away that is.
 
-ghost use Rattle.std.specs.Prelude.{◌≡◌, ℕ, negsuc, pos, ◌<◌, ◌≤◌, ◌≤ℤ◌, length, slice_index};
+ghost use Rattle.std.specs.Prelude.{◌≡◌, negsuc, pos, ◌<◌, ◌≤◌, ◌≤ℤ◌, length, slice_index};
 ghost use Rattle.metric.specs.Crossing.{AreColumns, at_column};
 ghost use Rattle.metric.specs.Edge.{spot_of};
 ghost use Rattle.envelope.specs.Columns.{AreEntries, IsAmong, IsCrossing, gap_of};

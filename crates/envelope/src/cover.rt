@@ -1,10 +1,9 @@
 //! Stacks the columns of a piece of a row, from the left: each span of cells with the column
 //! nearest to them.
 
-ghost use Rattle.std.specs.Prelude.{ℕ, ◌+◌, ◌-◌, ◌<◌, ◌≤◌, length};
-ghost use Rattle.metric.specs.Crossing.{AreColumns};
-ghost use Rattle.envelope.specs.Columns.{AreEntries, IsAmong, IsColumnFrom, gap_of};
-ghost use Rattle.envelope.specs.Envelope.{IsCovered, AreSpansKept, IsStart, span_at};
+ghost use Rattle.std.specs.Prelude.{◌≤◌, length};
+ghost use Rattle.envelope.specs.Columns.{AreEntries, IsColumnFrom, gap_of};
+ghost use Rattle.envelope.specs.Envelope.{IsCovered, AreSpansKept};
 ghost use Rattle.envelope.specs.Pieces.{IsPiece};
 
 use crate::columns::{crossing, distance, gap};
@@ -37,59 +36,25 @@ pub fn cover<M: Metric>(entries: &[u16], y: u16, piece: Piece, spans: &mut [Span
     let mut count = 0;
     'columns: for column in piece.first..piece.last {
         if entries[column] != NONE {
-            count = put_on::<M>(entries, y, piece, column as u16, spans, count);
+            let column = column as u16;
+            // The column hides the spans that aren't kept. It starts where it gets strictly nearer
+            // than the last of the others: at or after the piece's end if it is nowhere the
+            // nearest.
+            let kept = kept_spans::<M>(entries, y, piece, column, spans, count);
+            let gap = gap(entries, y, column);
+            let mut start = 0;
+            if kept > 0 {
+                let top = spans[kept - 1];
+                start = crossing::<M>(top.column, top.gap, column, gap);
+            }
+            count = kept;
+            if usize::from(start) < piece.end {
+                spans[kept] = Span { start, column, gap };
+                count = kept + 1;
+            }
         }
     }
     count
-}
-
-/// Pushes one more column on the stack, unless it is nowhere the nearest, and pops those that it
-/// hides. Returns how many spans there are then.
-fn put_on<M: Metric>(
-    entries: &[u16],
-    y: u16,
-    piece: Piece,
-    column: u16,
-    spans: &mut [Span],
-    count: usize,
-) -> usize
-    requires entries { AreEntries entries.now y }
-    requires piece { IsPiece entries.now piece }
-    requires room { length entries.now ≤ length spans.old }
-    requires column { IsColumnFrom entries.now piece.first (length entries.now) column }
-    requires few { count ≤ column }
-    requires covered { IsCovered M.distance (gap_of entries.now y)
-        (IsColumnFrom entries.now piece.first column) spans.old count piece.end }
-    ensures few { result ≤ column + 1 }
-    ensures covered { IsCovered M.distance (gap_of entries.now y)
-        (IsColumnFrom entries.now piece.first (column + 1)) spans.new result piece.end }
-{
-    let kept = kept_spans::<M>(entries, y, piece, column, spans, count);
-    let start = start_of::<M>(entries, y, column, spans, kept);
-    if usize::from(start) < piece.end {
-        let gap = gap(entries, y, column);
-        spans[kept] = Span { start, column, gap };
-        kept + 1
-    } else {
-        kept
-    }
-}
-
-/// The first cell to which the column is strictly nearer than the last of the kept spans: the row's
-/// first cell on an empty stack.
-fn start_of<M: Metric>(entries: &[u16], y: u16, column: u16, spans: &[Span], kept: usize) -> u16
-    requires entries { AreEntries entries.now y }
-    requires room { kept ≤ length spans.now }
-    requires column { IsAmong entries.now (length entries.now) column }
-    requires top { 0 < kept → let top = span_at spans.now (kept - 1) in
-        AreColumns top.column top.gap column (gap_of entries.now y column) }
-    ensures { IsStart M.distance (gap_of entries.now y) spans.now kept column result }
-{
-    if kept == 0 {
-        return 0;
-    }
-    let top = spans[kept - 1];
-    crossing::<M>(top.column, top.gap, column, gap(entries, y, column))
 }
 
 /// How many spans remain after popping those on whose first cell the column is strictly nearer than

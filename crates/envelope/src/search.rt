@@ -2,7 +2,7 @@
 //!
 //! A column is named by its offset from 128 columns to the left of the cell.
 
-ghost use Rattle.std.specs.Prelude.{ℕ, ◌+◌, ◌<◌, ◌≤◌, length, IfSome};
+ghost use Rattle.std.specs.Prelude.{◌+◌, ◌<◌, ◌≤◌, length, IfSome};
 ghost use Rattle.envelope.specs.Beside.{AreBestNear, AreDecided, AreSides, AreSmall};
 
 use crate::lanes::{all_of, are_below, chosen, least, load};

@@ -1,9 +1,9 @@
 //! The nearest obstacles of all cells of a range of rows in a third of the memory: only positions,
 //! from which the distances follow.
 
-ghost use Rattle.std.specs.Prelude.{◌≡◌, ◌↔◌, ℕ, ◌+◌, ◌-◌, ◌*◌, ◌<◌, ◌≤◌, true, IfErr, IfOk, None};
+ghost use Rattle.std.specs.Prelude.{◌≡◌, ◌↔◌, ◌+◌, ◌-◌, ◌*◌, ◌<◌, ◌≤◌, true, IfErr, IfOk, None};
 ghost use Rattle.std.specs.Prelude.{length, slice_index_or, slice_range};
-ghost use Rattle.field.specs.Obstacles.{AreMeasured, IsMeasured, nears_told, seen_from};
+ghost use Rattle.field.specs.Obstacles.{AreMeasured, nears_told, seen_from};
 ghost use Rattle.field.specs.Rows.{AreNears};
 ghost use Rattle.metric.specs.declared.refusal.Refusal.TheVariants.{Memory};
 
@@ -97,7 +97,10 @@ impl<M: Metric + Sync> ObstacleTable<M> {
             ((y - self.now.y0) * self.now.width)
             ((y - self.now.y0) * self.now.width + self.now.width) }
     {
-        fill_line::<M>(y, self.strips.line(y), nears);
+        let cells = self.strips.line(y);
+        for x in 0..nears.len() {
+            nears[x] = near_from::<M>(x as u16, y, cells[x]);
+        }
     }
 
     /// Fills a line with the distances of the cells of row `y` to their nearest obstacles, from the
@@ -110,37 +113,10 @@ impl<M: Metric + Sync> ObstacleTable<M> {
             (slice_range (nears_told M.distance self.now) ((y - self.now.y0) * self.now.width)
             ((y - self.now.y0) * self.now.width + self.now.width)) distances.new }
     {
-        measure_line::<M>(y, self.strips.line(y), distances);
-    }
-}
-
-/// Fills a line with these obstacles, seen from the cells of row `y`.
-fn fill_line<M: Metric>(y: u16, cells: &[ObstacleCell], nears: &mut [Option<Near>])
-    requires row { y ≤ 4095 }
-    requires few { length cells.now ≤ 4096 }
-    requires width { length nears.old ≡ length cells.now }
-    ensures len { length nears.new ≡ length cells.now }
-    ensures seen { (x : ℕ) → x < length cells.now
-        → slice_index_or nears.new x None ≡ seen_from M.distance x y
-        (slice_index_or cells.now x None) }
-{
-    for x in 0..nears.len() {
-        nears[x] = near_from::<M>(x as u16, y, cells[x]);
-    }
-}
-
-/// Fills a line with the distances of these obstacles from the cells of row `y`.
-fn measure_line<M: Metric>(y: u16, cells: &[ObstacleCell], distances: &mut [u32])
-    requires row { y ≤ 4095 }
-    requires few { length cells.now ≤ 4096 }
-    requires width { length distances.old ≡ length cells.now }
-    ensures len { length distances.new ≡ length cells.now }
-    ensures each { (x : ℕ) → x < length cells.now
-        → IsMeasured M.distance (seen_from M.distance x y (slice_index_or cells.now x None))
-        (slice_index_or distances.new x 0) }
-{
-    for x in 0..distances.len() {
-        distances[x] = cells[x].measure::<M>(x as u16, y);
+        let cells = self.strips.line(y);
+        for x in 0..distances.len() {
+            distances[x] = cells[x].measure::<M>(x as u16, y);
+        }
     }
 }
 

@@ -2,14 +2,12 @@
 //! into memory of its own.
 
 ghost use Rattle.std.specs.Prelude.{◌≡◌, ℕ, ◌+◌, ◌-◌, ◌/◌, ◌%◌, ◌<◌, ◌≤◌, All, IfErr, IfOk, Ok};
-ghost use Rattle.std.specs.Prelude.{length, map, slice_index_or, vec_len};
+ghost use Rattle.std.specs.Prelude.{length, map, slice_index_or};
 ghost use Rattle.metric.specs.declared.edge.Edge.{Edge};
 ghost use Rattle.metric.specs.declared.refusal.Refusal.TheVariants.{Memory};
 ghost use Rattle.bits.specs.Cells.{Cells};
 ghost use Rattle.field.specs.Bands.{AreValues};
-ghost use Rattle.metric.specs.Workers.{IsWorkers};
-ghost use Rattle.field.specs.Strips.{AreStrips, AreStripsOf, HoldRows, IsStripOf, line_in};
-ghost use Rattle.field.specs.Strips.{strip_row};
+ghost use Rattle.field.specs.Strips.{AreStrips, HoldRows, IsStripOf, line_in, strip_row};
 
 use crate::table::values;
 use column::Batch;
@@ -52,7 +50,8 @@ pub struct Strips<S> {
 }
 
 impl<S: Strip> Strips<S> {
-    /// What is kept of the rows of a batch, one strip per worker. Fails only when out of memory.
+    /// What is kept of the rows of a batch, one strip per worker, each computed in a thread of its
+    /// own where one can be started. Fails only when out of memory.
     pub fn of<M: Metric + Sync, G: Gate + Sync, R: Threads + Sync>(
         rt: &R,
         alloc: Global,
@@ -70,7 +69,17 @@ impl<S: Strip> Strips<S> {
         let (y0, y1, count) = (batch.y0, batch.y1, workers.count);
         let height = (y1 - y0).div_ceil(u16::from(count)).max(1);
         let parts = Parts { batch, height };
-        let all = work_strips::<M, G, R, S>(rt, alloc, &parts, count, gate)?;
+        let work = |strip: usize| -> Result<S, Refusal>
+            requires { strip < 16 }
+            ensures rows { IfOk result (IsStripOf S.holds M.distance parts.entry.batch.now
+                parts.entry.height strip) }
+            ensures memory { IfErr result (λ refusal. refusal ≡ Memory) }
+        {
+            gate.enter(strip as u8 + 1);
+            S::of::<M>(alloc, &parts.rows_of(strip as u8))
+        };
+        let found = map_indices(rt, alloc, usize::from(count), &work)?;
+        let all = gather(alloc, found)?;
         Ok(Strips {
             width: batch.bitmap.width(),
             y0,
@@ -144,47 +153,6 @@ impl<'a> Parts<'a> {
         let above = rows.min(u32::from(strip) * u32::from(self.height));
         self.batch.y0 + above as u16
     }
-}
-
-/// Computes the first `count` strips, each in a thread of its own where one can be started. Fails
-/// only when out of memory.
-fn work_strips<M: Metric + Sync, G: Gate + Sync, R: Threads + Sync, S: Strip>(
-    rt: &R,
-    alloc: Global,
-    parts: &Parts<'_>,
-    count: u8,
-    gate: &G,
-) -> Result<Vec<S>, Refusal>
-    requires count { IsWorkers count }
-    ensures count { IfOk result (λ strips. vec_len strips ≡ count) }
-    ensures each { IfOk result (λ strips. AreStripsOf S.holds M.distance parts.now.batch.now
-        parts.now.height strips.items) }
-    ensures memory { IfErr result (λ refusal. refusal ≡ Memory) }
-{
-    let work = |strip: usize| -> Result<S, Refusal>
-        requires { strip < 16 }
-        ensures rows { IfOk result (IsStripOf S.holds M.distance parts.entry.now.batch.now
-            parts.entry.now.height strip) }
-        ensures memory { IfErr result (λ refusal. refusal ≡ Memory) }
-    { work_strip::<M, G, S>(alloc, parts, gate, strip as u8) };
-    let found = map_indices(rt, alloc, usize::from(count), &work)?;
-    gather(alloc, found)
-}
-
-/// Enters the gate, and computes one strip, counted from 0.
-fn work_strip<M: Metric, G: Gate, S: Strip>(
-    alloc: Global,
-    parts: &Parts<'_>,
-    gate: &G,
-    strip: u8,
-) -> Result<S, Refusal>
-    requires strip { strip < 16 }
-    ensures rows { IfOk result (IsStripOf S.holds M.distance parts.now.batch.now parts.now.height
-        strip) }
-    ensures memory { IfErr result (λ refusal. refusal ≡ Memory) }
-{
-    gate.enter(strip + 1);
-    S::of::<M>(alloc, &parts.rows_of(strip))
 }
 
 /// The results of all strips. Fails if one of them failed, or when out of memory.

@@ -1,6 +1,6 @@
 //! Numbers in decimal, four digits per step, from a table.
 
-ghost use Rattle.std.specs.Prelude.{◌≡◌, ◌+◌, ◌*◌, ◌<◌, ◌≤◌, ◌^◌, ◌∷◌, length, vec_len, IfOk};
+ghost use Rattle.std.specs.Prelude.{◌≡◌, ◌+◌, ◌<◌, ◌≤◌, ◌∷◌, length, vec_len};
 ghost use Rattle.std.specs.Fmt.{decimal};
 ghost use Rattle.printing.specs.Putting.{AreQuads, AreSpaced, four_digits};
 

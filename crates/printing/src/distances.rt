@@ -1,6 +1,6 @@
 //! The lines of rows that have only distances.
 
-ghost use Rattle.std.specs.Prelude.{◌≡◌, ◌+◌, ◌*◌, ◌<◌, ◌≤◌, ◌∷◌, length};
+ghost use Rattle.std.specs.Prelude.{◌+◌, ◌*◌, ◌<◌, ◌≤◌, ◌∷◌, length};
 ghost use Rattle.std.specs.List.{flat_map};
 ghost use Rattle.printing.specs.Measured.{distance_text, distances_line};
 ghost use Rattle.printing.specs.Putting.{Puts};

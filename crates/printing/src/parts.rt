@@ -1,10 +1,7 @@
 //! The lines of a table's rows, written by workers in parallel.
 
-ghost use Rattle.std.specs.Prelude.{◌≡◌, ◌+◌, ◌-◌, ◌*◌, ◌<◌, ◌≤◌, ◌++◌, All, IfOk, take};
+ghost use Rattle.std.specs.Prelude.{◌≡◌, ◌+◌, ◌*◌, ◌<◌, ◌≤◌, All, IfOk, take};
 ghost use Rattle.std.specs.Prelude.{vec_capacity, vec_len};
-ghost use Rattle.std.specs.List.{slice_range};
-ghost use Rattle.printing.specs.RowCells.{IsRowRoom};
-ghost use Rattle.printing.specs.Table.{row_line, rows_text};
 
 use crate::line::{ENTRY_ROOM, SPARE_ROOM};
 use crate::printer::Printer;
@@ -41,7 +38,7 @@ impl WorkerLines {
     }
 
     /// Writes the lines of as many rows from this one on as the printer's number says, or as there
-    /// are.
+    /// are, to the front of the text, which has capacity for them.
     pub fn put<M: Metric + Sync>(&mut self, printer: &Printer<M>, from: u32)
         requires part { IsShare printer.now.nearest printer.now.table.width printer.now.rows
             self.old }
@@ -51,8 +48,15 @@ impl WorkerLines {
     {
         let height = u32::from(printer.table.height());
         let to = height.min(from + printer.rows) as u16;
-        let from = height.min(from) as u16;
-        self.end = put_lines(printer, &mut self.row, from, to, &mut self.text);
+        let first = height.min(from) as u16;
+        let width = usize::from(printer.table.width());
+        let mut end = 0;
+        'rows: for y in first..to {
+            lengthen(&mut self.text, end + (ENTRY_ROOM * width + 1 + SPARE_ROOM));
+            let (table, decimals) = (&printer.table, &printer.decimals);
+            end = table.put_line(decimals, y, &mut self.row, self.text.as_mut_slice(), end);
+        }
+        self.end = end;
     }
 
     /// The lines written.
@@ -81,60 +85,6 @@ impl WorkerLines {
         }
         Ok(parts)
     }
-}
-
-/// Writes the lines of rows `from` to `to - 1` to the front of the text, and returns where they
-/// end. The text has capacity for them.
-fn put_lines<M: Metric + Sync>(
-    printer: &Printer<M>,
-    row: &mut RowCells,
-    from: u16,
-    to: u16,
-    text: &mut Vec<u8>,
-) -> usize
-    requires order { from ≤ to }
-    requires within { to ≤ printer.now.table.height }
-    requires cells { IsRowRoom printer.now.nearest printer.now.table.width row.old }
-    requires room { (to - from) * (25 * printer.now.table.width + 1) + 3 ≤ vec_capacity text.old }
-    ensures text { take result text.new.items ≡ rows_text printer.now.nearest
-        printer.now.table.width from (to - from) printer.now.table.nears }
-    ensures end { result ≤ vec_len text.new }
-    ensures cells { IsRowRoom printer.now.nearest printer.now.table.width row.new }
-    ensures room { vec_capacity text.old ≤ vec_capacity text.new }
-{
-    let mut end = 0;
-    'rows: for y in from..to {
-        end = put_next(printer, row, y, text, end);
-    }
-    end
-}
-
-/// Writes the line of row `y` after the first `at` bytes of the text, and returns where it ends.
-/// The text has capacity for it.
-fn put_next<M: Metric + Sync>(
-    printer: &Printer<M>,
-    row: &mut RowCells,
-    y: u16,
-    text: &mut Vec<u8>,
-    at: usize,
-) -> usize
-    requires row { y < printer.now.table.height }
-    requires cells { IsRowRoom printer.now.nearest printer.now.table.width row.old }
-    requires front { at ≤ vec_len text.old }
-    requires room { at + (25 * printer.now.table.width + 4) ≤ vec_capacity text.old }
-    ensures line { take result text.new.items ≡ take at text.old.items
-        ++ row_line printer.now.nearest (slice_range printer.now.table.nears
-        (y * printer.now.table.width)
-        (y * printer.now.table.width + printer.now.table.width)) }
-    ensures end { result ≤ at + (25 * printer.now.table.width + 1) }
-    ensures within { result ≤ vec_len text.new }
-    ensures cells { IsRowRoom printer.now.nearest printer.now.table.width row.new }
-    ensures room { vec_capacity text.old ≤ vec_capacity text.new }
-{
-    let width = usize::from(printer.table.width());
-    lengthen(text, at + (ENTRY_ROOM * width + 1 + SPARE_ROOM));
-    let (table, decimals) = (&printer.table, &printer.decimals);
-    table.put_line(decimals, y, row, text.as_mut_slice(), at)
 }
 
 /// Lengthens a text to this many bytes, if it has fewer. It has capacity for them.

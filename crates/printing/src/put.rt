@@ -1,6 +1,6 @@
 //! Writes bytes to a buffer that has room for them.
 
-ghost use Rattle.std.specs.Prelude.{◌≡◌, ◌+◌, ◌<◌, ◌≤◌, ◌∷◌, ◌++◌, [], length, take};
+ghost use Rattle.std.specs.Prelude.{◌+◌, ◌<◌, ◌≤◌, ◌∷◌, [], length, take};
 ghost use Rattle.printing.specs.Putting.{Puts};
 
 use std::simd::Simd;

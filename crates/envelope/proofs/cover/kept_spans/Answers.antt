@@ -13,23 +13,12 @@ spans-init g c = record {
       c.args.spans.now c.args._piece.end c.args.count c.requires.covered;
 }
 
-pub distance-own-requires-clause-column : goal.distance-own-requires-clause-column
-distance-own-requires-clause-column g c =
-    (top_known _ c.args.entries.now c.args.y c.args._piece.first c.args._piece.end c.args.column
-    c.args.spans.now c.spans.kept c.requires.entries c.requires.column.among c.spans-test.true
-    c.requires.piece.within c.spans.invariant.cut).column
-
-pub distance-own-requires-clause-gap : goal.distance-own-requires-clause-gap
-distance-own-requires-clause-gap g c =
-    (top_known _ c.args.entries.now c.args.y c.args._piece.first c.args._piece.end c.args.column
-    c.args.spans.now c.spans.kept c.requires.entries c.requires.column.among c.spans-test.true
-    c.requires.piece.within c.spans.invariant.cut).gap
-
-pub distance-own-requires-clause-cell : goal.distance-own-requires-clause-cell
-distance-own-requires-clause-cell g c =
-    (top_known _ c.args.entries.now c.args.y c.args._piece.first c.args._piece.end c.args.column
-    c.args.spans.now c.spans.kept c.requires.entries c.requires.column.among c.spans-test.true
-    c.requires.piece.within c.spans.invariant.cut).start
+pub distance-own-requires : goal.distance-own-requires
+distance-own-requires g c =
+    let top = top_known _ c.args.entries.now c.args.y c.args._piece.first c.args._piece.end
+    c.args.column c.args.spans.now c.spans.kept c.requires.entries c.requires.column.among
+    c.spans-test.true c.requires.piece.within c.spans.invariant.cut in
+    record { column = top.column; gap = top.gap; cell = top.start }
 
 pub distance-requires-clause-cell : goal.distance-requires-clause-cell
 distance-requires-clause-cell g c =

@@ -1,13 +1,15 @@
--- One span less is left, and its cells are filled.
+-- One span less is left, and its cells are filled, one by one.
 use Rattle.std.proofs.Common.{◌≡◌, ◌+◌, ◌-◌, ◌<◌, ◌≤◌, ◌∙◌, ℕ, ◌⊎◌, List, length, inl, inr, refl}
-use Rattle.std.proofs.Common.{None, Some, arith, rules}
+use Rattle.std.proofs.Common.{None, arith, rules}
 use Rattle.std.proofs.lemmas.Bool.{cases_lt}
+use Rattle.std.proofs.lemmas.Grind.{common_steps}
 use Rattle.metric.specs.Edge.{shift}
-use Rattle.envelope.specs.Columns.{IsAmong, IsColumnFrom, gap_of, near_from}
+use Rattle.envelope.specs.Columns.{IsAmong, IsColumnFrom, IsSaid, gap_of}
 use Rattle.envelope.specs.Envelope.{span_at}
 use Rattle.envelope.specs.Pieces.{IsPiece}
 use Rattle.envelope.specs.declared.piece.Piece.{Piece}
-use Rattle.envelope.proofs.Filling.{envelope_last}
+use Rattle.envelope.proofs.Filling.{envelope_last, set_more}
+use Rattle.envelope.proofs.Nears.{said_kept}
 use Rattle.envelope.proofs.PieceLemmas.{best_of_enough}
 use Rattle.envelope.proofs.fill.fill.Goals as goal
 
@@ -25,7 +27,7 @@ outside x from end whole within (inr behind) = inr (omega (arith, within, behind
 pub returns-then-is_empty-clause-filled : goal.returns-then-is_empty-clause-filled
 returns-then-is_empty-clause-filled g c = λ x from below inside.
     let none : length c.args.spans.now ≡ 0 = search rules in
-    let before = c.from-before.ensures ∙ (rw c.EDGE.ensures at c.shift.ensures) in
+    let before = c.from-before.ensures ∙ (rw c.EDGE-edge.ensures at c.shift.ensures) in
     record {
       near = None;
       near_is = λ column among. let it = c.requires.enough (x + shift g.B.Border.EDGE) column from
@@ -34,15 +36,57 @@ returns-then-is_empty-clause-filled g c = λ x from below inside.
           (g.met.A.CellValue.says_none g.M.Metric.distance x (c.args.y - shift g.B.Border.EDGE));
     }
 
-pub fill_span-requires-clause-column : goal.fill_span-requires-clause-column
-fill_span-requires-clause-column g c =
+pub cells-init : goal.cells-init
+cells-init g c =
+    let span = span_at c.args.spans.now (c.spans.count - 1) in
     let last = envelope_last _ (gap_of c.args.entries.now c.args.y)
     (IsColumnFrom c.args.entries.now c.args.piece.first c.args.piece.last) c.args.spans.now
     c.spans.count c.spans.end c.spans-test.true c.spans.invariant.covered in
-    let some = last.0.some in
-    of_row c.args.entries.now c.args.piece (span_at c.args.spans.now (c.spans.count - 1)).column
-    c.requires.piece (last.0.best (span_at c.args.spans.now (c.spans.count - 1)).start
-    (omega arith) some).among
+    record {
+      among = of_row c.args.entries.now c.args.piece span.column c.requires.piece
+          (last.0.best span.start (omega arith) last.0.some).among;
+      filled = search rules;
+      others = search rules;
+    }
+
+pub cells-preserved : goal.cells-preserved
+cells-preserved g c =
+    let span = span_at c.args.spans.now (c.spans.count - 1) in
+    let last = envelope_last _ (gap_of c.args.entries.now c.args.y)
+    (IsColumnFrom c.args.entries.now c.args.piece.first c.args.piece.last) c.args.spans.now
+    c.spans.count c.spans.end c.spans-test.true c.spans.invariant.covered in
+    let within = c.spans.invariant.within in
+    let edge = g.B.Border.EDGE in
+    let p = c.cells.x in
+    let k = shift edge in
+    let is : c.from-before.result ≡ k =
+    c.from-before.ensures ∙ (rw c.EDGE-edge.ensures at c.shift.ensures) in
+    let inside : p < length c.cells.answers =
+    omega (arith, c.cells-test.true, c.cells.auto.answers, c.min-high.ensures) in
+    let before : p + k < c.spans.end = omega (arith, is, c.cells-test.true, c.min-high.ensures) in
+    let here = λ (after : span.start ≤ p + k) (from : c.args.piece.from ≤ p + k).
+    said_kept g.A.CellValue.says g.M.Metric.distance c.args.entries.now edge c.args.y p
+    c.near_at.result c.with.result (
+      span.column,
+      best_of_enough g.M.Metric.distance (gap_of c.args.entries.now c.args.y)
+          (IsAmong c.args.entries.now (length c.args.entries.now))
+          (IsColumnFrom c.args.entries.now c.args.piece.first c.args.piece.last) (p + k) span.column
+          (λ column among. of_row c.args.entries.now c.args.piece column c.requires.piece among)
+          (λ other among. c.requires.enough (p + k) other from (omega (arith, before, within)) among)
+          (last.0.best (p + k) after before),
+      rw (c.near_at.ensures.near, c.distance-dist.ensures, c.gap-gap.ensures.gap)
+          (rw (c.from-in-cells.ensures, c.EDGE-edge.ensures, is) refl),
+    ) c.requires.row c.with.ensures in
+    record {
+      among = c.cells.invariant.among;
+      filled = λ x after from below. set_more (λ x answer. span.start ≤ x + k
+          → c.args.piece.from ≤ x + k
+          → IsSaid g.A.CellValue.says g.M.Metric.distance c.args.entries.now c.args.y edge x answer)
+          0 p c.cells.answers c.with.result g.A.CellValue.unset inside
+          (λ x low up_to after from. c.cells.invariant.filled x after from up_to) here x
+          (omega arith) below after from;
+      others = grind (arith, common_steps);
+    }
 
 pub spans-preserved : goal.spans-preserved
 spans-preserved g c =
@@ -50,37 +94,24 @@ spans-preserved g c =
     let last = envelope_last _ (gap_of c.args.entries.now c.args.y)
     (IsColumnFrom c.args.entries.now c.args.piece.first c.args.piece.last) c.args.spans.now
     c.spans.count c.spans.end c.spans-test.true c.spans.invariant.covered in
-    let some = last.0.some in
     let within = c.spans.invariant.within in
     let k = shift g.B.Border.EDGE in
+    let is : c.from-before.result ≡ k =
+    c.from-before.ensures ∙ (rw c.EDGE-edge.ensures at c.shift.ensures) in
     record {
       few = omega arith;
-      within = omega (arith, some, within, c.from-end.ensures);
+      within = omega (arith, last.0.some, within, c.from-end.ensures);
       covered = rw c.from-end.ensures last.1;
       filled = λ x after from below inside.
           let there : x < length c.spans.answers =
-          omega (arith, c.fill_span.auto.answers, inside) in
+          omega (arith, c.cells.auto.answers, inside) in
           elim (cases_lt (x + k) c.spans.end) [
-            | inl before ↦
-                let at_least : span.start ≤ x + k = omega (arith, c.from-end.ensures) in
-                let best = best_of_enough g.M.Metric.distance (gap_of c.args.entries.now c.args.y)
-                (IsAmong c.args.entries.now (length c.args.entries.now))
-                (IsColumnFrom c.args.entries.now c.args.piece.first c.args.piece.last)
-                (x + k) span.column
-                (λ column among. of_row c.args.entries.now c.args.piece column
-                c.requires.piece among)
-                (λ other among. c.requires.enough (x + k) other from below among)
-                (last.0.best (x + k) at_least before) in
-                record {
-                  near = Some (near_from g.M.Metric.distance c.args.entries.now c.args.y
-                      g.B.Border.EDGE span.column (x + k));
-                  near_is = (span.column, best, refl);
-                  said = c.fill_span.ensures.filled x at_least from before there;
-                }
-            | inr past ↦ rw (c.fill_span.ensures.others x (inr past))
+            | inl before ↦ c.cells.invariant.filled x (omega (arith, after, c.from-end.ensures)) from
+                (omega (arith, before, there, is))
+            | inr past ↦ rw (c.cells.invariant.others x (inr past))
                 (c.spans.invariant.filled x past from below there)
           ];
-      others = λ x aside. c.fill_span.ensures.others x
+      others = λ x aside. c.cells.invariant.others x
           (outside (x + k) c.args.piece.from c.spans.end c.args.piece.end within aside)
           ∙ c.spans.invariant.others x aside;
     }

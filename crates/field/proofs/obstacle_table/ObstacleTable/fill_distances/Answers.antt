@@ -13,13 +13,14 @@ returns g c =
     let table : Obstacles = in_strips inside.width inside.y0 inside.y1 inside.height strips in
     let from = rw (← c.self.view_is) at c.requires.from in
     let to = rw (← c.self.view_is) at c.requires.to in
-    let line = c.line.ensures.line ∙ line_in_strips inside.width inside.y0 inside.y1 inside.height
-    strips (c.args.y - inside.y0) c.self.invariant (omega (arith, from, to)) in
-    let len = c.line.ensures.len in
+    let line = c.line-cells.ensures.line
+    ∙ line_in_strips inside.width inside.y0 inside.y1 inside.height strips
+    (c.args.y - inside.y0) c.self.invariant (omega (arith, from, to)) in
+    let len = c.line-cells.ensures.len in
     let width = rw (← c.self.view_is) at c.requires.width in
     rw (← c.self.view_is)
-    (line_measured g.M.Metric.distance table c.args.y _ c.measure_line.new.distances
+    (line_measured g.M.Metric.distance table c.args.y _ c.loop-x.distances
     (AreRows-strips inside.width inside.y0 inside.y1 inside.height strips c.self.invariant) from to
-    (c.measure_line.auto.distances ∙ width) line
-    (λ (x : ℕ) (column : x < inside.width). c.measure_line.ensures.each x
+    (c.loop-x.auto.distances ∙ width) line
+    (λ (x : ℕ) (column : x < inside.width). c.loop-x.invariant.each x
     (omega (arith, column, len))))

@@ -13,13 +13,14 @@ returns g c =
     let table : Obstacles = in_strips inside.width inside.y0 inside.y1 inside.height strips in
     let from = rw (← c.self.view_is) at c.requires.from in
     let to = rw (← c.self.view_is) at c.requires.to in
-    let line = c.line.ensures.line ∙ line_in_strips inside.width inside.y0 inside.y1 inside.height
-    strips (c.args.y - inside.y0) c.self.invariant (omega (arith, from, to)) in
-    let len = c.line.ensures.len in
+    let line = c.line-cells.ensures.line
+    ∙ line_in_strips inside.width inside.y0 inside.y1 inside.height strips
+    (c.args.y - inside.y0) c.self.invariant (omega (arith, from, to)) in
+    let len = c.line-cells.ensures.len in
     let width = rw (← c.self.view_is) at c.requires.width in
     rw (← c.self.view_is)
-    (line_told g.M.Metric.distance table c.args.y _ c.fill_line.new.nears
+    (line_told g.M.Metric.distance table c.args.y _ c.loop-x.nears
     (AreRows-strips inside.width inside.y0 inside.y1 inside.height strips c.self.invariant) from to
-    (c.fill_line.auto.nears ∙ width) line
-    (λ (x : ℕ) (column : x < inside.width). c.fill_line.ensures.seen x
+    (c.loop-x.auto.nears ∙ width) line
+    (λ (x : ℕ) (column : x < inside.width). c.loop-x.invariant.seen x
     (omega (arith, column, len))))

@@ -1,7 +1,7 @@
 -- The cells so far are filled.
 use Rattle.std.proofs.Common.{◌≡◌, ℕ, ◌<◌, slice_index_or, None}
 use Rattle.field.specs.Obstacles.{seen_from}
-use Rattle.field.proofs.obstacle_table.fill_line.Given as goal
+use Rattle.field.proofs.obstacle_table.ObstacleTable.fill_row.Given as goal
 
 abbrev pub invariant-loop-x : goal.invariant-loop-x
 invariant-loop-x g l = record {

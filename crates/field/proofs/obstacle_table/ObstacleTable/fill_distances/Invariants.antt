@@ -1,7 +1,7 @@
 -- The cells so far are measured.
 use Rattle.std.proofs.Common.{ℕ, ◌<◌, slice_index_or, None}
 use Rattle.field.specs.Obstacles.{IsMeasured, seen_from}
-use Rattle.field.proofs.obstacle_table.measure_line.Given as goal
+use Rattle.field.proofs.obstacle_table.ObstacleTable.fill_distances.Given as goal
 
 abbrev pub invariant-loop-x : goal.invariant-loop-x
 invariant-loop-x g l = record {

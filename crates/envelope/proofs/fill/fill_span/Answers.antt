@@ -1,7 +1,0 @@
--- One more cell is filled.
-use Rattle.std.proofs.Common.{arith}
-use Rattle.std.proofs.lemmas.Grind.{common_steps}
-use Rattle.envelope.proofs.fill.fill_span.Goals as goal
-
-pub loop-x-preserved : goal.loop-x-preserved
-loop-x-preserved g c = grind (arith, common_steps)
