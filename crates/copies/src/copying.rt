@@ -1,14 +1,14 @@
 //! Reads words, rows and bands of a pin's version into its copy, as a query asks for them.
 
-ghost use Rattle.std.specs.Prelude.{◌≡◌, ℕ, ◌<◌, true, slice_index};
+ghost use Rattle.std.specs.Prelude.{◌≡◌, ℕ, ◌<◌, true, Some, slice_index};
 ghost use Rattle.std.specs.Int.{bit_at};
 ghost use Rattle.bits.specs.Tiles.{tiles_down};
 ghost use Rattle.bits.specs.Words.{words_across};
 ghost use Rattle.clearance.specs.Rows.{IsBlankRow, words_of_row};
-ghost use Rattle.copies.specs.Copies.{bitmap_seen, IsCopying};
+ghost use Rattle.events.specs.Tidy.{IsOfMap};
+ghost use Rattle.copies.specs.Copies.{bitmap_seen, HasSlot, IsCopying};
 
 use crate::copy::VersionCopy;
-use crate::reading::{blank_words, look_word, read_band};
 use bits::{has_bit, without_bit};
 use clearance::is_blank;
 use metric::BAND_ROWS;
@@ -91,7 +91,10 @@ impl VersionCopy {
         let band = y / BAND_ROWS;
         let across = u32::from(self.bitmap.width()).div_ceil(64);
         if self.is_looked_at(band, across) {
-            let blank = blank_words(seat, version, slot, across, y);
+            let mut blank = 0;
+            'words: while blank < across && look_word(seat, version, slot, across, y, blank) == 0 {
+                blank += 1;
+            }
             self.looks.count_row(across, blank);
             return blank == across;
         }
@@ -125,7 +128,8 @@ impl VersionCopy {
         }
     }
 
-    /// Reads a band of the held version.
+    /// Reads the rows of a band of the held version, tile by tile. No mark of the bitmap's earlier
+    /// contents counts there, since each tile is written anew.
     #[inline(never)]
     fn read<Id: StoreName>(&mut self, seat: &mut ReaderSeat<Id>, version: u32, slot: u32, band: u16)
         requires copying { IsCopying Id.store seat.old version slot self.old.bitmap
@@ -139,7 +143,13 @@ impl VersionCopy {
         ensures kept { (k : ℕ) → k < 64 → bit_at self.old.unread k ≡ 0
             → bit_at self.new.unread k ≡ 0 }
     {
-        read_band(seat, version, slot, band, &mut self.bitmap);
+        let across = self.bitmap.width().div_ceil(64);
+        let mut words = [0; 64];
+        'tiles: for index in 0..across {
+            let position = band * across + index;
+            seat.look_rows(version, slot, position, &mut words);
+            self.bitmap.renew_tile(position, &words);
+        }
         self.unread = without_bit(self.unread, band);
         self.looks.count_band();
     }
@@ -162,4 +172,29 @@ impl VersionCopy {
         }
         self.unread = 0;
     }
+}
+
+/// Reads one word of a row of the held version, whose rows take `across` words: the row of its
+/// tile.
+#[inline(always)]
+fn look_word<Id: StoreName>(
+    seat: &mut ReaderSeat<Id>,
+    version: u32,
+    slot: u32,
+    across: u32,
+    y: u16,
+    index: u32,
+) -> u64
+    requires held { seat.old.holds ≡ Some version }
+    requires slot { HasSlot Id.store seat.old version slot }
+    requires of_map { IsOfMap Id.store.base (bitmap_seen Id.store seat.old version) }
+    requires across { across ≡ words_across (bitmap_seen Id.store seat.old version).width }
+    requires row { y < (bitmap_seen Id.store seat.old version).height }
+    requires index { index < across }
+    ensures seat { seat.new ≡ seat.old }
+    ensures word { result ≡ slice_index (words_of_row (bitmap_seen Id.store seat.old version) y)
+        index }
+{
+    let position = y as u32 / 64 * across + index;
+    seat.look_row(version, slot, position, y % 64)
 }

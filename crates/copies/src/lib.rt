@@ -5,7 +5,6 @@
 mod copy;
 mod copying;
 mod looks;
-mod reading;
 mod room;
 
 pub use copy::VersionCopy;

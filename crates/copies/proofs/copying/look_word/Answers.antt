@@ -4,7 +4,7 @@ use Rattle.bits.specs.Words.{words_across}
 use Rattle.clearance.proofs.RowWords.{tile_row_in_row}
 use Rattle.copies.specs.Copies.{bitmap_seen}
 use Rattle.copies.proofs.ReadingLemmas.{position_inside}
-use Rattle.copies.proofs.reading.look_word.Goals as goal
+use Rattle.copies.proofs.copying.look_word.Goals as goal
 
 pub look_row-requires-clause-inside : goal.look_row-requires-clause-inside
 look_row-requires-clause-inside g c =
