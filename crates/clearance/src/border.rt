@@ -3,11 +3,10 @@
 ghost use Rattle.std.specs.Prelude.{◌≡◌, ◌<◌, ◌≤◌, Some};
 ghost use Rattle.metric.specs.Nearest.{IsNear};
 ghost use Rattle.metric.specs.declared.edge.Edge.TheVariants.{Open, Wall};
-ghost use Rattle.bits.specs.Cells.{IsBitmap, IsInside, IsObstacle};
+ghost use Rattle.bits.specs.Cells.{IsInside};
 ghost use Rattle.bits.specs.Edges.{IsBlocked};
 ghost use Rattle.clearance.specs.Firsts.{IsCellNear};
 ghost use Rattle.clearance.specs.Frames.{IsLoweredByFrame};
-ghost use Rattle.clearance.specs.Nearest.{IsFoundBelow};
 ghost use Rattle.clearance.specs.Search.{IsLeastBelow, IsRectIn};
 
 use crate::far::{least_in_bits, nearest, nearest_below};
@@ -33,23 +32,14 @@ pub fn nearest_spot<M: Metric, R: Rows>(
     ensures rows { rows.new ≡ rows.old }
 {
     match edge {
-        Edge::Open => nearest_open::<M, R>(rows, cell, limit),
+        Edge::Open => {
+            let inside = holds(rows, cell);
+            prove!(inside);
+            let found = nearest::<M, R>(rows, cell, limit)?;
+            Some(found.as_near(Edge::Open))
+        }
         Edge::Wall => Some(nearest_walled::<M, R>(rows, cell)),
     }
-}
-
-/// As `nearest_spot`, with an open edge.
-fn nearest_open<M: Metric, R: Rows>(rows: &mut R, cell: Cell, limit: u64) -> Option<Near>
-    requires inside { IsInside (R.cells rows.old) cell.x cell.y }
-    requires near { limit < NO_LIMIT → IsCellNear M.distance (IsBlocked (R.cells rows.old) Open)
-        limit cell.x cell.y }
-    ensures near { IsNear M.distance (IsBlocked (R.cells rows.old) Open) cell.x cell.y result }
-    ensures rows { rows.new ≡ rows.old }
-{
-    let inside = holds(rows, cell);
-    prove!(inside);
-    let found = nearest::<M, R>(rows, cell, limit)?;
-    Some(found.as_near(Edge::Open))
 }
 
 /// The nearest obstacle of the cell, with a wall: it searches the bits no further than the frame.
@@ -79,19 +69,12 @@ pub fn least_below<M: Metric, R: Rows>(rows: &mut R, edge: Edge, rect: Rect, lim
 {
     match edge {
         Edge::Open => least_in_bits::<M, R>(rows, rect, limit),
-        Edge::Wall => least_walled::<M, R>(rows, rect, limit),
+        Edge::Wall => {
+            let (width, height) = (rows.width(), rows.height());
+            let lowered = lowered_by_frame::<M>(width, height, rect, limit);
+            least_in_bits::<M, R>(rows, rect, lowered)
+        }
     }
-}
-
-/// As `least_below`, with a wall.
-fn least_walled<M: Metric, R: Rows>(rows: &mut R, rect: Rect, limit: u64) -> u64
-    requires { IsRectIn (R.cells rows.old) rect }
-    ensures least { IsLeastBelow M.distance (IsBlocked (R.cells rows.old) Wall) rect limit result }
-    ensures rows { rows.new ≡ rows.old }
-{
-    let (width, height) = (rows.width(), rows.height());
-    let lowered = lowered_by_frame::<M>(width, height, rect, limit);
-    least_in_bits::<M, R>(rows, rect, lowered)
 }
 
 /// The limit, or a lesser distance of the rectangle to the frame of a map of this size.

@@ -75,26 +75,16 @@ pub fn columns_outside(rect: Rect, tile: u16, columns: u64) -> u16
         → result ≤ column_gap rect a }
 {
     let (left, right) = parts_of(columns, tile, rect.x0);
-    let to_right = columns_right(rect, tile, right);
+    let to_right = if right == 0 {
+        MOST_SIDE
+    } else {
+        (WORD_CELLS * tile + lowest_bit(right)).saturating_sub(rect.x1 - 1)
+    };
     if left == 0 {
         return to_right;
     }
     let last = WORD_CELLS * tile + highest_bit(left);
     to_right.min(rect.x0.saturating_sub(last))
-}
-
-/// As `columns_outside`, to the right of the rectangle.
-fn columns_right(rect: Rect, tile: u16, columns: u64) -> u16
-    requires { tile < 64 }
-    ensures few { result ≤ MOST_SIDE }
-    ensures apart { (a : ℕ) → a / WORD_CELLS ≡ tile → bit_at columns (a % WORD_CELLS) ≡ 1
-        → result ≤ column_gap rect a }
-{
-    if columns == 0 {
-        MOST_SIDE
-    } else {
-        (WORD_CELLS * tile + lowest_bit(columns)).saturating_sub(rect.x1 - 1)
-    }
 }
 
 /// The rows of a band that are fewer than `reach` rows outside the rectangle, of a map with this

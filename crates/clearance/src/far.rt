@@ -1,7 +1,7 @@
 //! Searches for the nearest obstacle: by tiles where obstacles seem to be far away, and otherwise
 //! by rows.
 
-ghost use Rattle.std.specs.Prelude.{◌≡◌, ◌<◌, ◌≤◌, None};
+ghost use Rattle.std.specs.Prelude.{◌≡◌, ◌<◌, None};
 ghost use Rattle.bits.specs.Cells.{IsInside, IsObstacle};
 ghost use Rattle.clearance.specs.Nearest.{IsFoundBelow};
 ghost use Rattle.clearance.specs.Search.{IsLeastInBits, IsRectIn};

@@ -1,9 +1,9 @@
 //! The nearest obstacle of one cell, searched in the words of a map.
 
-ghost use Rattle.std.specs.Prelude.{◌≡◌, ◌+◌, ◌<◌, ◌≤◌, ◌↔◌, IsTrue};
+ghost use Rattle.std.specs.Prelude.{◌≡◌, ◌+◌, ◌<◌, ◌≤◌};
 ghost use Rattle.std.specs.Int.{abs_diff};
 ghost use Rattle.bits.specs.Cells.{IsInside, IsObstacle};
-ghost use Rattle.clearance.specs.Nearest.{IsAhead, IsBetter, IsCellRect, IsFoundBelow, IsRowFirst};
+ghost use Rattle.clearance.specs.Nearest.{IsBetter, IsCellRect, IsFoundBelow, IsRowFirst};
 ghost use Rattle.clearance.specs.Nearest.{IsRowUpTo, IsSeenInRow, IsSought, IsWithin};
 ghost use Rattle.clearance.specs.Nearest.{IsWithinOrAbove};
 
@@ -232,14 +232,7 @@ fn better(best: Option<Found>, next: Found) -> Found
     ensures { IsBetter best next result }
 {
     match best {
-        Some(best) if is_ahead(best, next) => best,
+        Some(best) if (best.dist, best.cell.x) <= (next.dist, next.cell.x) => best,
         _ => next,
     }
-}
-
-/// Whether one obstacle comes before the other.
-fn is_ahead(one: Found, other: Found) -> bool
-    ensures { IsTrue result ↔ IsAhead one other }
-{
-    (one.dist, one.cell.x) <= (other.dist, other.cell.x)
 }

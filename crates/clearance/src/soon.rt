@@ -44,7 +44,11 @@ pub fn seems_far<M: Metric, R: Rows>(rows: &mut R, rect: Rect, gap: u16, limit: 
     if gap == 1 && is_met_inside::<M, R>(rows, rect) {
         return false;
     }
-    are_few_near(rows, rect)
+    if is_tall(rect) && !are_few_marked(rows, rect, 0, TILES_INSIDE) {
+        return false;
+    }
+    let most = u32::from(rect.y1 - rect.y0) / ROWS_A_TILE;
+    are_few_marked(rows, rect, FAR_GAP, most)
 }
 
 /// Whether a search by rows that is this far away, in rows, has at most this many left.
@@ -150,14 +154,4 @@ fn are_few_marked<R: Rows>(rows: &R, rect: Rect, gap: u16, most: u32) -> bool
         band = next_tile(marked, band + 1);
     }
     true
-}
-
-/// Whether few tiles within 32 cells of the rectangle may have an obstacle, none unless it has many
-/// rows.
-fn are_few_near<R: Rows>(rows: &R, rect: Rect) -> bool {
-    if is_tall(rect) && !are_few_marked(rows, rect, 0, TILES_INSIDE) {
-        return false;
-    }
-    let most = u32::from(rect.y1 - rect.y0) / ROWS_A_TILE;
-    are_few_marked(rows, rect, FAR_GAP, most)
 }

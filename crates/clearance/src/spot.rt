@@ -1,8 +1,8 @@
 //! The obstacle that comes first, seen from a rectangle: the nearest, of several the one that comes
 //! first in the order of a cell's obstacles.
 
-ghost use Rattle.std.specs.Prelude.{◌≡◌, ◌<◌, ◌≤◌, true};
-ghost use Rattle.clearance.specs.Search.{column_gap, row_gap};
+ghost use Rattle.std.specs.Prelude.{◌≡◌, ◌<◌, ◌≤◌};
+ghost use Rattle.clearance.specs.Search.{row_gap};
 ghost use Rattle.clearance.specs.Spots.{AreLeftOf, AreParts, AreRightFrom, IsInWord, IsLastBit};
 ghost use Rattle.clearance.specs.Nearest.{limit_with};
 ghost use Rattle.clearance.specs.Spots.{IsMerged, IsSpotBelow, IsSpotIf};

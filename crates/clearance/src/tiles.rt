@@ -1,6 +1,6 @@
 //! Skips tiles of 64 columns in a search, by those of a band that may have an obstacle.
 
-ghost use Rattle.std.specs.Prelude.{◌≡◌, ℕ, ◌<◌, ◌≤◌, true, false};
+ghost use Rattle.std.specs.Prelude.{◌≡◌, ℕ, ◌<◌, ◌≤◌, false};
 ghost use Rattle.std.specs.Int.{bit_at};
 ghost use Rattle.clearance.specs.Bands.{IsTiledRow};
 
