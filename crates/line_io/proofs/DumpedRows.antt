@@ -1,12 +1,28 @@
--- The rows of a dump that are written in pieces.
-use Rattle.std.proofs.Common.{◌≡◌, ℕ, ◌-◌, ◌*◌, ◌<◌, ◌≤◌, List, arith}
+-- A dump, and its rows, which are written in pieces.
+use Rattle.std.proofs.Common.{◌≡◌, ℕ, ◌-◌, ◌*◌, ◌<◌, ◌≤◌, List, ◌++◌, length, Result, refl, arith}
 use Rattle.std.specs.List.{range_with_len, flat_map}
 use Rattle.metric.specs.Wire.{Wire}
+use Rattle.metric.specs.declared.stream.WriteFault.{WriteFault}
 use Rattle.bits.specs.Cells.{Cells}
-use Rattle.pbm.specs.Writing.{plain_digit}
+use Rattle.pbm.specs.Writing.{plain_digit, plain_text}
 use Rattle.pbm.proofs.Ranges.{flat_map-rows}
-use Rattle.line_io.specs.Wire.{HasNotWritten, HasWritten}
+use Rattle.lines.specs.declared.answer.Answer.TheVariants as answers
+use Rattle.lines.specs.Replies.{reply_line}
+use Rattle.line_io.specs.Saying.{IsDumped}
+use Rattle.line_io.specs.Wire.{HasNotWritten, HasPut, HasWritten}
 use Rattle.line_io.proofs.Wires.{failed_first, failed_on, written_on}
+
+-- the number of an image's bytes and then the image, as far as they were written, are a dump
+pub dumped : (cells : Cells) (count : ℕ) (put : Result (Unit {0}) WriteFault) (old new : Wire)
+    → count ≡ length (plain_text cells)
+    → HasPut put old (reply_line (answers.Dumped count) ++ plain_text cells) new
+    → IsDumped cells put old new
+dumped cells count put old new is written = record {
+  answer = answers.Dumped count;
+  body = plain_text cells;
+  is_dump = (refl, is);
+  put = written;
+}
 
 -- the lines of the first rows are their digits, one row after another
 abbrev pub rows_text : Cells → ℕ → List ℕ

@@ -1,11 +1,9 @@
 //! The answer to DUMP: a reply line, then a plain image, written in pieces.
 
-ghost use Rattle.std.specs.Prelude.{◌≡◌, ◌*◌, ◌≤◌, ◌++◌, vec_capacity};
+ghost use Rattle.std.specs.Prelude.{◌*◌, ◌≤◌, vec_capacity};
 ghost use Rattle.std.specs.List.{range_with_len, flat_map};
-ghost use Rattle.pbm.specs.declared.header.Form.TheVariants.{Plain};
-ghost use Rattle.pbm.specs.Writing.{front_text, plain_digit, plain_text};
+ghost use Rattle.pbm.specs.Writing.{plain_digit};
 ghost use Rattle.line_io.specs.Saying.{IsDumped};
-ghost use Rattle.lines.specs.Replies.{reply_line};
 ghost use Rattle.line_io.specs.Wire.{CanGoOn, HasPut};
 
 use crate::saying::say;
@@ -27,32 +25,14 @@ pub fn say_dump<S: Stream>(
     requires { CanGoOn (S.wire stream.old) }
     ensures { IsDumped bitmap.now result (S.wire stream.old) (S.wire stream.new) }
 {
-    match first_piece(alloc, bitmap) {
-        Ok(mut piece) => {
-            let answer = Answer::Dumped(plain_length(bitmap, piece.as_slice()) as u64);
-            put_dump(stream, text, &answer, bitmap, &mut piece)
-        }
-        Err(refusal) => say(stream, text, &Answer::Refused(refusal)),
-    }
-}
-
-/// Writes a reply line, then the image that starts with this piece.
-fn put_dump<S: Stream>(
-    stream: &mut S,
-    text: &mut Text,
-    answer: &Answer,
-    bitmap: &Bitmap,
-    piece: &mut Vec<u8>,
-) -> Result<(), WriteFault>
-    requires wire { CanGoOn (S.wire stream.old) }
-    requires first { piece.old.items ≡ front_text Plain bitmap.now }
-    requires room { 65536 ≤ vec_capacity piece.old }
-    ensures { HasPut result (S.wire stream.old) (reply_line answer.now ++ plain_text bitmap.now)
-        (S.wire stream.new) }
-{
-    say(stream, text, answer)?;
+    let mut piece = match first_piece(alloc, bitmap) {
+        Ok(piece) => piece,
+        Err(refusal) => return say(stream, text, &Answer::Refused(refusal)),
+    };
+    let answer = Answer::Dumped(plain_length(bitmap, piece.as_slice()) as u64);
+    say(stream, text, &answer)?;
     put(stream, piece.as_slice())?;
-    put_rows(stream, bitmap, piece)
+    put_rows(stream, bitmap, &mut piece)
 }
 
 /// Writes the lines of all rows, piece by piece in the same buffer.

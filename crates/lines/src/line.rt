@@ -2,8 +2,7 @@
 
 ghost use Rattle.std.specs.Prelude.{◌≡◌, ◌≢◌, IfOk, IfErr, IsOkAnd, Ok, Err};
 ghost use Rattle.metric.specs.declared.refusal.Refusal.{Refusal};
-ghost use Rattle.lines.specs.Said.{said, said_by, verb_said, SaysPoints};
-ghost use Rattle.words.specs.Words.{words_left};
+ghost use Rattle.lines.specs.Said.{said, said_by, SaysPoints};
 
 use crate::command::{bare_line, read_order, read_stamp};
 use crate::query::{Query, read_query};
@@ -35,29 +34,6 @@ pub enum Line {
     Quit,
 }
 
-/// What a command says, with the rest of its line.
-fn line_of(alloc: Global, verb: Verb, rest: Option<&[u8]>) -> Result<Line, Refusal>
-    ensures line { IfOk result (λ line. verb_said verb (words_left rest.entry)
-        ≡ Ok (said_by line)) }
-    ensures refusal { IfErr result (λ refusal. refusal ≢ Refusal.Memory
-        → verb_said verb (words_left rest.entry) ≡ Err refusal) }
-    ensures memory { result ≡ Err Refusal.Memory
-        → IsOkAnd (verb_said verb (words_left rest.entry)) SaysPoints }
-{
-    match verb {
-        Verb::Order(order) => match read_order(order, rest) {
-            Some(command) => Ok(Line::Command(command)),
-            None => Err(Refusal::BadArguments),
-        },
-        Verb::Ask(kind) => Ok(Line::Query(read_query(alloc, kind, rest)?)),
-        Verb::Stamp => read_stamp(rest).ok_or(Refusal::BadArguments),
-        Verb::Pin => bare_line(rest, Line::Pin).ok_or(Refusal::BadArguments),
-        Verb::Unpin => bare_line(rest, Line::Unpin).ok_or(Refusal::BadArguments),
-        Verb::Dump => bare_line(rest, Line::Dump).ok_or(Refusal::BadArguments),
-        Verb::Quit => bare_line(rest, Line::Quit).ok_or(Refusal::BadArguments),
-    }
-}
-
 /// Parses a line without its LF and the CR before it. A number has 1 to 10 digits, and is at most
 /// 4294967295.
 ///
@@ -72,8 +48,19 @@ pub fn parse_line(alloc: Global, bytes: &[u8]) -> Result<Line, Refusal>
         → said bytes.now ≡ Err refusal) }
     ensures memory { result ≡ Err Refusal.Memory → IsOkAnd (said bytes.now) SaysPoints }
 {
-    match split_verb(bytes) {
-        Some((verb, rest)) => line_of(alloc, verb, rest),
-        None => Err(Refusal::UnknownCommand),
+    let Some((verb, rest)) = split_verb(bytes) else {
+        return Err(Refusal::UnknownCommand);
+    };
+    match verb {
+        Verb::Order(order) => match read_order(order, rest) {
+            Some(command) => Ok(Line::Command(command)),
+            None => Err(Refusal::BadArguments),
+        },
+        Verb::Ask(kind) => Ok(Line::Query(read_query(alloc, kind, rest)?)),
+        Verb::Stamp => read_stamp(rest).ok_or(Refusal::BadArguments),
+        Verb::Pin => bare_line(rest, Line::Pin).ok_or(Refusal::BadArguments),
+        Verb::Unpin => bare_line(rest, Line::Unpin).ok_or(Refusal::BadArguments),
+        Verb::Dump => bare_line(rest, Line::Dump).ok_or(Refusal::BadArguments),
+        Verb::Quit => bare_line(rest, Line::Quit).ok_or(Refusal::BadArguments),
     }
 }

@@ -1,10 +1,8 @@
 //! Queries, and what they ask.
 
-ghost use Rattle.std.specs.Prelude.{◌≡◌, ◌≢◌, option_map, option_and_then, IfOk, IfErr, IsOkAnd};
-ghost use Rattle.std.specs.Prelude.{Ok, Err};
+ghost use Rattle.std.specs.Prelude.{◌≡◌, ◌≢◌, IfOk, IfErr, IsOkAnd, Ok, Err};
 ghost use Rattle.metric.specs.declared.refusal.Refusal.{Refusal};
-ghost use Rattle.lines.specs.Asked.{arguments_asked, asked_by, query_asked, rect_of, HasPoints};
-ghost use Rattle.words.specs.Numbers.{points, pair};
+ghost use Rattle.lines.specs.Asked.{arguments_asked, asked_by, HasPoints};
 ghost use Rattle.words.specs.Words.{words_left};
 
 use crate::arguments::{read_metric, read_rect};
@@ -70,38 +68,15 @@ pub fn read_query(alloc: Global, kind: QueryKind, rest: Option<&[u8]>) -> Result
     let Some((metric, rest)) = read_metric(rest) else {
         return Err(Refusal::BadArguments);
     };
-    query_by(alloc, kind, metric, rest)
-}
-
-/// The query of the rectangle in the rest of a line.
-fn rect_query(metric: MetricKind, rest: Option<&[u8]>) -> Option<Query>
-    ensures { option_map asked_by result ≡ option_and_then (λ corners. rect_of metric corners)
-        (pair (points (words_left rest.entry))) }
-{
-    let rect = read_rect(rest)?;
-    Some(Query::Rect { metric, rect })
-}
-
-/// The query in the rest of a line after the metric.
-fn query_by(
-    alloc: Global,
-    kind: QueryKind,
-    metric: MetricKind,
-    rest: Option<&[u8]>,
-) -> Result<Query, Refusal>
-    ensures query { IfOk result (λ query. query_asked kind metric (words_left rest.entry)
-        ≡ Ok (asked_by query)) }
-    ensures refusal { IfErr result (λ refusal. refusal ≢ Refusal.Memory
-        → query_asked kind metric (words_left rest.entry) ≡ Err refusal) }
-    ensures memory { result ≡ Err Refusal.Memory
-        → IsOkAnd (query_asked kind metric (words_left rest.entry)) HasPoints }
-{
     match kind {
         QueryKind::At => match read_point(rest) {
             Some(cell) => Ok(Query::At { metric, cell }),
             None => Err(Refusal::BadArguments),
         },
-        QueryKind::Rect => rect_query(metric, rest).ok_or(Refusal::BadArguments),
+        QueryKind::Rect => match read_rect(rest) {
+            Some(rect) => Ok(Query::Rect { metric, rect }),
+            None => Err(Refusal::BadArguments),
+        },
         QueryKind::Path => {
             let points = read_path(alloc, rest)?;
             Ok(Query::Path { metric, points })

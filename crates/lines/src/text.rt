@@ -1,6 +1,6 @@
 //! Texts of a fixed capacity.
 
-ghost use Rattle.std.specs.Prelude.{◌≡◌, ◌<◌, ◌≤◌, ◌+◌, ◌++◌, [], length, false, IfOk, IfErr};
+ghost use Rattle.std.specs.Prelude.{◌≡◌, ◌<◌, ◌≤◌, ◌+◌, ◌++◌, [], length, false, IfOk};
 ghost use Rattle.std.specs.Fmt.{decimal, digit_glyph, signed_decimal};
 ghost use Rattle.lines.specs.Hex.{hex_digits};
 

@@ -55,18 +55,6 @@ fn short_number(bytes: &[u8]) -> Option<(u32, Option<&[u8]>)>
     Some((value, Some(&bytes[count + 1..])))
 }
 
-/// The number that the next word spells, and the rest after it, by the word alone.
-fn word_number(rest: Option<&[u8]>) -> Option<(u32, Option<&[u8]>)>
-    ensures first { MatchOption result (first_of number (words_left rest.entry) ≡ None)
-        (λ found. first_of number (words_left rest.entry) ≡ Some (found.0, words_left found.1)) }
-    ensures fewer { IfSome result (λ found. bytes_left found.1 < bytes_left rest.entry) }
-    ensures small { bytes_left rest.entry ≤ 2 ^ 64 }
-{
-    let (word, rest) = next_word(rest)?;
-    let number = read_number(word)?;
-    Some((number, rest))
-}
-
 /// The number that the next word spells, and the rest after it: in one pass over its digits if they
 /// are few.
 pub fn front_number(rest: Option<&[u8]>) -> Option<(u32, Option<&[u8]>)>
@@ -80,5 +68,7 @@ pub fn front_number(rest: Option<&[u8]>) -> Option<(u32, Option<&[u8]>)>
             return Some(found);
         }
     }
-    word_number(rest)
+    let (word, rest) = next_word(rest)?;
+    let number = read_number(word)?;
+    Some((number, rest))
 }

@@ -108,17 +108,6 @@ pub fn read_path(alloc: Global, rest: Option<&[u8]>) -> Result<Vec<Cell>, Refusa
             return kept_path(alloc, &cells[..count]);
         }
     }
-    read_long_path(alloc, rest)
-}
-
-/// As `read_path`, of a line that may have many points.
-fn read_long_path(alloc: Global, rest: Option<&[u8]>) -> Result<Vec<Cell>, Refusal>
-    ensures cells { IfOk result (λ cells. path_of (points (words_left rest.entry))
-        ≡ Ok cells.items) }
-    ensures refusal { IfErr result (λ refusal. refusal ≢ Refusal.Memory
-        → path_of (points (words_left rest.entry)) ≡ Err refusal) }
-    ensures memory { result ≡ Err Refusal.Memory → IsOk (path_of (points (words_left rest.entry))) }
-{
     let mut cells = [Cell { x: 0, y: 0 }; MOST_POINTS];
     let Some(count) = read_points(rest, &mut cells) else {
         return Err(Refusal::BadArguments);

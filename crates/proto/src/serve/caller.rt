@@ -126,7 +126,13 @@ impl<Id: StoreName> Caller<Id> {
     {
         let Caller { seat } = self;
         match seat {
-            Seat::Free(session) => pin_session(alloc, session),
+            Seat::Free(session) => match session.pin(alloc) {
+                Ok(pinned) => {
+                    let version = pinned.version();
+                    (Caller::holding(pinned), Answer::Version(version))
+                }
+                Err((session, refusal)) => (Caller::new(session), Answer::Refused(refusal)),
+            },
             Seat::Holding(pinned) => (
                 Caller::holding(pinned),
                 Answer::Refused(Refusal::AlreadyPinned),
@@ -168,18 +174,5 @@ fn told(applied: Result<Reply, (Command, Refusal)>) -> Answer
     match applied {
         Ok(reply) => Answer::Done(reply),
         Err((_, refusal)) => Answer::Refused(refusal),
-    }
-}
-
-/// Pins the newest version for a session.
-fn pin_session<Id: StoreName>(alloc: Global, session: Session<Id>) -> (Caller<Id>, Answer)
-    ensures { IsPinAnswer Id.store (free session) result.1 result.0 }
-{
-    match session.pin(alloc) {
-        Ok(pinned) => {
-            let version = pinned.version();
-            (Caller::holding(pinned), Answer::Version(version))
-        }
-        Err((session, refusal)) => (Caller::new(session), Answer::Refused(refusal)),
     }
 }

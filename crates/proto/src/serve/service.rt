@@ -1,10 +1,10 @@
 //! Serves one line of a stream: reads it, answers it and writes the answer.
 
 ghost use Rattle.std.specs.Prelude.{◌≡◌, ℕ, List, Ok};
-ghost use Rattle.proto.specs.Exchanges.{IsStampAnswer, line_said, line_seen_in};
+ghost use Rattle.proto.specs.Exchanges.{IsStampAnswer, line_seen_in};
 ghost use Rattle.lines.specs.Replies.{reply_line};
 ghost use Rattle.lines.specs.Said as saids;
-ghost use Rattle.proto.specs.Served.{HasHeard, IsHeard, IsSaid, IsServed, end_after};
+ghost use Rattle.proto.specs.Served.{HasHeard, IsSaid, IsServed, end_after};
 ghost use Rattle.line_io.specs.Counted.{AreKept};
 ghost use Rattle.metric.specs.Wire.{Wire};
 ghost use Rattle.line_io.specs.Wire.{CanGoOn};
@@ -57,7 +57,7 @@ impl<'a, Id: StoreName, R: Wait> Service<'a, Id, R> {
     {
         match self.line.read(stream) {
             Ok(()) => {
-                let asked = hear(self.alloc, self.line.as_bytes());
+                let asked = parse_line(self.alloc, without_cr(self.line.as_bytes()));
                 self.serve(caller, asked, stream)
             }
             Err(End::LineTooLong) => {
@@ -177,13 +177,6 @@ impl<'a, Id: StoreName, R: Wait> Service<'a, Id, R> {
         let end = end_of(say(stream, &mut self.text, &answer));
         (caller, end)
     }
-}
-
-/// What a line of a stream says, without the CR at its end.
-fn hear(alloc: Global, line: &[u8]) -> Result<Line, Refusal>
-    ensures { IsHeard (line_said line.now) (line_seen_in result) }
-{
-    parse_line(alloc, without_cr(line))
 }
 
 /// How the stream ends if a write failed.

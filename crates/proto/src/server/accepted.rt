@@ -1,6 +1,6 @@
 //! The connections of a listener, one after another.
 
-ghost use Rattle.std.specs.Prelude.{◌≡◌, ◌≤◌, IfSome};
+ghost use Rattle.std.specs.Prelude.{◌≡◌, IfSome};
 
 use crate::server::pause::Pause;
 use crate::workers::Streams;

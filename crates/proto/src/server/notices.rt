@@ -1,6 +1,6 @@
 //! The two lines that a server writes: its port, and at the end how much it served.
 
-ghost use Rattle.std.specs.Prelude.{◌≡◌, ◌≤◌, length};
+ghost use Rattle.std.specs.Prelude.{◌≡◌};
 ghost use Rattle.proto.specs.Server.{listening_text, served_text};
 
 use lines::Text;

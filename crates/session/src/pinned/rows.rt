@@ -1,7 +1,7 @@
 //! The words of the pinned version: a fresh pin reads only those that a query asks for, or their
 //! bands.
 
-ghost use Rattle.std.specs.Prelude.{◌≡◌, ◌<◌, ◌≤◌};
+ghost use Rattle.std.specs.Prelude.{◌<◌};
 
 use crate::pinned::Pinned;
 use clearance::Rows;
