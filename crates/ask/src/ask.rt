@@ -1,6 +1,6 @@
 //! The command `ask`: sends lines to a server, and prints its replies.
 
-ghost use Rattle.std.specs.Prelude.{◌≡◌, ◌≢◌, ◌≤◌, ◌+◌, ◌++◌, ◌∷◌, [], IfOk, OnOk, OnErr, IfErr};
+ghost use Rattle.std.specs.Prelude.{◌≡◌, ◌≢◌, ◌≤◌, ◌+◌, OnOk, OnErr, IfErr};
 ghost use Rattle.std.specs.Prelude.{Err, Ok, true, false, bytes_eq};
 ghost use Rattle.metric.specs.Stream.{Appends, AppendsFront, CanFail, Counts};
 ghost use Rattle.ask.specs.Talking.{Breaks, Completes, Converses, Exchanges, talk_at};

@@ -1,8 +1,8 @@
 //! The words that the program accepts, by `clap`.
 
 ghost use Rattle.std.specs.Prelude.{◌≡◌, ℕ, List, [], ◌∷◌, IfOk, IfErr, OnErr, MatchResult, true};
-ghost use Rattle.std.specs.Prelude.{false, map, option_and_then, Some, None, codes};
-ghost use Rattle.clap.specs.Words.{HasMatchesOf, app_of, first_of, found_of, kind_of};
+ghost use Rattle.std.specs.Prelude.{false, map, option_and_then, Some, codes};
+ghost use Rattle.clap.specs.Words.{HasMatchesOf, app_of, found_of, kind_of};
 ghost use Rattle.clap.specs.Words.{rows_of, rule_of, takes};
 ghost use Rattle.clap.specs.declared.builder.command.Command.TheViews.{out-Command};
 ghost use Rattle.clap.specs.declared.error.kind.ErrorKind.TheVariants.{OutOfMemory};
@@ -13,7 +13,6 @@ ghost use Rattle.command_line.specs.CommandLine.{AreDistOptions, AreNoDistOption
 ghost use Rattle.command_line.specs.CommandLine.{AreTaken, IsDefaultDist, program_app, texts_of};
 ghost use Rattle.command_line.specs.ServeLine.{flag_text};
 ghost use Rattle.command_line.specs.Tables.{app_of_entry, rule_of_flag, with_entries};
-ghost use Rattle.command_line.specs.Tables.{with_flag_rules};
 
 use crate::arguments::{DistOptions, Fault, Options};
 use crate::serve_words::{edge_given, number_given, serve_or_ask};
@@ -120,29 +119,14 @@ fn command_of<'a>(alloc: Global, entry: Entry<'a>) -> Result<Command<'a>, AllocE
     ensures app { IfOk result (λ command. app_of command ≡ app_of_entry entry.entry) }
     ensures local { IfOk result (λ command. (out-Command command).has_globals ≡ false) }
 {
-    let command = Command::new(alloc, entry.name)
+    let mut command = Command::new(alloc, entry.name)
         .override_usage(entry.usage)
         .about(entry.about)
         .after_help(entry.after_help);
-    with_flags(alloc, command, entry.flags)
-}
-
-/// The command with these flags, too.
-fn with_flags<'a>(
-    alloc: Global,
-    command: Command<'a>,
-    flags: &[Flag<'a>],
-) -> Result<Command<'a>, AllocError>
-    ensures app { IfOk result (λ made. app_of made ≡ with_flag_rules (app_of command.entry)
-        flags.now) }
-    ensures local { IfOk result (λ made. (out-Command command.entry).has_globals ≡ false
-        → (out-Command made).has_globals ≡ false) }
-{
-    let mut made = command;
-    for flag in flags {
-        made = made.arg(flag_of(alloc, *flag))?;
+    for flag in entry.flags {
+        command = command.arg(flag_of(alloc, *flag))?;
     }
-    Ok(made)
+    Ok(command)
 }
 
 /// A flag.

@@ -3,13 +3,12 @@
 ghost use Rattle.std.specs.Prelude.{◌≡◌, ◌≤◌, IfOk, OnErr, MatchResult, Some, None};
 ghost use Rattle.std.specs.Prelude.{codes, option_and_then};
 ghost use Rattle.clap.specs.Words.{found_of, rows_of};
-ghost use Rattle.clap.specs.Matches.{subcommand_name_of};
 ghost use Rattle.metric.specs.Edge.{edge_named};
 ghost use Rattle.words.specs.Numbers.{number};
 ghost use Rattle.command_line.specs.declared.arguments.AskOptions.{AskOptions as TheAskOptions};
 ghost use Rattle.command_line.specs.declared.arguments.ServeOptions.{ServeOptions as TheServeOptions};
 ghost use Rattle.command_line.specs.ServeLine.{AreAskOptions, AreMatched, AreNoMatch};
-ghost use Rattle.command_line.specs.ServeLine.{AreServeOptions, flag_text, in_range, within};
+ghost use Rattle.command_line.specs.ServeLine.{AreServeOptions, flag_text, in_range};
 
 use crate::arguments::{AskOptions, Fault, Options, ServeOptions};
 use clap::ArgMatches;

@@ -1,6 +1,6 @@
 //! The first line of steps, and the world that it opens.
 
-ghost use Rattle.std.specs.Prelude.{◌≡◌, ◌≢◌, ◌∷◌, ◌++◌, [], Ok, Err, true, false, option_and_then};
+ghost use Rattle.std.specs.Prelude.{◌≡◌, ◌≢◌, Ok, Err, true, false, option_and_then};
 ghost use Rattle.std.specs.Prelude.{IfOk, IfErr, IfSome, IsOk, MatchOption};
 ghost use Rattle.bits.specs.Cells.{IsSide};
 ghost use Rattle.events.specs.Runs.{IsOpened};

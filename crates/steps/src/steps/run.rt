@@ -1,10 +1,9 @@
 //! The world of a text, and the answers to its lines.
 
-ghost use Rattle.std.specs.Prelude.{◌≡◌, ◌≤◌, ◌∷◌, ◌++◌, [], length, IfOk, OnOk, OnErr};
-ghost use Rattle.metric.specs.Stream.{Appends, AppendsFront, Counts, CanFail};
+ghost use Rattle.std.specs.Prelude.{◌≡◌, ◌≤◌, length, IfOk, OnOk, OnErr};
+ghost use Rattle.metric.specs.Stream.{Counts, CanFail};
 ghost use Rattle.steps.specs.StepLines.{step_said};
-ghost use Rattle.steps.specs.StepRuns.{IsAnswerLine, AreLinesDone, IsDoneInPart};
-ghost use Rattle.steps.specs.StepRuns.{IsWorldTold, IsToldInPart};
+ghost use Rattle.steps.specs.StepRuns.{IsAnswerLine, IsWorldTold, IsToldInPart};
 ghost use Rattle.steps.specs.Steps.{IsBegun, IsAnsweredWhole, KeepsAll};
 ghost use Rattle.words.specs.TextLines.{lines_of};
 
@@ -45,30 +44,6 @@ fn answer_line(alloc: Global, world: &mut World, line: &[u8], text: &mut Text)
     }
 }
 
-/// Answers the lines of a text, one after another.
-fn answer_lines<W: Sink>(
-    alloc: Global,
-    world: &mut World,
-    text: &mut Text,
-    lines: &[u8],
-    writer: &mut W,
-) -> Result<(), WriteFault>
-    requires { CanFail (W.failed_writes writer.old) }
-    ensures all { OnOk result (AreLinesDone world.old (lines_of lines.now) (W.held writer.old)
-        (W.held writer.new) world.new) }
-    ensures front { OnErr result
-        (IsDoneInPart world.old (lines_of lines.now) (W.held writer.old) (W.held writer.new)) }
-    ensures counts { Counts (W.failed_writes writer.old) result (W.failed_writes writer.new) }
-{
-    let mut rest = lines;
-    'lines: while let Some((line, others)) = split_line(rest) {
-        answer_line(alloc, world, line, text);
-        writer.write_all(text.as_bytes())?;
-        rest = others;
-    }
-    Ok(())
-}
-
 /// Writes the number of positions of a world's map, and the answers to the lines of a text.
 fn write_world<W: Sink>(
     alloc: Global,
@@ -89,7 +64,12 @@ fn write_world<W: Sink>(
     let (world, text) = (&mut opened.world, &mut opened.text);
     opened_line(opened.tiles, text);
     writer.write_all(text.as_bytes())?;
-    answer_lines(alloc, world, text, lines, writer)?;
+    let mut rest = lines;
+    'lines: while let Some((line, others)) = split_line(rest) {
+        answer_line(alloc, world, line, text);
+        writer.write_all(text.as_bytes())?;
+        rest = others;
+    }
     writer.flush()?;
     Ok(DONE)
 }
