@@ -9,8 +9,7 @@ use command_line::{
     words_of,
 };
 use engines::run_said;
-use metric::{Refusal, Sink, Source};
-use std::alloc::Global;
+use metric::{Refusal, Source};
 use std::fs::{File, Files};
 use std::io;
 use std::io::Write;
@@ -73,8 +72,8 @@ where
     Ok(run_hinted(rt, held, said, &mut reader, &mut writer))
 }
 
-/// Runs what words have said, if the streams that it needs are open, with hints to who has typed
-/// them. Returns the exit status.
+/// Runs what words have said, if the streams that it needs are open, or reports why they are
+/// refused, with hints to who has typed them. Returns the exit status.
 fn run_hinted<R, S: Source, W: Write + Drop>(
     rt: &R,
     held: &Held,
@@ -99,29 +98,14 @@ where
     }
     let asked = Asked::by(&said);
     tell_waiting(rt, asked);
-    let status = run_options(rt, rt.alloc(), said, reader, writer);
+    let alloc = rt.alloc();
+    let status = match said {
+        Ok(Options::Serve(options)) => serve(rt, alloc, &options, reader, writer),
+        Ok(Options::Ask(options)) => ask(rt, alloc, options.port, reader, writer),
+        said => run_said(rt, alloc, said, reader, writer, &mut ErrorSink::new(rt)),
+    };
     if status == REFUSED {
         tell_cure(rt, asked, writer.start());
     }
     status
-}
-
-/// Runs what words have said, or reports why they are refused. Returns the exit status.
-fn run_options<R, S: Source, W: Sink>(
-    rt: &R,
-    alloc: Global,
-    said: Result<Options<'_>, Fault<'_>>,
-    reader: &mut S,
-    writer: &mut W,
-) -> u8
-where
-    R: Eprint + Clock + Net<Listener = TcpListener, Stream = TcpStream> + Wait + Threads + Sync,
-    requires reader { CanFail (S.failed_reads reader.old) }
-    requires writer { CanFail (W.failed_writes writer.old) }
-{
-    match said {
-        Ok(Options::Serve(options)) => serve(rt, alloc, &options, reader, writer),
-        Ok(Options::Ask(options)) => ask(rt, alloc, options.port, reader, writer),
-        said => run_said(rt, alloc, said, reader, writer, &mut ErrorSink::new(rt)),
-    }
 }

@@ -1,6 +1,6 @@
 //! The command `serve`, from its options on: reads the map, and listens.
 
-ghost use Rattle.std.specs.Prelude.{◌≡◌, ◌≢◌, IfErr, IfSome};
+ghost use Rattle.std.specs.Prelude.{IfErr, IfSome};
 ghost use Rattle.metric.specs.Stream.{CanFail};
 ghost use Rattle.streams.specs.Refusals.{HasWordsAlone};
 

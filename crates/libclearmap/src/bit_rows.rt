@@ -4,7 +4,7 @@ ghost use Rattle.std.specs.Prelude.{◌≡◌, ◌≢◌, IfErr, IfOk, length};
 ghost use Rattle.bits.specs.Words.{words_across};
 ghost use Rattle.libclearmap.specs.Layouts.{IsShape, cells_of_bits};
 ghost use Rattle.libclearmap.specs.Rows.{cells_of};
-ghost use Rattle.libclearmap.specs.Statuses.{bits_status, marks_status, tiles_status};
+ghost use Rattle.libclearmap.specs.Statuses.{bits_status, marks_status};
 
 use crate::bit_map::BitMap;
 use crate::layout::ClearmapBits;

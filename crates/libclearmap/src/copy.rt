@@ -1,7 +1,7 @@
 //! Copies of a map that is read word by word: as a bitmap, and as words.
 
 ghost use Rattle.std.specs.Prelude.{◌≡◌, ℕ, ◌<◌, ◌≤◌, ◌+◌, ◌*◌, IfOk, IfErr, length};
-ghost use Rattle.std.specs.Prelude.{◌≢◌, ◌/◌, false, slice_index};
+ghost use Rattle.std.specs.Prelude.{◌/◌, false, slice_index};
 ghost use Rattle.std.specs.Int.{bit_at};
 ghost use Rattle.bits.specs.Cells.{IsObstacle};
 ghost use Rattle.bits.specs.Stored.{cells_stored, is_stored};

@@ -1,7 +1,7 @@
 //! The queries of cells, rectangles and paths, over a map that is read word by word. None allocates
 //! memory.
 
-ghost use Rattle.std.specs.Prelude.{◌≡◌, ◌≢◌, ◌<◌, negsuc, ◌≤ℤ◌, IfSome, IsSome, ◌↔◌};
+ghost use Rattle.std.specs.Prelude.{◌≡◌, ◌≢◌, ◌<◌};
 ghost use Rattle.metric.specs.Nearest.{IsNear};
 ghost use Rattle.bits.specs.Edges.{IsBlocked};
 ghost use Rattle.libclearmap.specs.Kept.{found_kept, near_kept};
@@ -14,7 +14,7 @@ use crate::search::{Search, find_by};
 use crate::setting::{Setting, at_by, edge_of, kind_of};
 use crate::status::{DONE, OUTSIDE, refusal_status, setting_status};
 use clearance::Rows;
-use metric::{Cell, Near};
+use metric::Cell;
 
 /// Writes the nearest obstacle of cell (`x`, `y`).
 pub fn at_in<R: Rows>(
@@ -75,20 +75,12 @@ pub fn find_in<R: Rows>(
     }
     let (kind, edge) = (kind_of(setting.metric), edge_of(setting.edge));
     match find_by::<R>(kind, rows, edge, search) {
-        Ok(first) => write_found(setting.range, first, found),
+        Ok(first) => {
+            if setting.range == DONE {
+                *found = found_of(first);
+            }
+            setting.range
+        }
         Err(refusal) => refusal_status(refusal),
     }
-}
-
-/// Writes the answer of a search, unless this status is that of a fault. Returns the status.
-fn write_found(status: u32, least: Option<(Cell, Near)>, found: &mut ClearmapFound) -> u32
-    requires { IfSome least (λ some. negsuc 0 ≤ℤ some.1.cell.x) }
-    ensures status { result ≡ status }
-    ensures found { result ≡ DONE → found_kept found.new ≡ least }
-    ensures refused { result ≢ DONE → found.new ≡ found.old }
-{
-    if status == DONE {
-        *found = found_of(least);
-    }
-    status
 }

@@ -68,7 +68,15 @@ fn map_of<R: Rows>(
         setting.metric setting.edge asked.now.start asked.now.end count) setting.range) status) }
     ensures some { IfErr result (λ status. status ≢ DONE) }
 {
-    let status = rows_status(rows, setting, asked, count);
+    let status = setting_status(setting.metric, setting.edge);
+    if status != DONE {
+        return Err(status);
+    }
+    if asked.end < asked.start || u32::from(rows.height()) < asked.end {
+        return Err(OUTSIDE);
+    }
+    let needed = (asked.end - asked.start) as usize * usize::from(rows.width());
+    let status = first_wrong(room_status(needed, count), setting.range);
     if status != DONE {
         return Err(status);
     }
@@ -76,24 +84,4 @@ fn map_of<R: Rows>(
         Ok(bitmap) => Ok(bitmap),
         Err(_) => Err(MEMORY),
     }
-}
-
-/// The status of a call for these rows of a map, memory aside.
-fn rows_status<R: Rows>(rows: &R, setting: Setting, asked: &Range<u32>, count: usize) -> u32
-    ensures status { result ≡ first_wrong (table_status (R.cells rows.now) setting.metric
-        setting.edge asked.now.start asked.now.end count) setting.range }
-    ensures order { result ≡ DONE → asked.now.start ≤ asked.now.end }
-    ensures within { result ≡ DONE → asked.now.end ≤ (R.cells rows.now).height }
-    ensures room { result ≡ DONE → (asked.now.end - asked.now.start) * (R.cells rows.now).width
-        ≤ count }
-{
-    let status = setting_status(setting.metric, setting.edge);
-    if status != DONE {
-        return status;
-    }
-    if asked.end < asked.start || u32::from(rows.height()) < asked.end {
-        return OUTSIDE;
-    }
-    let needed = (asked.end - asked.start) as usize * usize::from(rows.width());
-    first_wrong(room_status(needed, count), setting.range)
 }
