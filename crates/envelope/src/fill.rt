@@ -8,7 +8,7 @@ ghost use Rattle.envelope.specs.Pieces.{IsEnough, IsPiece};
 
 use crate::answer::CellValue;
 use crate::border::Border;
-use crate::columns::{distance, gap, near_at};
+use crate::columns::{distance, near_at};
 use crate::cover::Span;
 use crate::piece::Piece;
 use metric::Metric;
@@ -55,8 +55,7 @@ pub fn fill<M: Metric, A: CellValue, B: Border>(
             .saturating_sub(before);
         let high = end.saturating_sub(before).min(answers.len());
         'cells: for x in low..high {
-            let gap = gap(entries, y, span.column);
-            let dist = distance::<M>(span.column, gap, (x + before) as u16);
+            let dist = distance::<M>(span.column, span.gap, (x + before) as u16);
             answers[x] = A::with(near_at(entries, edge, usize::from(span.column), dist));
         }
         end = usize::from(span.start);

@@ -42,9 +42,13 @@ cells-init g c =
     let last = envelope_last _ (gap_of c.args.entries.now c.args.y)
     (IsColumnFrom c.args.entries.now c.args.piece.first c.args.piece.last) c.args.spans.now
     c.spans.count c.spans.end c.spans-test.true c.spans.invariant.covered in
+    let among = of_row c.args.entries.now c.args.piece span.column c.requires.piece
+    (last.0.best span.start (omega arith) last.0.some).among in
+    let row = c.requires.entries.each span.column among.left among.some in
     record {
-      among = of_row c.args.entries.now c.args.piece span.column c.requires.piece
-          (last.0.best span.start (omega arith) last.0.some).among;
+      among = among;
+      gap_is = last.0.gap_is;
+      gap_few = rw last.0.gap_is (omega (arith, row, c.requires.entries.seen_from));
       filled = search rules;
       others = search rules;
     }
@@ -74,11 +78,13 @@ cells-preserved g c =
           (λ column among. of_row c.args.entries.now c.args.piece column c.requires.piece among)
           (λ other among. c.requires.enough (p + k) other from (omega (arith, before, within)) among)
           (last.0.best (p + k) after before),
-      rw (c.near_at.ensures.near, c.distance-dist.ensures, c.gap-gap.ensures.gap)
+      rw (c.near_at.ensures.near, c.distance-dist.ensures, c.cells.invariant.gap_is)
           (rw (c.from-in-cells.ensures, c.EDGE-edge.ensures, is) refl),
     ) c.requires.row c.with.ensures in
     record {
       among = c.cells.invariant.among;
+      gap_is = c.cells.invariant.gap_is;
+      gap_few = c.cells.invariant.gap_few;
       filled = λ x after from below. set_more (λ x answer. span.start ≤ x + k
           → c.args.piece.from ≤ x + k
           → IsSaid g.A.CellValue.says g.M.Metric.distance c.args.entries.now c.args.y edge x answer)

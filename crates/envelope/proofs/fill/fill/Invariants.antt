@@ -10,6 +10,8 @@ use Rattle.envelope.proofs.fill.fill.Given as goal
 abbrev pub invariant-cells : goal.invariant-cells
 invariant-cells g l = record {
   among : IsAmong l.entries (length l.entries) l.span.column;
+  gap_is : l.span.gap ≡ gap_of l.entries l.y l.span.column;
+  gap_few : l.span.gap ≤ 4097;
   filled : (x : ℕ) → l.span.start ≤ x + shift g.B.Border.EDGE
       → l.piece.from ≤ x + shift g.B.Border.EDGE → x < l.x
       → IsSaid g.A.CellValue.says g.M.Metric.distance l.entries l.y g.B.Border.EDGE x
