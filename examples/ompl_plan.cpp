@@ -70,7 +70,7 @@ struct Clearance : ob::MinimaxObjective {
 
 int plan(char** words) {
     clearmap::Frame frame{std::stoi(words[2]), std::stoi(words[3]), std::stod(words[4]), std::stod(words[5]), std::stod(words[6])};
-    clearmap::Client client(static_cast<std::uint16_t>(std::stoi(words[1])), {frame.size()});
+    clearmap::Client client(std::stoi(words[1]), {frame.size()});
     clearmap::Pinned pinned = client.pin();
     Map map{pinned, frame, frame.clear_distance(std::stod(words[7]))};
 

@@ -3,14 +3,20 @@
 // input. Build: g++ -std=c++17 -I clients/cpp -o plan examples/plan.cpp
 #include <clearmap.hpp>
 #include <iostream>
+#include <sstream>
 
 int main(int count, char** words) {
     if (count != 7) return 2;
     clearmap::Frame frame{std::stoi(words[2]), std::stoi(words[3]), std::stod(words[4]), std::stod(words[5]), std::stod(words[6])};
     std::vector<clearmap::Point> plan;
-    for (clearmap::Point point; std::cin >> point.x >> point.y;) plan.push_back(point);
     try {
-        clearmap::Client client(static_cast<std::uint16_t>(std::stoi(words[1])), {frame.size()});
+        for (std::string line, more; std::getline(std::cin, line);) {
+            std::istringstream numbers(line);
+            clearmap::Point point;
+            if (!(numbers >> point.x >> point.y) || numbers >> more) throw clearmap::Error("'" + line + "' isn't X Y");
+            plan.push_back(point);
+        }
+        clearmap::Client client(std::stoi(words[1]), {frame.size()});
         clearmap::Pinned map = client.pin();
         auto path = frame.staircase(plan);
         if (!path) throw clearmap::Error("the plan has no point, or one outside the map");

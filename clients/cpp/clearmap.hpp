@@ -156,7 +156,9 @@ struct Options {
     FullLog full_log = FullLog::thrown;
     /// A call of the client that finds the connection closed reconnects first, to a map of the same
     /// size. A call whose reply was lost isn't repeated. A pin of the earlier connection stays
-    /// lost. The server may be another one, with versions and places that start again.
+    /// lost. The server may be another one, with versions and places that start again, and without
+    /// the draft: where paints were accepted and no call has thrown since, the first `publish` over
+    /// a new connection throws ConnectionLost, and publishes nothing.
     bool reconnect = false;
 };
 
@@ -345,7 +347,7 @@ public:
         socket_ = -1;
         owed_ = 0;
         pinned_ = 0;
-        busy_ = answered_ = false;
+        busy_ = answered_ = changed_ = false;
         buffer_.clear();
     }
 
@@ -355,7 +357,24 @@ public:
     void ready() {
         if (is_open()) return;
         if (finished_ || !options_.reconnect) throw ConnectionLost("the connection is closed");
+        bool changed = std::exchange(changed_, false);
         open();
+        draft_lost_ = draft_lost_ || changed;
+    }
+
+    /// Throws, once, if the draft that is to be published may be lost with an earlier connection.
+    void check_draft() {
+        if (std::exchange(draft_lost_, false))
+            throw ConnectionLost(
+                "the connection was lost after changes that aren't published, and another server "
+                "doesn't have them: paint again, and publish");
+    }
+
+    /// Marks that a command was accepted which leaves the draft with changes that aren't published,
+    /// or without.
+    void drafted(bool changed) {
+        changed_ = changed;
+        draft_lost_ = draft_lost_ && changed;
     }
 
     /// The same for calls of a pin, which no new connection has.
@@ -419,7 +438,7 @@ public:
         if (!said.refused) return numbers(said.words, count);
         done();
         int number = said.refused->number;
-        if (counts_bytes && (number == BadArguments || number == UnknownCommand)) drop();
+        if (counts_bytes && (number == BadArguments || number == UnknownCommand)) leave();
         throw *said.refused;
     }
 
@@ -605,11 +624,21 @@ private:
         char unasked[longest_reply];
         ssize_t n = ::recv(socket_, unasked, sizeof unasked, MSG_PEEK | MSG_DONTWAIT);
         if (n < 0 && (errno == EAGAIN || errno == EWOULDBLOCK || errno == EINTR)) return true;
+        if (n <= 0) {
+            leave();
+            return false;
+        }
         drop();
-        if (n <= 0) return false;
         std::string said(unasked, static_cast<std::size_t>(n));
         throw ConnectionLost("the server ended the connection with what nobody asked: " +
                              said.substr(0, said.find('\n')));
+    }
+
+    /// Closes the connection where no caller is told that it is lost.
+    void leave() noexcept {
+        bool changed = changed_;
+        drop();
+        changed_ = changed;
     }
 
     Clock::time_point next_deadline() const { return Clock::now() + timeout_; }
@@ -670,7 +699,7 @@ private:
         bool as_known = known && said[2] == known->first && found.size() == known->second;
         if (!as_known || said.size() != 3 + known->second + image) wrong(line);
         Refused refused(static_cast<int>(code), said[2], found, image ? said[3] : "", line);
-        if (code == LineTooLong || code == TooMuchData) drop();
+        if (code == LineTooLong || code == TooMuchData) leave();
         return refused;
     }
 
@@ -684,6 +713,8 @@ private:
     bool busy_ = false;            // a call has begun
     bool answered_ = false;        // on this connection
     bool finished_ = false;        // by `close`
+    bool changed_ = false;         // the draft, since it was published; no caller knows of a loss
+    bool draft_lost_ = false;      // such a one, with an earlier connection
     std::uint64_t pins_ = 0;       // made so far, on all connections
     std::uint64_t first_pin_ = 1;  // the first that this connection can have made
     std::uint64_t pinned_ = 0;     // the pin that is held, or 0
@@ -1061,14 +1092,27 @@ public:
     }
 
     /// Appends the draft as the next version, and returns its number. Refused as VersionsFull too.
-    std::uint32_t publish() { return change("PUBLISH", 2)[1]; }
+    /// Throws ConnectionLost if the draft may be lost, as `Options::reconnect` says.
+    std::uint32_t publish() {
+        detail::Turn turn(wire_);
+        turn->check_draft();
+        std::uint32_t version = change(*turn, "PUBLISH", 2)[1];
+        turn->drafted(false);
+        return version;
+    }
 
     /// Makes the draft the newest version again, and returns the place in the log.
-    std::uint32_t revert() { return change("REVERT", 1)[0]; }
+    std::uint32_t revert() {
+        detail::Turn turn(wire_);
+        std::uint32_t place = change(*turn, "REVERT", 1)[0];
+        turn->drafted(false);
+        return place;
+    }
 
     /// Frees what no kept version uses: the newest is kept, and each that a pin holds.
     Collected collect() {
-        auto n = change("COLLECT", 3);
+        detail::Turn turn(wire_);
+        auto n = change(*turn, "COLLECT", 3);
         return {n[0], n[1], n[2]};
     }
 
@@ -1093,20 +1137,22 @@ private:
     }
 
     /// The same, with a checkpoint in between if the log is full and the client allows it.
-    std::vector<std::uint32_t> change(const std::string& line, std::size_t count,
-                                      const char* data = nullptr, std::size_t size = 0) {
-        detail::Turn turn(wire_);
+    static std::vector<std::uint32_t> change(detail::Wire& wire, const std::string& line,
+                                             std::size_t count, const char* data = nullptr,
+                                             std::size_t size = 0) {
         try {
-            return sent(*turn, line, count, data, size);
+            return sent(wire, line, count, data, size);
         } catch (const Refused& refused) {
-            if (refused.number != LogFull || !turn->full_log_is_checkpointed()) throw;
+            if (refused.number != LogFull || !wire.full_log_is_checkpointed()) throw;
         }
-        sent(*turn, "CHECKPOINT", 1);
-        return sent(*turn, line, count, data, size);
+        sent(wire, "CHECKPOINT", 1);
+        return sent(wire, line, count, data, size);
     }
 
     Change draw(const std::string& line, const char* data = nullptr, std::size_t size = 0) {
-        auto n = change(line, 2, data, size);
+        detail::Turn turn(wire_);
+        auto n = change(*turn, line, 2, data, size);
+        turn->drafted(true);
         return {n[0], n[1]};
     }
 
@@ -1127,13 +1173,16 @@ struct Frame {
     double resolution, origin_x, origin_y;
 
     Frame() = default;
+    /// Throws std::invalid_argument for a resolution that isn't above 0.
     constexpr Frame(detail::Whole width, detail::Whole height, double resolution,
-                    double origin_x = 0, double origin_y = 0) noexcept
+                    double origin_x = 0, double origin_y = 0)
         : width(width),
           height(height),
           resolution(resolution),
           origin_x(origin_x),
-          origin_y(origin_y) {}
+          origin_y(origin_y) {
+        if (!(resolution > 0)) throw std::invalid_argument("a resolution is above 0");
+    }
 
     /// The size that a client of the map can expect.
     Size size() const { return {width, height}; }

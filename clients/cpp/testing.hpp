@@ -230,6 +230,7 @@ private:
         }
         if (asked[0] == "DUMP") return "OK 9\nP1\n1 1\n1\n";
         if (asked[0] == "QUIT") return "BYE\n";
+        if (asked[0] == "PUBLISH") return "OK 9 5\n";
         if (!draws(line)) return "OK 0\n";
         std::lock_guard<std::mutex> lock(mutex_);
         drawn_.push_back(line);

@@ -160,6 +160,16 @@ class OccupancyGrids(unittest.TestCase):
         self.assertEqual(made.at(0, 0), (5, (2, 1)))
         self.assertEqual(made, clearmap.Map([[0, 0, 0], [0, 0, 100]], low=65))
 
+    def test_rows_turned_round(self):
+        """Row 0 is then the highest in the world, as a frame has it."""
+        cells = [100, 0, 0, 0, 0, 0]  # an obstacle at the lower left
+        made = clearmap.Map.of_occupancy(cells, width=3, height=2, upwards=True)
+        self.assertEqual(made, clearmap.Map([[0, 0, 0], [100, 0, 0]], low=65))
+        frame = clearmap.Frame(3, 2, 0.5, -1, -1)
+        self.assertEqual(made.at(*frame.cell((-0.9, -0.9))), (0, (0, 1)))
+        plain = clearmap.Map.of_occupancy(cells, width=3, height=2, upwards=False)
+        self.assertEqual(plain.at(*frame.cell((-0.9, -0.9))).distance, 1)
+
     def test_cells_that_change_later(self):
         cells = np.zeros(6, np.int8)
         made = clearmap.Map.of_occupancy(cells, width=3, height=2)
@@ -190,6 +200,7 @@ class OccupancyGrids(unittest.TestCase):
         self.refused(TypeError, "whole number", occupied=0.65)
         self.refused(ValueError, "is no edge", edge="round")
         self.refused(TypeError, "where a bool is wanted", unknown_is_free="false")
+        self.refused(TypeError, "upwards is 'no', where a bool is wanted", upwards="no")
         with self.assertRaises(TypeError):  # sides in either order would fit
             clearmap.Map.of_occupancy([0] * 6, 3, 2)
 

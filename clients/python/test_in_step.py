@@ -256,6 +256,12 @@ class Servers(unittest.TestCase):
             with self.assertRaisesRegex(ValueError, "more than 0"):
                 clearmap.Client(1, timeout=seconds)
 
+    def test_all_time(self):
+        with Fake(b"OK 7\n") as fake, clearmap.Client(fake.port, timeout=float("inf")) as client:
+            self.assertEqual(client.revert(), 7)
+        with self.assertRaisesRegex(TypeError, "a port of True"):
+            clearmap.Client(True)
+
 
 class Reconnecting(unittest.TestCase):
     def restarted(self, image, server, *flags):
@@ -277,6 +283,45 @@ class Reconnecting(unittest.TestCase):
                     self.assertEqual(pinned.at(0, 0), (1, (1, 0)))
                     self.assertRaises(clearmap.ConnectionLost, old.at, 0, 0)
                     self.assertEqual(pinned.at(1, 0), (0, (1, 0)))
+
+    def test_a_draft_that_is_lost(self):
+        """Its paints were accepted, and no call has raised since its server ended: publish says so
+        once, and publishes nothing."""
+        with Served(POST) as server, clearmap.Client(server.port, reconnect=True) as client:
+            client.paint(0, 0, 1, 1)
+            other = self.restarted(POST, server)
+            client.collect()  # over the new connection, in silence
+            with self.assertRaisesRegex(clearmap.ConnectionLost, "paint again, and publish"):
+                client.publish()
+            client.paint(0, 0, 1, 1)
+            self.assertEqual(client.publish(), 1)
+            client.clear(0, 0, 1, 1)
+            other = self.restarted(POST, other)
+            client.paint(1, 1, 2, 2)
+            with self.assertRaisesRegex(clearmap.ConnectionLost, "paint again, and publish"):
+                client.publish()
+            with client.pin() as pinned:
+                self.assertEqual(pinned.version, 0)
+            self.assertEqual(client.publish(), 1)  # asked again, with what was painted since
+            client.paint(3, 3, 4, 4)
+            self.restarted(POST, other)
+            client.revert()  # nothing is left to lose
+            self.assertEqual(client.publish(), 1)
+
+    def test_a_draft_that_is_not_lost(self):
+        """It was published, or reverted, or whoever painted knows of the loss."""
+        with Served(POST) as server, clearmap.Client(server.port, reconnect=True) as client:
+            for finish in (client.publish, client.revert):
+                client.paint(0, 0, 1, 1)
+                finish()
+                server = self.restarted(POST, server)
+                self.assertEqual(client.publish(), 1)
+        painted = (b"OK 1 4\n", b"OK")
+        with Fake(*painted, then=(b"OK 1 5\n", b"OK 2 1\n")) as fake:
+            with clearmap.Client(fake.port, timeout=5, reconnect=True) as client:
+                client.paint(0, 0, 2, 2)
+                self.assertRaises(clearmap.ConnectionLost, client.paint, 2, 2, 3, 3)
+                self.assertEqual((client.paint(0, 0, 3, 3), client.publish()), ((1, 5), 1))
 
     def test_only_where_it_is_wanted(self):
         with Served(POST) as server, clearmap.Client(server.port) as client:

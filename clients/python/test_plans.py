@@ -112,6 +112,31 @@ class Places(unittest.TestCase):
         found = frame.point(frame.place(("0.1", "-1.7")))
         self.assertEqual(found, (Fraction(1, 10), Fraction(-17, 10)))
 
+    def test_numbers(self):
+        """A frame takes numbers for their decimals, and lengths are the same of any integers."""
+        exact = clearmap.Frame(100, 80, *map(Fraction, ("0.05", "0.1", "-0.3")))
+        for parts in ((0.05, 0.1, -0.3), ("0.05", "0.1", "-0.3"), np.array([0.05, 0.1, -0.3])):
+            self.assertEqual(clearmap.Frame(np.uint16(100), 80, *parts), exact)
+        self.assertEqual(clearmap.Frame(100, 80, 0.05, 0, 0).cell((0.15, 0.15)), (3, 76))
+        for kind in (np.uint32, np.int64, np.int32, np.uint64):
+            for square in (0, 1, 2, 16, 100, 6500, 33570818):
+                self.assertEqual(exact.metres(kind(square)), exact.metres(square))
+                self.assertEqual(exact.free_metres(kind(square)), exact.free_metres(square))
+        self.assertEqual((exact.metres(np.uint32(100)), exact.free_metres(2)), (0.5, 0))
+        none = clearmap.distances(np.zeros((1, 1), bool))[0, 0]
+        self.assertEqual((exact.metres(none), exact.free_metres(none)), (math.inf, math.inf))
+        self.assertRaisesRegex(clearmap.RosError, "0 or more", exact.metres, np.int64(-1))
+        for wrong in (2.5, "4", None, np.float64(4)):
+            self.assertRaisesRegex(TypeError, "a whole number is wanted", exact.metres, wrong)
+        for wrong in (0, -0.05, "x", math.nan, math.inf):
+            with self.assertRaises(clearmap.RosError):
+                clearmap.Frame(100, 80, wrong, 0, 0)
+        with self.assertRaises(TypeError):
+            clearmap.Frame(100.0, 80, 1, 0, 0)
+        plan = [(1.0, 1.0), (2.0, 0.5)]
+        self.assertEqual(exact.staircase(np.array(plan)), exact.staircase(plan))
+        self.assertRaisesRegex(clearmap.RosError, "no point", exact.staircase, np.zeros((0, 2)))
+
     def test_rounded_down(self):
         """Roots and floats against their definition, from the least float to the greatest."""
         chance = random.Random(5)

@@ -1,5 +1,6 @@
 #!/usr/bin/env python3
 """Tests of a follower: how it waits, threads, signals and forks."""
+import copy
 import io
 import os
 import pathlib
@@ -198,6 +199,11 @@ class Waits(Follows):
     def test_what_cant_be_copied(self):
         with self.assertRaisesRegex(TypeError, "can't be copied or pickled"):
             pickle.dump(self.follow(), io.BytesIO())
+        version = self.follow().wait(timeout=PATIENCE)
+        for copied in (pickle.dumps, copy.copy, copy.deepcopy):
+            with self.assertRaisesRegex(TypeError, "ages are this machine's"):
+                copied(version)
+        self.assertEqual(pickle.loads(pickle.dumps(version.map)), version.map)
 
     def test_wrong_arguments(self):
         for url, name, settings in (("depot:6379", "yard", {}), (self.redis.url, "a b", {}),

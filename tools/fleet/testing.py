@@ -1,6 +1,7 @@
 """Redis, publishers and served maps of known versions, for the tests of a fleet."""
 import atexit
 import contextlib
+import io
 import pathlib
 import random
 import signal
@@ -228,7 +229,7 @@ def nearest_of(image, edge="open"):
     """What `clearmap dist` prints for each cell of an image, by rows: its nearest obstacle."""
     words = [PROGRAM, "dist", "--nearest", "--edge", edge]
     told = subprocess.run(words, input=image, capture_output=True, check=True).stdout
-    return clearmap.read_distances(told.decode().splitlines())
+    return clearmap.read_distances(io.StringIO(told.decode()))
 
 
 def room(width=300, height=400, seed=7, share=0.01):

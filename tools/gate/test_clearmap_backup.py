@@ -4,6 +4,7 @@ whose dump isn't whole, or none."""
 import contextlib
 import os
 import pathlib
+import resource
 import socket
 import subprocess
 import sys
@@ -74,6 +75,25 @@ class Backups(unittest.TestCase):
                 self.assertEqual(run.stderr.decode(), said)
         run = self.said_by(b"OK 3\nOK 12\nP1\n2 2\n01\n10BYE\n", "--size", "2x2")
         self.assertEqual((run.returncode, run.stdout), (0, b"P1\n2 2\n01\n10"))
+
+    def test_a_full_disk(self):
+        """No byte, a request's and a part of the answer's can be kept: nothing is written."""
+        for most in (0, 14, 20):
+            with Served(POST) as server, tempfile.TemporaryFile() as written:
+                run = self.run_script(
+                    "--port", str(server.port), stdout=written, restore_signals=False,
+                    preexec_fn=lambda: resource.setrlimit(resource.RLIMIT_FSIZE, (most, most)),
+                )
+                self.assertEqual((run.returncode, written.tell()), (1, 0))
+            said = run.stderr.decode().splitlines()[-1]
+            self.assertTrue(said.startswith("clearmap-backup: "), said)
+            if most == 0:
+                self.assertIn("is the disk full?", said)
+
+    def test_what_is_given_twice(self):
+        run = self.run_script("--port", "1", "--timeout", "2", "--port", "2")
+        said = "clearmap-backup: '--port' is given twice\n"
+        self.assertEqual((run.returncode, run.stdout, run.stderr.decode()), (2, b"", said))
 
     def test_what_is_no_whole_map(self):
         rows = (

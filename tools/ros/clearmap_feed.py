@@ -2,7 +2,8 @@
 asked about. No ROS is wanted, and nothing here is proved.
 
 The server is one that runs, by its port, or one that is started with the first map. A server that
-went away is asked for again at the next call.
+went away is asked for again at the next call. A plan has no answer as long as the server lacks an
+obstacle of what the topics said last, and that can't be put.
 """
 import math
 import subprocess
@@ -53,8 +54,11 @@ class Feed:
         self._lock = threading.Lock()
         self._server: Optional["subprocess.Popen[bytes]"] = None
         self._client: Optional[clearmap.Client] = None
-        self._grid: Optional[grids.Grid] = None  # what the topic said last
-        self._there = False  # whether this connection's server has it
+        self._said: Optional[Tuple[grids.Grid, Place]] = None  # what the topics said last
+        self._is_refused = False  # whether their last message couldn't be read
+        self._served: Optional[grids.Grid] = None  # what was put on this connection's server
+        self._covered: Optional[grids.Grid] = None  # the last whose obstacles are known to be there
+        self._is_half_put = False  # whether a draft may have what its publish left out
         self._kept: Optional[grids.Grid] = None  # what a server of one's own is started with
         self._connections, self._is_closed = 0, False
         self.place: Optional[Place] = None
@@ -84,25 +88,35 @@ class Feed:
             self._kept, self.place = grid, place
 
     def put(self, grid: grids.Grid, place: Place) -> str:
-        """Puts a map, and says what was done."""
+        """Puts a map, and says what was done. If that fails, the next call tries it again."""
         with self._lock:
-            said = self._tried(lambda: self._put(grid))
-            self._grid, self.place = grid, place
-            return said
+            self._said, self._is_refused = (grid, place), False
+            return self._tried(self._put)
 
     def update(
         self, left: int, low: int, size: Tuple[int, int], cells: bytes, unknown: bytes
     ) -> str:
         """Puts an update of the last map, and which of its cells are unknown; its lower left cell
-        is at column `left` and row `low`, counted upwards."""
+        is at column `left` and row `low`, counted upwards. If that fails, the next call tries it
+        again, but an update that isn't wholly on the map is as one that can't be read."""
         with self._lock:
-            if self._grid is None or self.place is None:
+            if self._is_refused:
+                raise RosError("what came before it wasn't taken; the next map is")
+            if self._said is None:
                 raise RosError("an update came before its map")
-            area = left, low, *size
-            grid = self._grid.updated(*area, cells)
-            said = self._tried(lambda: self._put(grid))
-            self._grid, self.place = grid, self.place.updated(area, unknown)
-            return said
+            (grid, place), area = self._said, (left, low, *size)
+            try:
+                self._said = grid.updated(*area, cells), place.updated(area, unknown)
+            except RosError:
+                self._is_refused = True
+                raise
+            return self._tried(self._put)
+
+    def refuse(self) -> None:
+        """Takes note of a map or an update that can't be read. What the topics say isn't known up
+        to the next map, and no plan is answered."""
+        with self._lock:
+            self._is_refused = True
 
     def newest(
         self, known: Optional[Newest[T]], find: Callable[[clearmap.Pinned], T]
@@ -112,15 +126,15 @@ class Feed:
         with self._lock:
             return self._tried(lambda: self._newer(known, self.place, find))
 
-    def clearance(self, plan: Sequence[Point]) -> Clearance:
+    def clearance(self, plan: Sequence[Point], frame_id: Optional[str] = None) -> Clearance:
         """How far a plan in metres keeps from the obstacles of the newest version; infinite if it
-        has none."""
+        has none. Where the plan's frame is given, it has to be the map's, if that has a name."""
         with self._lock:
-            if self.frame is None:
+            if self._is_refused:
+                raise RosError("the last map or update wasn't taken, and it isn't known what it said")
+            if self._said is None and self.place is None:
                 raise RosError("no map has come yet")
-            frame = self.frame
-            path = frame.staircase(plan)
-            version, found = self._tried(lambda: self._ask(path, frame))
+            version, frame, found = self._tried(lambda: self._ask(plan, frame_id))
         tightest = min(found, key=lambda it: it.distance, default=None)
         if tightest is None:
             return Clearance(version, math.inf, math.inf)
@@ -148,7 +162,7 @@ class Feed:
     def _lose(self) -> None:
         if self._client is not None:
             self._client.close()
-        self._client, self._there = None, False
+        self._client, self._served, self._covered = None, None, None
 
     def _connected(
         self, size: Tuple[int, int], grid: Optional[grids.Grid] = None
@@ -191,28 +205,57 @@ class Feed:
             server.wait()
             line = b" ".join(said).decode("ascii", "replace")
             raise RosError(f"'{self.program} serve' said '{line}'")
-        self._server, self.port = server, int(said[1])
+        self._server, self.port, self._is_half_put = server, int(said[1]), False
 
-    def _put(self, grid: grids.Grid) -> str:
+    def _put(self, starts: bool = True) -> str:
+        """Puts what the topics said last; with `starts` on a new server of one's own, if the last
+        one has ended."""
+        assert self._said is not None
+        grid, place = self._said
         try:
-            client = self._connected(grid.size, grid)
+            client = self._connected(grid.size, grid if starts else None)
         except clearmap.WrongMap as other:
             sizes = "the map has %d by %d cells, and that of the server %d by %d"
             raise RosError(sizes % (*grid.size, *other.served) + ": it isn't put") from None
-        before = self._grid if self._there else None
+        before = self._served
         if before is None:
             with client.pin() as pinned:
                 before = grids.grid_of_dump(pinned.dump())
+        said = self._change(client, before, grid)
+        self._served, self._covered, self.place = grid, grid, place
+        return said
+
+    def _cover(self) -> None:
+        """Makes sure that the server has each obstacle of what the topics said last: where one is
+        missing, as on a server that was restarted, that is put."""
+        assert self._said is not None
+        grid, place = self._said
+        with self._connected(grid.size).pin() as pinned:
+            served = grids.grid_of_dump(pinned.dump())
+        if grid.is_within(served):
+            self._covered, self.place = grid, place
+        else:
+            self._put(starts=False)
+
+    def _change(self, client: clearmap.Client, before: grids.Grid, grid: grids.Grid) -> str:
+        """Stamps and publishes what differs from the newest version; the whole map where the draft
+        may have another one, whose publish was refused or had no reply."""
         area = before.changed(grid)
-        if area is None:
-            self._there = True
+        if area is None and not self._is_half_put:
             return "nothing changed"
-        image, self._there = grid.pbm(area), False
-        corner = area.x0, area.y0
+        stamped = area
+        if area is None or self._is_half_put:
+            stamped = grids.Area(0, 0, *grid.size)
+        assert stamped is not None
+        corner, image = (stamped.x0, stamped.y0), grid.pbm(stamped)
+        self._served, self._covered, self._is_half_put = None, None, True
         change = self._with_room(client, lambda: client.stamp(*corner, image))
-        version = self._with_room(client, client.publish)
-        self._there = True
-        return f"version {version}: {change.changed} cells of columns {area.x0} to {area.x1 - 1}, rows {area.y0} to {area.y1 - 1}"
+        said = "nothing changed"
+        if area is not None:
+            version = self._with_room(client, client.publish)
+            said = f"version {version}: {change.changed} cells of columns {area.x0} to {area.x1 - 1}, rows {area.y0} to {area.y1 - 1}"
+        self._is_half_put = False
+        return said
 
     @staticmethod
     def _with_room(client: clearmap.Client, call: Callable[[], T]) -> T:
@@ -243,14 +286,21 @@ class Feed:
             return Newest(self._connections, pinned.version, place, found)
 
     def _ask(
-        self, path: Sequence[Tuple[int, int]], frame: Frame
-    ) -> Tuple[int, List[clearmap.Tightest]]:
+        self, plan: Sequence[Point], frame_id: Optional[str]
+    ) -> Tuple[int, Frame, List[clearmap.Tightest]]:
+        if self._said is not None and self._covered is not self._said[0]:
+            self._cover()
+        assert self.place is not None
+        frame, named = self.place.frame, self.place.frame_id
+        if frame_id is not None and named and frame_id != named:
+            raise RosError(f"it is in the frame '{frame_id}', and the map in '{named}'")
         queries = clearmap.Queries()
-        for piece in pieces(path):
+        for piece in pieces(frame.staircase(plan)):
             queries.path(piece)
         with self._connected(frame.size).pin() as pinned:
             answers = pinned.ask(queries)
         for answer in answers:
             if isinstance(answer, clearmap.Refused):
                 raise answer
-        return pinned.version, [answer for answer in answers if isinstance(answer, clearmap.Tightest)]
+        tightest = [answer for answer in answers if isinstance(answer, clearmap.Tightest)]
+        return pinned.version, frame, tightest

@@ -14,13 +14,21 @@ from typing import Optional, Sequence, Tuple
 
 from clearmap import Frame, RosError, RosMap, read_map
 from clearmap.decimals import Number, exact
-from clearmap.requests import LARGEST_SIDE
+from clearmap.requests import LARGEST_SIDE, chosen
 from clearmap.ros_maps import UNKNOWN
 
 DIGITS = bytes.maketrans(b"\0\1", b"01")
 BITS = bytes.maketrans(b"01", b"\0\1")
 IS_UNKNOWN = bytes(value == UNKNOWN for value in range(256))  # of a message's -1
 NO_TURN = 1e-6  # the largest part of a quaternion, its w apart, that is taken for no turn
+
+
+def flag(name: str, value: object) -> bool:
+    """A parameter that is true or false; the text 'false' would count as true."""
+    try:
+        return chosen(name, value)
+    except TypeError:
+        raise RosError(f"'{value}' is no {name}: true or false") from None
 
 
 def decimal_of(single: float) -> Fraction:
@@ -45,6 +53,7 @@ class Reading:
     def table(self) -> bytes:
         """What each byte of a message becomes. A value that is neither -1 nor 0 to 100 is an
         obstacle."""
+        flag("unknown_is_free", self.unknown_is_free)
         occupied, free = exact(self.occupied_thresh), exact(self.free_thresh)
         if not 0 <= free <= occupied <= 1:
             raise RosError("the thresholds aren't 0 <= free_thresh <= occupied_thresh <= 1")
@@ -119,6 +128,11 @@ class Grid:
         first = ((columns & -columns).bit_length() - 1) // 8
         last = (columns.bit_length() - 1) // 8
         return Area(first, rows[0], last + 1, rows[-1] + 1)
+
+    def is_within(self, other: "Grid") -> bool:
+        """Whether each obstacle is one of another grid of the same size."""
+        mine, others = (int.from_bytes(grid.cells, "big") for grid in (self, other))
+        return mine & others == mine
 
     def row(self, y: int, x0: int, x1: int) -> bytes:
         """Columns x0 up to x1 - 1 of a row."""

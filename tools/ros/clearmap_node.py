@@ -112,8 +112,8 @@ class Node:
         self.rospy, self.number, self.marker = rospy, Float64, Marker
         reading = grids.Reading(*(rospy.get_param("~" + name, default) for name, default in (("occupied_thresh", 0.65), ("free_thresh", 0.196), ("unknown_is_free", False))))
         self.table = reading.table()
-        self.safe = rospy.get_param("~free_in_any_case", False)
-        self.feed = Feed(self.port(), program(), rospy.get_param("~checkpoints", False), self.edge())
+        self.safe = self.flag("free_in_any_case")
+        self.feed = Feed(self.port(), program(), self.flag("checkpoints"), self.edge())
         self.layers = Layers(rospy, self.feed, reading.unknown_is_free)
         self.turns = threading.Lock()
         yaml = str(rospy.get_param("~yaml", ""))
@@ -141,6 +141,10 @@ class Node:
             raise RosError(f"'{port}' is no port: 1 to 65535, or 0 for a server of the node's own")
         return port
 
+    def flag(self, name: str) -> bool:
+        """A parameter that is false unless it is set."""
+        return grids.flag(name, self.rospy.get_param("~" + name, False))
+
     def edge(self) -> str:
         """What the border of a map is, on a server of the node's own."""
         edge = self.rospy.get_param("~edge", "open")
@@ -156,20 +160,29 @@ class Node:
             self.rospy.logwarn("%s isn't taken: %s", what, fault)
             return None
 
+    def read(self, parse) -> object:
+        """What a message says. After one that can't be read no plan is answered up to the next map.
+        """
+        try:
+            return parse()
+        except RosError:
+            self.feed.refuse()
+            raise
+
     def take_map(self, message: object) -> None:
         """Puts a map."""
         info = message.info
         width, height = info.width, info.height
         at, turn = info.origin.position, info.origin.orientation
 
-        def put() -> str:
+        def parse() -> object:
             frame = grids.frame_of(width, height, info.resolution, (at.x, at.y), (turn.x, turn.y, turn.z))
             both = grids.read_cells(message.data, width, height, self.table)
             cells, unknown = (grids.Grid(width, height, it) for it in both)
-            return self.feed.put(cells, Place(frame, message.header.frame_id, unknown))
+            return cells, Place(frame, message.header.frame_id, unknown)
 
         with self.turns:
-            said = self.told("a map", put)
+            said = self.told("a map", lambda: self.feed.put(*self.read(parse)))
             if said is not None:
                 self.layers.follower.wake()
                 self.rospy.set_param("~server_port", self.feed.port)
@@ -180,7 +193,7 @@ class Node:
         width, height = message.width, message.height
 
         def put() -> str:
-            both = grids.read_cells(message.data, width, height, self.table)
+            both = self.read(lambda: grids.read_cells(message.data, width, height, self.table))
             return self.feed.update(message.x, message.y, (width, height), *both)
 
         with self.turns:
@@ -192,14 +205,8 @@ class Node:
     def take_plan(self, message: object) -> None:
         """Answers a plan's clearance; one that can't be asked about gets NaN, so that nobody goes
         on with an older answer."""
-        frame_id = message.header.frame_id
-
-        def ask() -> object:
-            if frame_id != self.frame_id and self.frame_id:
-                raise RosError(f"it is in the frame '{frame_id}', and the map in '{self.frame_id}'")
-            return self.feed.clearance([(pose.pose.position.x, pose.pose.position.y) for pose in message.poses])
-
-        found = self.told("a plan", ask)
+        points = [(pose.pose.position.x, pose.pose.position.y) for pose in message.poses]
+        found = self.told("a plan", lambda: self.feed.clearance(points, message.header.frame_id))
         metres = math.nan if found is None else found.free_metres if self.safe else found.metres
         self.clearances.publish(self.number(metres))
         self.markers.publish(self.mark(found))

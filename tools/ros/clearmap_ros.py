@@ -73,7 +73,7 @@ def clearance(options: argparse.Namespace) -> Iterator[str]:
     frame, area = ros_map.frame, ros_map.map(options.edge, unknown_is_free=options.unknown_is_free)
     if options.footprint is None:
         plan = read_plan(sys.stdin)
-        found = plan_clearance(area, frame, plan, options.radius or 0)
+        found = plan_clearance(area, frame, plan, 0 if options.radius is None else options.radius)
         if found is None:
             yield "inf: the map has no obstacle"
             return

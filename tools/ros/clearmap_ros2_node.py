@@ -54,8 +54,9 @@ class ClearmapNode(Node):  # type: ignore[misc]
             self.create_publisher(getattr(KINDS, kind), "~/" + name, latched)
             for name, kind in LAYERS
         ]
-        is_free = self.value("unknown_is_free", False)
+        is_free = grids.flag("unknown_is_free", self.value("unknown_is_free", False))
         self.painter = self.painter_of(is_free)
+        self.is_safe = grids.flag("free_in_any_case", self.value("free_in_any_case", False))
         self.feed = Feed(self.value("port", 0), program(), edge=self.value("edge", "open"))
         self.keep(self.value("yaml", ""), is_free)
         self.clearances = self.create_publisher(Float64, "~/clearance", 10)
@@ -99,12 +100,11 @@ class ClearmapNode(Node):  # type: ignore[misc]
         self.clearances.publish(Float64(data=metres))
 
     def clearance(self, message: Any) -> float:
-        """Metres from the plan's tightest cell to its nearest obstacle, from centre to centre."""
-        place, frame_id = self.feed.place, message.header.frame_id
-        if place is not None and frame_id != place.frame_id:
-            raise RosError(f"it is in the frame '{frame_id}', and the map in '{place.frame_id}'")
+        """Metres from the plan's tightest cell to its nearest obstacle: from centre to centre, or
+        with `free_in_any_case` between any points of the two cells."""
         points = [(pose.pose.position.x, pose.pose.position.y) for pose in message.poses]
-        return self.feed.clearance(points).metres
+        found = self.feed.clearance(points, message.header.frame_id)
+        return found.free_metres if self.is_safe else found.metres
 
     def end(self) -> None:
         """Leaves the server, and ends one of the node's own."""

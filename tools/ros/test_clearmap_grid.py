@@ -7,6 +7,7 @@ import random
 import sys
 import unittest
 from fractions import Fraction
+from unittest import mock
 
 HERE = pathlib.Path(__file__).resolve().parent
 sys.path[:0] = [str(HERE), str(HERE.parent), str(HERE.parent.parent / "clients/python")]
@@ -41,6 +42,9 @@ class Grids(unittest.TestCase):
         self.assertRaisesRegex(RosError, "no number", grids.Reading("high").table)
 
     def test_rows_begin_at_the_top(self):
+        for text in ("false", "true", ""):
+            with self.assertRaisesRegex(RosError, "is no unknown_is_free: true or false"):
+                grids.Reading(unknown_is_free=text).table()
         table = grids.Reading().table()
         self.assertEqual(grids.cells_of((100, 0, 0, 0, 0, 100), 3, 2, table), bytes([0, 0, 1, 1, 0, 0]))
         self.assertEqual(grids.cells_of(bytes([100, 255, 0]), 3, 1, table), bytes([1, 1, 0]))
@@ -204,6 +208,94 @@ class Feeds(unittest.TestCase):
         other.end()
         self.served(POST.pbm(), port=served.port)
         self.assertEqual(feed.clearance(plan).metres, 1.0)
+
+    def test_a_refused_publish(self):
+        """A draft that has a map whose publish was refused gets the next one whole."""
+        blank = grid("000000", "000000", "000000", "000000")
+        more = grid("100000", "001000", "000000", "000000")
+        for first, second, third in ((POST, blank, more), (POST, more, blank), (blank, POST, more)):
+            for again in (True, False):
+                served = self.served(blank.pbm(), "--log", "3")
+                feed = self.feed(served.port)
+                with clearmap.Client(served.port) as other:
+                    if first is blank:
+                        other.paint(0, 0, 1, 1), other.clear(0, 0, 1, 1)
+                    feed.put(first, PLACE)
+                    self.assertRaises(clearmap.LogFull, feed.put, second, PLACE)
+                    if again:
+                        self.assertRaises(clearmap.LogFull, feed.put, first, PLACE)
+                    for newer in (third, first):
+                        other.checkpoint()
+                        feed.put(newer, PLACE)
+                        self.assertEqual(dump_of(served.port)[1], newer)
+
+    def test_a_publish_without_a_reply(self):
+        """The server ends after a stamp, and the one at its port has the same map."""
+        served = self.served(POST.pbm())
+        feed = self.feed(served.port)
+        feed.put(POST, PLACE)
+        with mock.patch.object(clearmap.Client, "publish", side_effect=clearmap.ConnectionLost("cut")):
+            self.assertRaises(clearmap.ConnectionLost, feed.put, grid("100000", "000000", "000000", "000000"), PLACE)
+        self.assertEqual(feed.put(POST, PLACE), "nothing changed")
+        with clearmap.Client(served.port) as other:
+            other.publish()
+        self.assertEqual(dump_of(served.port), (1, POST))
+
+    def test_updates_that_came_meanwhile(self):
+        """An update that couldn't be put is put with the next, and before a plan is answered."""
+        served = self.served(POST.pbm())
+        feed = self.feed(served.port)
+        feed.put(POST, PLACE)
+        served.end()
+        self.assertRaises(clearmap.ConnectionLost, feed.update, *CORNER)
+        again = self.served(POST.pbm(), port=served.port)
+        said = "version 1: 2 cells of columns 0 to 5, rows 0 to 0"
+        self.assertEqual(feed.update(0, 3, (1, 1), b"\1", b"\0"), said)
+        self.assertEqual(dump_of(again.port), (1, grid("100001", "001000", "000000", "000000")))
+        again.end()
+        self.assertRaises(clearmap.ConnectionLost, feed.update, 1, 3, (1, 1), b"\1", b"\0")
+        last = self.served(POST.pbm(), port=served.port)
+        found = feed.clearance([(-0.25, -0.25)])
+        self.assertEqual((found.version, found.metres), (1, 0.0))
+        self.assertEqual(dump_of(last.port)[1], grid("110001", "001000", "000000", "000000"))
+
+    def test_plans_over_a_map_that_is_not_there(self):
+        """They have no answer: not after a map that was refused, nor after what can't be read."""
+        feed, plan = self.feed(program=PROGRAM), [(-0.9, -1.9)]
+        feed.put(POST, PLACE)
+        small = feeds.Place(Frame(2, 2, Fraction(1, 2), Fraction(-1), Fraction(-2)))
+        self.assertRaises(RosError, feed.put, grid("00", "00"), small)
+        self.assertRaises(clearmap.WrongMap, feed.clearance, plan)
+        feed.put(POST, PLACE)
+        self.assertEqual(feed.clearance(plan).version, 0)
+        for refuse in (feed.refuse, lambda: self.assertRaises(RosError, feed.update, 6, 0, (1, 1), b"\1", b"\0")):
+            refuse()
+            self.assertRaisesRegex(RosError, "wasn't taken", feed.clearance, plan)
+            self.assertRaisesRegex(RosError, "the next map is", feed.update, *CORNER)
+            feed.put(POST, PLACE)
+            self.assertEqual(feed.clearance(plan).version, 0)
+
+    def test_a_server_that_was_restarted(self):
+        """What other painters did to it stays, unless an obstacle of the topic's map is missing."""
+        served = self.served(POST.pbm())
+        feed, plan = self.feed(served.port), [(-0.9, -1.9)]
+        feed.put(POST, PLACE)
+        served.end()
+        more = grid("000001", "001000", "000000", "000000")
+        same = self.served(more.pbm(), port=served.port)
+        self.assertEqual(feed.clearance(plan).version, 0)
+        self.assertEqual(dump_of(same.port), (0, more))
+        same.end()
+        less = self.served(grid("000001", "000000", "000000", "000000").pbm(), port=served.port)
+        self.assertEqual(feed.clearance(plan).version, 1)
+        self.assertEqual(dump_of(less.port), (1, POST))
+
+    def test_frames_of_plans(self):
+        feed = self.feed(program=PROGRAM)
+        feed.put(POST, feeds.Place(FRAME, "map"))
+        self.assertRaisesRegex(RosError, "frame 'odom', and the map in 'map'", feed.clearance, [(0, 0)], "odom")
+        self.assertRaisesRegex(RosError, "frame '', and the map in 'map'", feed.clearance, [(0, 0)], "")
+        self.assertEqual(feed.clearance([(-0.9, -1.9)], "map"), feed.clearance([(-0.9, -1.9)]))
 
     def test_no_server_and_no_program(self):
         served = self.served(POST.pbm())

@@ -200,11 +200,25 @@ class Node(Running):
         short.data = short.data[:-1]
         maps.publish(short)
         self.line("the message has 119999 values, where 400 by 300 cells are told")
+        maps.publish(map_message())
+        self.line("a map, at port")
         self.assertTrue(math.isnan(self.answer(plans, plan_message((0, 0), frame_id="odom"))[0]))
         self.line("it is in the frame 'odom', and the map in 'map'")
         self.assertTrue(math.isnan(self.answer(plans, plan_message((0, 0), (50, 0)))[0]))
         self.line("the point (50.0, 0.0) isn't on the map")
         self.assertAlmostEqual(self.answer(plans, PLAN)[0], 99 * RESOLUTION)
+        for wrong, said in ((map_message(width=200, height=100), "it isn't put"), (short, "the message has 119999 values")):
+            maps.publish(wrong)
+            self.line(said)
+            self.assertTrue(math.isnan(self.answer(plans, PLAN)[0]))  # over a map that isn't there
+            self.line("a plan isn't taken: ")
+        maps.publish(map_message())
+        self.line("a map, at port")
+        self.assertAlmostEqual(self.answer(plans, PLAN)[0], 99 * RESOLUTION)
+        updates.publish(OccupancyGridUpdate(x=399, y=0, width=2, height=1, data=[100, 100]))
+        self.line("an update isn't taken: ")
+        self.assertTrue(math.isnan(self.answer(plans, PLAN)[0]))
+        self.line("a plan isn't taken: the last map or update wasn't taken")
 
     def test_a_given_server_that_ends(self):
         served = Served(blank(400, 300))
@@ -216,10 +230,11 @@ class Node(Running):
         self.assertTrue(math.isnan(self.answer(plans, PLAN)[0]))
         self.line("a plan isn't taken: no server at")
         self.addCleanup(Served(blank(400, 300), port=port).end)
-        self.assertEqual(self.answer(plans, PLAN)[0], math.inf)  # the map isn't there again yet
+        self.assertAlmostEqual(self.answer(plans, PLAN)[0], 99 * RESOLUTION)  # put again before
         maps.publish(map_message())
-        self.line("version 1: 1396 cells")
-        self.assertAlmostEqual(self.answer(plans, PLAN)[0], 99 * RESOLUTION)
+        self.line("a map, at port")
+        with clearmap.Client(port) as client, client.pin() as pinned:
+            self.assertEqual((pinned.version, pinned.at(0, 0).distance), (1, 0))
 
     def test_a_port_that_is_none(self):
         node = subprocess.run([sys.executable, str(HERE / "clearmap_node.py"), "_port:=70000"], capture_output=True, text=True, timeout=PATIENCE)

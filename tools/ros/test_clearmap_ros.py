@@ -205,6 +205,8 @@ class OtherImages(unittest.TestCase):
         house = ros.read_map(pathlib.Path(__file__).resolve().parents[2] / "examples/house.yaml")
         self.assertEqual(house.frame.size, (320, 220))
         rows = ros.obstacles(house.image, house.settings)
+        with self.assertRaisesRegex(TypeError, "where a bool is wanted"):
+            house.cells(unknown_is_free="false")
         free = ros.obstacles(house.image, house.settings, unknown_is_free=True)
         for (x, y), blocked, known in (
             ((160, 100), 0, 0), ((113, 40), 1, 1), ((5, 5), 1, 0), ((113, 72), 0, 0),

@@ -165,6 +165,9 @@ class Node2(unittest.TestCase):
         self.assertEqual({it.header.stamp.sec for it in (plain, costs, cloud)}, {7})
         node.plans(self.plan(known.frame, "odom", (140, 102), (145, 102)))
         self.assertAlmostEqual(node.published[-1][1].data, 5 * 0.05)
+        safe = self.node(yaml=str(HOUSE), port=served.port, frame_id="odom", free_in_any_case=True)
+        safe.plans(self.plan(known.frame, "odom", (140, 102), (145, 102)))
+        self.assertEqual(safe.published[-1][1].data, known.frame.free_metres(25))
         node.plans(self.plan(known.frame, "map", (140, 102), (145, 102)))
         self.assertTrue(math.isnan(node.published[-1][1].data))
         self.assertIn("a plan isn't taken: it is in the frame 'map'", node.said[-1])
@@ -193,6 +196,8 @@ class Node2(unittest.TestCase):
             ({}, "there is no yaml"),
             ({"yaml": str(HOUSE), "robot_radius": -1.0}, "none is below 0"),
             ({"yaml": str(HOUSE), "publish_frequency": 0.0}, "is no publish_frequency"),
+            ({"yaml": str(HOUSE), "unknown_is_free": "false"}, "is no unknown_is_free"),
+            ({"yaml": str(HOUSE), "free_in_any_case": "no"}, "'no' is no free_in_any_case"),
         ):
             with self.assertRaisesRegex(RosError, sentence):
                 self.node(**values)

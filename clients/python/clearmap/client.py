@@ -10,6 +10,11 @@ from .pinned import Pinned
 from .requests import Change, Collected, Request, T, whole
 from .size import check_size, find_size, size_of
 
+LONGEST_TIMEOUT = 480 * 3600.0  # seconds; a socket takes no more than some years
+DRAFT_LOST = (
+    "the connection was lost after changes that aren't published, and another server doesn't have "
+    "them: paint again, and publish"
+)
 FORKED = "a forked process can't use its parent's connection: it makes a client of its own"
 
 
@@ -34,7 +39,9 @@ class Client:
 
     With `reconnect` a call that finds the connection closed reconnects first, and checks a known
     size again. A call whose own reply was lost raises, and is never sent twice. A pin is lost with
-    its connection. Nothing reconnects after `close`.
+    its connection, and a draft with its server: where paints were accepted and no call has raised
+    since, the first `publish` over a new connection raises `ConnectionLost`, and publishes nothing.
+    Paint again, and publish. Nothing reconnects after `close`.
 
     With `checkpoints` a command that is answered LogFull is sent once more after a checkpoint.
     **That drops the entries of the log, those of other painters too**: it changes no bitmap and no
@@ -54,12 +61,14 @@ class Client:
         if timeout is not None and not timeout > 0:
             raise ValueError(f"a time-out of {timeout} s, where more than 0 or None is wanted")
         self._address = host, _port_of(port, host)
-        self._timeout = None if timeout is None else float(timeout)
+        self._timeout = None if timeout is None else min(float(timeout), LONGEST_TIMEOUT)
         self._checkpoints, self._reconnect = checkpoints, reconnect
         self._size = None if size is None else size_of(size)
         self._lock = threading.RLock()
         self._process = os.getpid()
         self._is_closed = False
+        self._has_changes = False  # that were accepted on this connection and aren't published
+        self._is_draft_lost = False  # since such a connection ended, and nobody was told
         self._connection = self._connected()
 
     def __enter__(self) -> "Client":
@@ -118,26 +127,26 @@ class Client:
         They are at least 1 cell, else BadArguments, and are on the map, else OutOfRange. LogFull
         and BlocksFull can refuse any change.
         """
-        return self._command(requests.draw("PAINT", x0, y0, x1, y1))
+        return self._command(requests.draw("PAINT", x0, y0, x1, y1), leaves_changes=True)
 
     def clear(self, x0: int, y0: int, x1: int, y1: int) -> Change:
         """Makes them free; refused as `paint` is."""
-        return self._command(requests.draw("CLEAR", x0, y0, x1, y1))
+        return self._command(requests.draw("CLEAR", x0, y0, x1, y1), leaves_changes=True)
 
     def stamp(self, x: int, y: int, image: object) -> Change:
         """Sets the cells from (x, y) on to the values of a PBM image, plain or raw; black is an
         obstacle. The image is anything with the buffer protocol, as `bytes`, by its bytes: at most
         17,100,000. BadImage if they aren't an image; else refused as `paint` is."""
-        return self._command(requests.stamp(x, y, image))
+        return self._command(requests.stamp(x, y, image), leaves_changes=True)
 
     def publish(self) -> int:
         """Appends the draft as the next version, and returns its number. VersionsFull if all slots
-        for versions are in use."""
-        return self._command(requests.PUBLISH)
+        for versions are in use. ConnectionLost if paints may be lost, as the class says."""
+        return self._command(requests.PUBLISH, leaves_changes=False)
 
     def revert(self) -> int:
         """Makes the draft the newest version again, and returns the place in the log."""
-        return self._command(requests.REVERT)
+        return self._command(requests.REVERT, leaves_changes=False)
 
     def collect(self) -> Collected:
         """Frees what no kept version uses: the newest is kept, and each that a pin holds."""
@@ -148,11 +157,22 @@ class Client:
         returns its own place. Places go on counting; no bitmap and no version changes."""
         return raised(self._exchange(lambda connection: connection.ask(requests.CHECKPOINT)))
 
-    def _command(self, request: Request[T]) -> T:
+    def _command(self, request: Request[T], leaves_changes: Optional[bool] = None) -> T:
         """Sends a command; if the log is full and `checkpoints` is set, a checkpoint and the
-        command again."""
+        command again. An accepted one leaves the draft with changes that aren't published, or
+        without, or as it was. A draft that was lost isn't published."""
 
-        def work(connection: Connection) -> Union[T, Refused]:
+        def work(connection: Connection) -> Union[T, Refused, ConnectionLost]:
+            if request is requests.PUBLISH and self._is_draft_lost:
+                self._is_draft_lost = False
+                return ConnectionLost(DRAFT_LOST)
+            answer = ask(connection)
+            if leaves_changes is not None and not isinstance(answer, Refused):
+                self._has_changes = leaves_changes
+                self._is_draft_lost &= leaves_changes
+            return answer
+
+        def ask(connection: Connection) -> Union[T, Refused]:
             answer = connection.ask(request)
             if not self._checkpoints or not isinstance(answer, LogFull):
                 return answer
@@ -186,12 +206,14 @@ class Client:
             raise ConnectionLost(FORKED)
         with self._lock:
             connection = of or self._newest()
-            connection.check_ready()
-            connection.busy = True
             try:
+                connection.check_ready()
+                connection.busy = True
                 answer = work(connection)
             except BaseException:
                 connection.close()
+                if connection is self._connection:  # whoever called is told
+                    self._has_changes = False
                 raise
             connection.busy = False
             if isinstance(answer, OutOfRange) and self._size:
@@ -202,6 +224,8 @@ class Client:
         """The connection, reconnected if it has ended and that is wanted."""
         if self._reconnect and not self._is_closed and self._connection.has_ended():
             self._connection = self._connected()
+            self._is_draft_lost |= self._has_changes
+            self._has_changes = False
         return self._connection
 
     def _connected(self) -> Connection:
@@ -225,6 +249,8 @@ def _port_of(port: object, host: object) -> int:
         )
     if isinstance(port, str) and not port.isdecimal():
         raise TypeError(f"a port of {port!r:.80}, where a number is wanted, as Client(7400)")
+    if isinstance(port, bool):
+        raise TypeError(f"a port of {port}, where a number is wanted, as Client(7400)")
     number = int(port) if isinstance(port, str) else whole(port)
     if not 0 <= number < 1 << 16:
         raise ValueError(f"a port of {number}, where one up to 65535 is wanted")

@@ -33,6 +33,8 @@ class Version:
     `number` is the server's own, and counts within one `run`: the publisher's connection to one
     served map. `order` grows from version to version of a name whatever is restarted. `hash` names
     the version and its map: it is the same for all who follow it.
+
+    Its ages are by this machine's clock, so it can't be pickled for another one: its `map` can.
     """
 
     map: FixedMap
@@ -43,6 +45,9 @@ class Version:
     _published: float = field(repr=False)  # by clock.now
     _record: Record = field(repr=False)
     _known: Known = field(repr=False)
+
+    def __reduce__(self) -> NoReturn:
+        raise TypeError("a Version's ages are this machine's, so it can't be pickled; its map can")
 
     @property
     def age(self) -> float:

@@ -14,7 +14,8 @@ from typing import Iterable, Iterator, List, Sequence, Tuple
 from .decimals import Number, exact, float_below, root_below
 from .errors import RosError
 from .footprints import Footprint
-from .requests import CHESS, CITY, EUCLID2, LONGEST_PATH, Cell
+from .library import NO_OBSTACLE
+from .requests import CHESS, CITY, EUCLID2, LONGEST_PATH, Cell, whole
 from .ways import Pose
 
 Point = Tuple[Number, Number]
@@ -22,13 +23,25 @@ Point = Tuple[Number, Number]
 
 @dataclass(frozen=True)
 class Frame:
-    """Where a map lies: its size in cells, metres per cell, and the lower left corner in metres."""
+    """Where a map lies: its size in cells, metres per cell, and the lower left corner in metres.
+
+    Metres are any numbers, taken for the decimals that they are written as. **Row 0 of the cells is
+    the top one**, as in an image; a message of ROS has the lowest row first.
+    """
 
     width: int
     height: int
     resolution: Fraction
     origin_x: Fraction
     origin_y: Fraction
+
+    def __post_init__(self) -> None:
+        for name in ("width", "height"):
+            object.__setattr__(self, name, whole(getattr(self, name)))
+        for name in ("resolution", "origin_x", "origin_y"):
+            object.__setattr__(self, name, exact(getattr(self, name)))
+        if self.resolution <= 0:
+            raise RosError(f"the resolution is {self.resolution}, which isn't above 0")
 
     @property
     def size(self) -> Tuple[int, int]:
@@ -89,15 +102,22 @@ class Frame:
 
     def metres(self, square: int) -> float:
         """A `euclid2` distance, which is a square in cells, in metres from centre to centre;
-        rounded down."""
-        return float_below(root_below(_square(square)) * self.resolution)
+        rounded down. Infinite for `NO_OBSTACLE`."""
+        return self._length(square, Fraction(0))
 
     def free_metres(self, square: int) -> float:
         """The least distance of any point of the queried cell from any point of an obstacle, in
-        metres, given its `euclid2` distance; rounded down."""
-        diagonal = Fraction(math.isqrt(2 * 10**18) + 1, 10**9)
-        cells = max(Fraction(0), root_below(_square(square)) - diagonal)
-        return float_below(cells * self.resolution)
+        metres, given its `euclid2` distance; rounded down. Infinite for `NO_OBSTACLE`."""
+        return self._length(square, Fraction(math.isqrt(2 * 10**18) + 1, 10**9))
+
+    def _length(self, square: int, less: Fraction) -> float:
+        """The root of a `euclid2` distance, less some cells, in metres."""
+        number = whole(square)  # an int: numpy's integers overflow
+        if number < 0:
+            raise RosError(f"a euclid2 distance is a square in cells, 0 or more, and no {number}")
+        if number == NO_OBSTACLE:
+            return math.inf
+        return float_below(max(Fraction(0), root_below(number) - less) * self.resolution)
 
     def staircase(self, plan: Sequence[Point]) -> List[Cell]:
         """A path for clearmap along a plan of points in metres: its corners, each in the row or
@@ -107,20 +127,13 @@ class Frame:
         through a corner, through one of the two next to it. So each point of the plan lies in a
         cell of the path, and the middle of each such cell is less than one cell from the plan.
         """
-        if not plan:
+        if len(plan) == 0:  # an array has no truth
             raise RosError("the plan has no point")
         ends = [self._upwards(point) for point in plan]
         walked = [(math.floor(ends[0][0]), math.floor(ends[0][1]))]
         for start, end in zip(ends, ends[1:]):
             walked += crossed(start, end)
         return corners([(x, self.height - 1 - up) for x, up in walked])
-
-
-def _square(square: int) -> int:
-    """A `euclid2` distance."""
-    if square < 0:
-        raise RosError(f"a euclid2 distance is a square in cells, 0 or more, and no {square}")
-    return square
 
 
 def crossed(start: Tuple[Fraction, Fraction], end: Tuple[Fraction, Fraction]) -> Iterator[Cell]:

@@ -137,15 +137,19 @@ class Map:
         edge: str = OPEN,
         occupied: int = 65,
         unknown_is_free: bool = False,
+        upwards: bool = False,
     ) -> M:
         """A map of an occupancy grid as ROS's message has it: `data` is a list, tuple or array of
         width times height cells, row after row, each -1 or 0 to 100. Cells from `occupied` on are
         obstacles, and unknown ones, -1, unless they are said to be free.
 
-        Rows stay as they lie: row 0 is the first of the message, which is the lowest in the world.
+        **Rows stay as they lie**: row 0 is the first of the message, which is the lowest in the
+        world. A `Frame`, and with it `plan_clearance`, has the highest as row 0: for these say
+        `upwards=True`, which turns the rows of the message round.
+
         ValueError for another number of cells, and for a cell that no message has.
         """
-        cells = occupancy_map(data, width, height, occupied, unknown_is_free)
+        cells = occupancy_map(data, width, height, occupied, unknown_is_free, upwards)
         return cls._of(packed(cells), edge)
 
     def copy(self) -> Map:

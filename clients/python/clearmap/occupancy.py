@@ -3,27 +3,28 @@ from typing import Any
 
 from .grids import Memory, byte_map
 from .library import numpy
-from .requests import LARGEST_SIDE, whole
+from .requests import LARGEST_SIDE, chosen, whole
 
 UNKNOWN, MOST = -1, 100  # of the message: other cells are from 0 to the most
 
 
 def occupancy_map(
-    data: object, width: int, height: int, occupied: int, unknown_is_free: bool
+    data: object, width: int, height: int, occupied: int, unknown_is_free: bool, upwards: bool
 ) -> Memory:
     """The cells of a message as a map in bytes: obstacles are those from `occupied` on, and unless
-    they are said to be free the unknown ones."""
+    they are said to be free the unknown ones. With `upwards` the message's last row is the first.
+    """
     width, height, least = whole(width), whole(height), whole(occupied)
     if not (1 <= width <= LARGEST_SIDE and 1 <= height <= LARGEST_SIDE):
         sides = f"1 to {LARGEST_SIDE} columns and rows"
         raise ValueError(f"a map has {sides}, and this one has {width} by {height}")
     if not 1 <= least <= MOST:
         raise ValueError(f"occupied is {least}, where 1 to {MOST} is wanted")
-    if unknown_is_free not in (True, False):  # a text would count as True
-        raise TypeError(f"unknown_is_free is {unknown_is_free!r:.80}, where a bool is wanted")
+    is_free, turned = chosen("unknown_is_free", unknown_is_free), chosen("upwards", upwards)
     cells = _cells(data, width, height)
-    most = MOST if unknown_is_free else UNKNOWN & 255  # a byte, as the library reads cells
-    return byte_map(cells.astype(numpy().int8, copy=False).reshape(height, width), least, most)
+    most = MOST if is_free else UNKNOWN & 255  # a byte, as the library reads cells
+    rows = cells.astype(numpy().int8, copy=False).reshape(height, width)
+    return byte_map(rows[::-1] if turned else rows, least, most)
 
 
 def _cells(data: object, width: int, height: int) -> Any:

@@ -52,8 +52,9 @@ def plan_clearance(
     between the line through the plan's points and the nearest obstacle's square, or with the edge
     `wall` the map's border, less the radius; 0 if it hits. None if there is no obstacle at all.
 
-    RosError for a map that isn't of the frame's size, and for a point that isn't on it. All
-    segments are answered for the cells as they are when the call starts.
+    Row 0 of the map is the top one, as the frame has it. RosError for a map that isn't of the
+    frame's size, and for a point that isn't on it. All segments are answered for the cells as they
+    are when the call starts.
     """
     held = held_of(area)
     if held.size != frame.size:

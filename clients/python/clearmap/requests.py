@@ -74,6 +74,13 @@ def whole(number: object) -> int:
         raise TypeError(f"{number!r:.80} is a {kind}, where a whole number is wanted") from None
 
 
+def chosen(name: str, value: object) -> bool:
+    """A bool, or a number that equals one. A text would count as True, 'false' too."""
+    if value not in (True, False):
+        raise TypeError(f"{name} is {value!r:.80}, where a bool is wanted")
+    return bool(value)
+
+
 def bytes_of(image: object) -> bytes:
     """The bytes of any buffer, by rows if it has several dimensions."""
     try:

@@ -14,6 +14,7 @@ from .gray import Gray, read_image
 from .grids import OPEN
 from .library import numpy
 from .maps import Map
+from .requests import chosen
 from .settings import Settings, read_settings
 
 UNKNOWN = 255  # what map_server publishes for an unknown cell, as a byte
@@ -54,10 +55,11 @@ def obstacles(image: Gray, settings: Settings, unknown_is_free: bool = False) ->
     is an obstacle too unless asked otherwise.
     """
     opaque = image.opaque or bytes([1]) * len(image.samples)
+    is_free = chosen("unknown_is_free", unknown_is_free)
 
     def blocked(sample: int, seen: int) -> bool:
         share = Fraction(sample if settings.negate else image.most - sample, image.most)
-        return is_obstacle(share, seen, settings, unknown_is_free)
+        return is_obstacle(share, seen, settings, is_free)
 
     known = {pair: blocked(*pair) for pair in set(zip(image.samples, opaque))}
     cells = [known[pair] for pair in zip(image.samples, opaque)]
