@@ -72,7 +72,7 @@ def clearance(options: argparse.Namespace) -> Iterator[str]:
     ros_map = read_map(options.map)
     frame, area = ros_map.frame, ros_map.map(options.edge, unknown_is_free=options.unknown_is_free)
     if options.footprint is None:
-        plan = read_plan(sys.stdin)
+        plan = read_plan(sys.stdin or ())
         found = plan_clearance(area, frame, plan, 0 if options.radius is None else options.radius)
         if found is None:
             yield "inf: the map has no obstacle"
@@ -85,7 +85,7 @@ def clearance(options: argparse.Namespace) -> Iterator[str]:
         robot = frame.footprint(outline(options.footprint))
     except ValueError as fault:
         raise RosError(str(fault)) from None
-    poses = [frame.pose(*pose) for pose in read_poses(sys.stdin)]
+    poses = [frame.pose(*pose) for pose in read_poses(sys.stdin or ())]
     if not poses:
         raise RosError("the plan has no pose")
     free, (across, up, turn) = robot.clearance_along(area, poses)
@@ -108,7 +108,7 @@ def answer(options: argparse.Namespace) -> Iterator[str]:
             safe, centres = (clear_distance(options.metres, frame.resolution, metric, whole) for whole in (True, False))
             yield f"{metric} {safe} against whole cells (safe), {centres} from middle to middle"
     else:
-        path = frame.staircase(read_plan(sys.stdin))
+        path = frame.staircase(read_plan(sys.stdin or ()))
         command = "PATH euclid2" if options.radius is None else f"CLEAROF euclid2 {clear_distance(options.radius, frame.resolution)}"
         yield from query_lines(command, path)
 
