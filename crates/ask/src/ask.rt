@@ -12,7 +12,7 @@ mod exchange;
 mod request;
 
 use exchange::exchange;
-use metric::{Refusal, Sink, Source, Stream, WriteFault};
+use metric::{Refusal, Sink, Source, Stream};
 use request::read_request;
 use std::alloc::Global;
 use streams::{DONE, REFUSED, write_net_fault, write_refusal, write_text};

@@ -1,6 +1,6 @@
 //! Which bands of 64 rows may have an obstacle, and which of their tiles, as bits of words.
 
-ghost use Rattle.std.specs.Prelude.{◌≡◌, ◌≢◌, ℕ, ◌<◌, ◌≤◌, ◌/◌, true, length, slice_index};
+ghost use Rattle.std.specs.Prelude.{◌≡◌, ◌≢◌, ℕ, ◌<◌, ◌≤◌, ◌/◌, length, slice_index};
 ghost use Rattle.std.specs.Int.{bit_at};
 
 use crate::word::{has_bit, low_bits, with_bit};

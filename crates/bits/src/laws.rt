@@ -1,7 +1,7 @@
 //! Laws of a map: its nearest obstacle, counts by tiles, and what filling the words of a tile does
 //! to a bitmap.
 
-ghost use Rattle.std.specs.Prelude.{◌≡◌, ℕ, ◌<◌, ◌≤◌, ◌-◌, ◌*◌, ◌/◌, ◌%◌, ◌+◌, Bool, Option, min};
+ghost use Rattle.std.specs.Prelude.{◌≡◌, ℕ, ◌≤◌, ◌-◌, ◌*◌, ◌/◌, ◌%◌, Bool, Option};
 ghost use Rattle.std.specs.Option.{option_map};
 ghost use Rattle.metric.specs.Nearest.{IsLeastDistance, IsNear};
 ghost use Rattle.metric.specs.declared.edge.Edge.{Edge};
@@ -10,7 +10,6 @@ ghost use Rattle.bits.specs.Cells.{Cells, with_values, IsBitmap};
 ghost use Rattle.bits.specs.Changes.{changes};
 ghost use Rattle.bits.specs.Edges.{IsBlocked};
 ghost use Rattle.bits.specs.Words.{words_across};
-ghost use Rattle.bits.specs.Tiles.{tile_count};
 ghost use Rattle.bits.specs.TileWords.{tile_words, tile_changes, changes_by_tile, words_changed};
 ghost use Rattle.bits.specs.TileWords.{filled_words, within_column, within_row, laid};
 

@@ -1,7 +1,7 @@
 //! Lays a part of a bitmap on a tile, row by row as words.
 
-ghost use Rattle.std.specs.Prelude.{◌≡◌, ℕ, ◌≤◌, ◌<◌, ◌+◌, ◌-◌, ◌/◌, ◌%◌, nat_lt, length};
-ghost use Rattle.std.specs.Prelude.{slice_index, cond, if◌then◌else◌};
+ghost use Rattle.std.specs.Prelude.{◌≡◌, ℕ, ◌≤◌, ◌<◌, ◌+◌, ◌-◌, nat_lt};
+ghost use Rattle.std.specs.Prelude.{slice_index, if◌then◌else◌};
 ghost use Rattle.std.specs.Int.{bit_at};
 ghost use Rattle.bits.specs.Cells.{has};
 ghost use Rattle.bits.specs.TileWords.{is_bit, laid, filled_word, filled_words, words_changed};

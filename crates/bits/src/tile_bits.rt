@@ -1,7 +1,6 @@
 //! Tiles as 64 words, one per row, filled in place.
 
-ghost use Rattle.std.specs.Prelude.{◌≡◌, ℕ, ◌≤◌, ◌<◌, ◌==◌, ◌&&◌, nat_le, nat_lt, Bool, cond};
-ghost use Rattle.std.specs.Prelude.{length};
+ghost use Rattle.std.specs.Prelude.{◌≡◌, ℕ, ◌≤◌, ◌<◌, ◌&&◌, nat_le, nat_lt, cond};
 ghost use Rattle.std.specs.Int.{bit_at};
 ghost use Rattle.bits.specs.TileWords.{filled_word, filled_words, bits_changed, words_changed};
 ghost use Rattle.bits.specs.TileWords.{words_differ, every};

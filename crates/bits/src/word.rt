@@ -1,6 +1,6 @@
 //! Single bits of a word.
 
-ghost use Rattle.std.specs.Prelude.{◌≡◌, ◌≢◌, ℕ, ◌<◌, ◌≤◌, Bool, IsTrue, ◌↔◌, cond};
+ghost use Rattle.std.specs.Prelude.{◌≡◌, ◌≢◌, ℕ, ◌<◌, ◌≤◌, IsTrue, ◌↔◌, cond};
 ghost use Rattle.std.specs.Int.{bit_at};
 
 use metric::WORD_BITS;

@@ -1,7 +1,6 @@
 //! Writes the words of a bitmap: a word of a row, a whole row, and the rows of a tile.
 
-ghost use Rattle.std.specs.Prelude.{◌≡◌, ◌<◌, ◌/◌, ◌*◌};
-ghost use Rattle.bits.specs.Cells.{IsSide};
+ghost use Rattle.std.specs.Prelude.{◌≡◌, ◌<◌};
 ghost use Rattle.bits.specs.Stored.{cells_stored, IsStored};
 ghost use Rattle.bits.specs.Tiles.{tile_count};
 ghost use Rattle.bits.specs.Words.{words_across};

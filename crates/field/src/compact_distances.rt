@@ -1,6 +1,6 @@
 //! The distances of all cells of a range of rows, in two bytes per cell where they are short.
 
-ghost use Rattle.std.specs.Prelude.{◌≡◌, ◌↔◌, ℕ, ◌+◌, ◌-◌, ◌<◌, ◌≤◌, true, IfErr, IfOk};
+ghost use Rattle.std.specs.Prelude.{◌≡◌, ◌↔◌, ℕ, ◌<◌, ◌≤◌, true, IfErr, IfOk};
 ghost use Rattle.std.specs.Prelude.{length, slice_index};
 ghost use Rattle.bits.specs.Edges.{IsBlocked};
 ghost use Rattle.field.specs.Distances.{IsFarAway, number_at};

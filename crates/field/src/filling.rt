@@ -1,7 +1,7 @@
 //! The answers of all cells of a range of rows, or the distances alone, written to the caller's
 //! memory.
 
-ghost use Rattle.std.specs.Prelude.{◌≡◌, ◌+◌, IfErr, OnOk};
+ghost use Rattle.std.specs.Prelude.{◌≡◌, IfErr, OnOk};
 ghost use Rattle.metric.specs.declared.refusal.Refusal.TheVariants.{Memory};
 ghost use Rattle.bits.specs.Cells.{IsBitmap};
 ghost use Rattle.field.specs.Bands.{AreAnswers, AreValues, HasRoom};

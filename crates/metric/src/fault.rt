@@ -1,6 +1,6 @@
 //! The faults of an image's text.
 
-ghost use Rattle.std.specs.Prelude.{◌≡◌, Some, codes};
+ghost use Rattle.std.specs.Prelude.{◌≡◌, Some};
 ghost use Rattle.metric.specs.Fault.{fault_name};
 ghost use Rattle.metric.specs.declared.fault.PbmFault.TheVariants.{Memory};
 ghost use Rattle.metric.specs.declared.refusal.Refusal.{Refusal};

@@ -1,6 +1,6 @@
 //! The lines of a table's rows, written by workers in parallel.
 
-ghost use Rattle.std.specs.Prelude.{◌≡◌, ◌+◌, ◌*◌, ◌<◌, ◌≤◌, All, IfOk, take};
+ghost use Rattle.std.specs.Prelude.{◌≡◌, ◌<◌, ◌≤◌, All, IfOk, take};
 ghost use Rattle.std.specs.Prelude.{vec_capacity, vec_len};
 
 use crate::line::{ENTRY_ROOM, SPARE_ROOM};

@@ -1,8 +1,6 @@
 //! The words of the pinned version: a fresh pin reads only those that a query asks for, or their
 //! bands.
 
-ghost use Rattle.std.specs.Prelude.{◌<◌};
-
 use crate::pinned::Pinned;
 use clearance::Rows;
 use shelf::StoreName;
