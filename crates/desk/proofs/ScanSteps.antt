@@ -3,11 +3,11 @@ use Rattle.desk.proofs.Names.{◌≡◌, ℕ, ◌+◌, ◌^◌, ◌<◌, ◌≤�
 use Rattle.desk.proofs.Names.{set, ◌∙◌, refl, arith, Option, None, map-append}
 use Rattle.desk.proofs.Names.{length-map, length-take, take_more_set, Command, Collect, Entry}
 use Rattle.desk.proofs.Names.{Reply, Kept, Seen, IsIn, kept_after, told, kept_told, newest}
-use Rattle.desk.proofs.Names.{IsKept, kept_scanned, steps_before, Base, pin_word, seen_in, story}
+use Rattle.desk.proofs.Names.{IsKept, kept_scanned, steps_before, Base, pin_word, story}
 use Rattle.desk.proofs.Names.{story-push, the_reply, StoreId, readers_of, KeeperView, entries}
 use Rattle.desk.proofs.Names.{scanning, Holding, IsToldByLog, Does, IsInHand, IsWorked}
 use Rattle.desk.proofs.Names.{refused_by_ledger, place_of_ledger}
-use Rattle.events.proofs.logs.KeptLemmas.{seen_in-pin_word}
+use Rattle.events.proofs.logs.KeptLemmas.{seen_in-pin_words}
 use Rattle.desk.proofs.HoldOpen.{can_answer}
 use Rattle.desk.proofs.HoldLemmas.{tidy_told}
 
@@ -25,11 +25,6 @@ pub scan_grows : (seen : List (Option Seen)) (reader word : ℕ) (o : Option See
 scan_grows seen reader word o inside is =
     rw (take_more_set seen reader o inside, map-append pin_word (take reader seen) (o ∷ []), is) refl
 
--- what is read in the words by which readers announce is what they have announced
-words_seen : (seen : List (Option Seen)) → map seen_in (map pin_word seen) ≡ seen
-words_seen [] = refl
-words_seen (o ∷ os) = rw (seen_in-pin_word o, words_seen os) refl
-
 -- the versions that a scan keeps are those that are computed from what it saw
 pub kept_computed : (z : Base) (k : KeeperView) (h : Holding) (kept : Kept)
     (seen as' : List (Option Seen)) → IsToldByLog z (entries k.log) h
@@ -37,7 +32,7 @@ pub kept_computed : (z : Base) (k : KeeperView) (h : Holding) (kept : Kept)
     → kept ≡ kept_scanned (story z (entries k.log)) (map pin_word seen)
 unfolding kept_scanned
 kept_computed z k h kept seen as' tells is same =
-    let ledger = tells.holds.summary.ledger_is in cc (words_seen seen)
+    let ledger = tells.holds.summary.ledger_is in cc (seen_in-pin_words seen)
 
 -- the ledger keeps newest
 pub newest_kept : (z : Base) (k : KeeperView) (h : Holding) → IsToldByLog z (entries k.log) h

@@ -42,6 +42,7 @@ impl Command {
     }
 
     /// Sets the cells of a bitmap to the command's values, and returns how many changed.
+    #[tactic(auto, using(crate::proofs::logs::DrawLemmas::drawings))]
     pub fn draw(&self, draft: &mut Bitmap) -> u32
         requires inside { is_inside draft.old self.now ≡ true }
         requires bitmap { IsBitmap draft.old }
@@ -51,10 +52,7 @@ impl Command {
         match self {
             Command::Paint { rect, black } => draft.fill(*rect, *black),
             Command::Stamp { x, y, bitmap } => draft.stamp(*x, *y, bitmap),
-            Command::Publish => 0,
-            Command::Revert => 0,
-            Command::Collect => 0,
-            Command::Checkpoint => 0,
+            Command::Publish | Command::Revert | Command::Collect | Command::Checkpoint => 0,
         }
     }
 

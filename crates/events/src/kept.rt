@@ -1,12 +1,12 @@
 //! The versions that are kept, each in its slot.
 
-ghost use Rattle.std.specs.Prelude.{◌≡◌, ℕ, ◌+◌, ◌^◌, ◌<◌, ◌≤◌, fold, length, map, slice_index};
+ghost use Rattle.std.specs.Prelude.{◌≡◌, ℕ, ◌+◌, ◌^◌, ◌<◌, ◌≤◌, fold, length, slice_index};
 ghost use Rattle.std.specs.Prelude.{Some, Contains};
 ghost use Rattle.events.specs.declared.kept.Seen.TheVariants.{From, Exact};
-ghost use Rattle.events.specs.Words.{pin_word, seen_in};
+ghost use Rattle.events.specs.Words.{pin_word};
 ghost use Rattle.events.specs.Kept.{members, IsIn, first_free, first_kept, with_version, lowered};
-ghost use Rattle.events.specs.Kept.{slots_after, kept_after, is_stay, slot_after, asks};
-ghost use Rattle.events.specs.Kept.{is_spanned, IsPartOfKept, IsApart, AreExact, announcements};
+ghost use Rattle.events.specs.Kept.{kept_after, is_stay, slot_after, asks, is_spanned};
+ghost use Rattle.events.specs.Kept.{IsPartOfKept, IsApart, AreExact, announcements};
 
 /// The versions that are kept, at most 64: for each slot, 0 if it is free, or its version plus 1.
 #[derive(Clone, Copy, Debug, PartialEq, Eq)]
@@ -65,45 +65,6 @@ fn is_stay(newest: u32, seen: &[Option<Seen>], version: u32) -> bool
         }
     }
     false
-}
-
-/// Whether a reader's word keeps a version.
-fn word_asks(word: u64, version: u32) -> bool
-    ensures { result ≡ asks (seen_in word) version }
-{
-    if word == 0 {
-        return false;
-    }
-    if word % 2 == 1 {
-        return word / 2 <= u64::from(version);
-    }
-    word / 2 - 1 == u64::from(version)
-}
-
-/// Whether a version stays, going by these readers' words.
-fn is_stay_by(newest: u32, words: &[u64], version: u32) -> bool
-    ensures { result ≡ is_stay newest (map seen_in words.now) version }
-{
-    if newest == version {
-        return true;
-    }
-    for word in words {
-        if word_asks(*word, version) {
-            return true;
-        }
-    }
-    false
-}
-
-/// The content of a slot after a collect whose scan saw these words.
-fn slot_after_scan(newest: u32, words: &[u64], slot: u32) -> u32
-    ensures { result ≡ slot_after newest (map seen_in words.now) slot }
-{
-    if 0 < slot && is_stay_by(newest, words, slot - 1) {
-        slot
-    } else {
-        0
-    }
 }
 
 /// The content of a slot after a collect.
@@ -203,20 +164,6 @@ impl Kept {
         false
     }
 
-    /// The versions kept after a collect whose scan saw these words.
-    pub fn after_scan(&self, newest: u32, words: &[u64]) -> Kept
-        ensures { result ≡ record {
-          slots = slots_after newest
-              (map seen_in words.now) self.now.slots;
-        } }
-    {
-        let mut slots = self.slots;
-        for place in 0..64usize {
-            slots[place] = slot_after_scan(newest, words, slots[place]);
-        }
-        Kept { slots }
-    }
-
     /// The versions kept after a collect, each in its slot.
     ///
     /// These are the newest, each version announced exactly, and from each other announcement on
@@ -232,13 +179,6 @@ impl Kept {
         ensures part { IsPartOfKept result.slots self.now.slots }
         ensures few { IsApart self.now → AreExact seen.now
             → length (members result.slots) ≤ 1 + announcements seen.now }
-    {
-        self.stays(newest, seen)
-    }
-
-    /// The content of each slot after a collect.
-    fn stays(&self, newest: u32, seen: &[Option<Seen>]) -> Kept
-        ensures { result ≡ kept_after self.now newest seen.now }
     {
         let mut slots = self.slots;
         for place in 0..64usize {

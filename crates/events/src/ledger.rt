@@ -1,11 +1,10 @@
 //! The ledger of a log: what it counts, which commands that refuses, and the replies.
 
-ghost use Rattle.std.specs.Prelude.{◌≡◌, ◌+◌, ◌^◌, ◌<◌, length, Some, None, if◌then◌else◌};
+ghost use Rattle.std.specs.Prelude.{◌≡◌, ◌+◌, ◌^◌, ◌<◌, length};
 ghost use Rattle.events.specs.Kept.{members, first_free, first_kept, with_version, least_kept};
-ghost use Rattle.metric.specs.declared.refusal.Refusal.TheVariants.{VersionsFull};
 ghost use Rattle.events.specs.declared.command.Reply.TheVariants.{Painted, Published, Reverted};
 ghost use Rattle.events.specs.declared.command.Reply.TheVariants.{Collected, Checkpointed};
-ghost use Rattle.events.specs.Ledger.{HasPlace, IsBalanced, has_no_slot, refused_by_ledger};
+ghost use Rattle.events.specs.Ledger.{HasPlace, IsBalanced, refused_by_ledger};
 ghost use Rattle.events.specs.Words.{now_word};
 
 use crate::command::{Command, Reply};
@@ -69,17 +68,6 @@ impl Ledger {
         }
     }
 
-    /// Whether a publish is refused because no slot is free.
-    fn judge_slots(&self) -> Option<Refusal>
-        ensures { result ≡ (if has_no_slot self.now then Some VersionsFull else None) }
-    {
-        if self.setting.versions <= self.kept.count() {
-            Some(Refusal::VersionsFull)
-        } else {
-            None
-        }
-    }
-
     /// Why a command is refused, blocks aside, if it is: for its area (`OutOfRange`), a full log
     /// (`LogFull`, never a checkpoint), no place left (`PlacesUsed`) or no free slot
     /// (`VersionsFull`, a publish), in this order.
@@ -98,12 +86,10 @@ impl Ledger {
             return Some(Refusal::PlacesUsed);
         }
         match command {
-            Command::Paint { .. } => None,
-            Command::Stamp { .. } => None,
-            Command::Publish => self.judge_slots(),
-            Command::Revert => None,
-            Command::Collect => None,
-            Command::Checkpoint => None,
+            Command::Publish if self.setting.versions <= self.kept.count() => {
+                Some(Refusal::VersionsFull)
+            }
+            _ => None,
         }
     }
 

@@ -52,12 +52,12 @@ map-fresh zero = refl
 map-fresh (suc n) = ap (λ (xs : List Reader). fresh_reader ∷ xs) (map-fresh n)
 
 -- before a world's first event its state is the opened one
-state-new : (g : Setting) (b opening : Cells) (words : List ℕ) (log : List Entry) (scanned : List ℕ)
+state-new : (g : Setting) (b opening : Cells) (words : List ℕ) (log : List Entry)
     (standings : List Standing) (u : Summary) (room : Room)
     → IsNew g b opening words log standings u room
     → opened_state record { setting = g; opening = b } words
-    ≡ state_of u.ledger.setting opening words log None 0 scanned standings
-state-new g b opening words log scanned standings u room new = search (rules, map-fresh)
+    ≡ state_of u.ledger.setting opening words log None 0 [] standings
+state-new g b opening words log standings u room new = search (rules, map-fresh)
 
 -- what is kept besides the words of a world is what the empty log says
 consistent_opened : (g : Setting) (b opening : Cells) (words : List ℕ) (log : List Entry)
@@ -111,23 +111,23 @@ consistent_opened g b opening words log standings u room new =
 
 -- a world is consistent before its first event
 pub consistent_new : (g : Setting) (b opening : Cells) (words : List ℕ) (log : List Entry)
-    (scanned : List ℕ) (standings : List Standing) (u : Summary) (room : Room)
+    (standings : List Standing) (u : Summary) (room : Room)
     → IsNew g b opening words log standings u room
-    → IsConsistent (state_of u.ledger.setting opening words log None 0 scanned standings) None 0
+    → IsConsistent (state_of u.ledger.setting opening words log None 0 [] standings) None 0
     standings u room
-consistent_new g b opening words log scanned standings u room new =
+consistent_new g b opening words log standings u room new =
     subst (λ (w : State). IsConsistent w None 0 standings u room)
-    (state-new g b opening words log scanned standings u room new)
+    (state-new g b opening words log standings u room new)
     (consistent_opened g b opening words log standings u room new)
 
 -- a world is opened before its first event
 pub opened_new : (g : Setting) (b opening : Cells) (words : List ℕ) (log : List Entry)
-    (scanned : List ℕ) (standings : List Standing) (u : Summary) (room : Room)
+    (standings : List Standing) (u : Summary) (room : Room)
     → IsNew g b opening words log standings u room
     → IsOpened record { setting = g; opening = b }
-    (state_of u.ledger.setting opening words log None 0 scanned standings)
-opened_new g b opening words log scanned standings u room new =
+    (state_of u.ledger.setting opening words log None 0 [] standings)
+opened_new g b opening words log standings u room new =
     subst (λ (w : State). IsOpened record { setting = g; opening = b } w)
-    (state-new g b opening words log scanned standings u room new)
+    (state-new g b opening words log standings u room new)
     (IsOpened-opening record { setting = g; opening = b } words
     (fits_ready g b new.bitmap new.fits) new.words_are)

@@ -10,7 +10,7 @@ mod reads;
 mod words;
 
 use bits::Bitmap;
-use events::{Command, Entry, Event, Ledger, NotEnabled, RetiredBlock, Standing, StepReply};
+use events::{Command, Entry, Event, Ledger, NotEnabled, RetiredBlock, Seen, Standing, StepReply};
 use std::alloc::Global;
 use std::collections::VecDeque;
 use std::marker::Model;
@@ -24,12 +24,12 @@ pub struct World {
     // NOW, a word for each reader, the slots' directories, the blocks' rows.
     words: Vec<u64>,
     log: Vec<Entry>,
-    // The current command: how many of its steps are done, how many come before its last, and the
-    // words that its scan has seen.
+    // The current command: how many of its steps are done, how many come before its last, and what
+    // the words that its scan has seen announce.
     hand: Option<Command>,
     done: u32,
     steps: u32,
-    scanned: Vec<u64>,
+    scanned: Vec<Option<Seen>>,
     readers: Vec<Standing>,
     // What follows from the log: the draft, and the newest version's bitmap.
     draft: Bitmap,
@@ -50,16 +50,18 @@ impl Model for World {
 
     ghost Value = { State };
 
+    ghost use Rattle.events.specs.Words.{pin_word};
     ghost use Rattle.map_core.specs.Consistent.{state_of, IsConsistent};
+    ghost use Rattle.std.specs.Prelude.{map};
     ghost use Rattle.std.specs.Vec.{vec_capacity};
     ghost use Rattle.std.specs.VecDeque.{deque_capacity};
 
     ghost view = { λ a. state_of a.ledger.setting a.opening a.words.items a.log.items a.hand a.done
-        a.scanned.items a.readers.items };
+        (map pin_word a.scanned.items) a.readers.items };
 
     ghost invariant = { λ a. IsConsistent
-        (state_of a.ledger.setting a.opening a.words.items a.log.items a.hand a.done a.scanned.items
-        a.readers.items) a.hand a.steps a.readers.items
+        (state_of a.ledger.setting a.opening a.words.items a.log.items a.hand a.done
+        (map pin_word a.scanned.items) a.readers.items) a.hand a.steps a.readers.items
         record {
           ledger = a.ledger;
           draft = a.draft;

@@ -1,8 +1,8 @@
 -- The versions that are kept, each in its slot.
-use Rattle.events.proofs.Names.{rules, ◌≡◌, ◌≢◌, ℕ, zero, suc, ◌-◌, ◌/◌, ◌%◌, ◌<◌, ◌≤◌, ◌⊎◌, ◌==◌}
+use Rattle.events.proofs.Names.{rules, ◌≡◌, ◌≢◌, ℕ, zero, suc, ◌<◌, ◌≤◌, ◌⊎◌, ◌==◌}
 use Rattle.events.proofs.Names.{◌||◌, Bool, true, false, List, [], ◌∷◌, ◌++◌, length, map, get_or}
-use Rattle.events.proofs.Names.{set, refl, ap, sym, ◌∙◌, arith, Option, Some, None, inl, list_any}
-use Rattle.events.proofs.Names.{cases_eq, eq-eqb, get_or-set_other, inr, Kept, Seen, From, Exact}
+use Rattle.events.proofs.Names.{set, refl, ap, sym, ◌∙◌, arith, Option, inl, list_any}
+use Rattle.events.proofs.Names.{cases_eq, eq-eqb, get_or-set_other, inr, Kept, Seen}
 use Rattle.events.proofs.Names.{members, first_free, IsIn, with_version, asks, times, is_stay}
 use Rattle.events.proofs.Names.{IsPartOfKept, slots_after, kept_after, pin_word, seen_in}
 use Rattle.std.proofs.lemmas.Grind.{common_steps}
@@ -183,6 +183,11 @@ pub seen_in-pin_word : (o : Option Seen) → seen_in (pin_word o) ≡ o
 unfolding seen_in pin_word
 seen_in-pin_word o = search rules
 
+-- words say what was announced by them
+pub seen_in-pin_words : (seen : List (Option Seen)) → map seen_in (map pin_word seen) ≡ seen
+seen_in-pin_words [] = refl
+seen_in-pin_words (o ∷ os) = rw (seen_in-pin_word o, seen_in-pin_words os) refl
+
 -- ---- members that a function is applied to
 
 -- a version of a slot is among the kept ones that a function is applied to
@@ -244,16 +249,9 @@ changed f zero xs = xs
 changed f (suc i) [] = []
 changed f (suc i) (x ∷ xs) = f x ∷ changed f i xs
 
--- the number after the changed ones is as it was
-pub get_or-changed : (f : ℕ → ℕ) (i : ℕ) (xs : List ℕ) (d : ℕ)
-    → get_or (changed f i xs) i d ≡ get_or xs i d
-get_or-changed f zero xs d = refl
-get_or-changed f (suc i) [] d = refl
-get_or-changed f (suc i) (x ∷ xs) d = get_or-changed f i xs d
-
 -- changing the number after the changed ones changes one more of the first numbers
 pub set-changed : (f : ℕ → ℕ) (i : ℕ) (xs : List ℕ) → i < length xs
-    → set (changed f i xs) i (f (get_or xs i 0)) ≡ changed f (suc i) xs
+    → set (changed f i xs) i (f (get_or (changed f i xs) i 0)) ≡ changed f (suc i) xs
 set-changed f i [] h = absurd (omega arith)
 set-changed f zero (x ∷ xs) h = refl
 set-changed f (suc i) (x ∷ xs) h = ap (λ (ys : List ℕ). f x ∷ ys) (set-changed f i xs (omega arith))
@@ -264,19 +262,3 @@ changed-all f zero [] h = refl
 changed-all f zero (x ∷ xs) h = absurd (omega arith)
 changed-all f (suc i) [] h = refl
 changed-all f (suc i) (x ∷ xs) h = ap (λ (ys : List ℕ). f x ∷ ys) (changed-all f i xs (omega arith))
-
--- a word that is 0 tells that nothing is announced
-pub seen_none : (word : ℕ) → word ≡ 0 → seen_in word ≡ None
-unfolding seen_in
-seen_none word is = let test : (word == 0) ≡ true = eq-eqb word 0 is in rw test refl
-
--- an odd word tells that a version and those after it are announced
-pub seen_first : (word : ℕ) → (word ≡ 0 → ⊥) → word % 2 ≡ 1 → seen_in word ≡ Some (From (word / 2))
-unfolding seen_in
-seen_first word some is = search rules
-
--- an even word that isn't 0 tells that one version alone is announced
-pub seen_exact : (word : ℕ) → (word ≡ 0 → ⊥) → (word % 2 ≡ 1 → ⊥)
-    → seen_in word ≡ Some (Exact (word / 2 - 1))
-unfolding seen_in
-seen_exact word some is = search rules

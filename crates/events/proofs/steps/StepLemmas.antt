@@ -188,7 +188,8 @@ keeps-write w h whole publish more =
     }
 
 -- a list has something at each place within it
-there_is : {A : Type 0} (xs : List A) (i : ℕ) → i < length xs → (x : A) × (slice_get xs i ≡ Some x)
+pub there_is : {A : Type 0} (xs : List A) (i : ℕ) → i < length xs
+    → (x : A) × (slice_get xs i ≡ Some x)
 there_is [] i h = absurd (omega arith)
 there_is (y ∷ ys) zero h = (y, refl)
 there_is (y ∷ ys) (suc i) h = there_is ys i (omega arith)

@@ -111,7 +111,7 @@ impl World {
         requires { IsLastOf self.old Collect }
         ensures { SafeStep self.old Keep (Ok result) self.new }
     {
-        let kept = (self.ledger.kept).after_scan(self.ledger.newest, self.scanned.as_slice());
+        let kept = (self.ledger.kept).after(self.ledger.newest, self.scanned.as_slice());
         let before = self.retired.len();
         give_back_retired(&kept, &mut self.retired, &mut self.free);
         let freed = (before - self.retired.len()) as u32;

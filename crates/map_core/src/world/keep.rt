@@ -12,7 +12,7 @@ ghost use Rattle.events.specs.declared.command.Command.TheVariants.{Publish, Col
 ghost use Rattle.map_core.specs.Consistent.{IsStepOf};
 
 use crate::world::World;
-use events::{Command, NotEnabled, Plan, StepReply, count_own, nth_own};
+use events::{Command, NotEnabled, Plan, Seen, StepReply, count_own, nth_own};
 
 impl World {
     /// A step of a collect: loads the next reader's word.
@@ -22,7 +22,7 @@ impl World {
     {
         let reader = self.done;
         let word = self.words[Plan::pin_at(reader)];
-        self.scanned.push_reserved(word);
+        self.scanned.push_reserved(Seen::in_word(word));
         self.done += 1;
         StepReply::Scanned { reader, word }
     }

@@ -1,32 +1,32 @@
--- What stays is what the announcements keep.
-use Rattle.events.proofs.Names.{◌+◌, ◌≤◌, length, subst, sym, Kept, members, IsIn, IsPartOfKept}
-use Rattle.events.proofs.Names.{announcements}
+-- One more slot has what it has after a collect, and then all have; what stays is what the
+-- announcements keep.
+use native.Mathlib.Numerals.{unary_clauses}
+use Rattle.events.proofs.Names.{rules, ap, arith, Kept}
 use Rattle.events.proofs.logs.KeptAfter.{newest_after, exact_after, from_after, few_after}
-use Rattle.events.proofs.logs.KeptLemmas.{part-after}
+use Rattle.events.proofs.logs.KeptLemmas.{set-changed, changed-all, part-after}
 use Rattle.events.proofs.kept.Kept.after.Goals as goal
 
+pub loop-place-preserved : goal.loop-place-preserved
+loop-place-preserved c =
+    rw (c.slot_after.ensures, c.loop-place.invariant)
+    (simp unary_clauses (set-changed _ _ _ (omega arith)))
+
+pub returns-clause-kept : goal.returns-clause-kept
+returns-clause-kept c = search (rules, changed-all)
+
 pub returns-clause-newest : goal.returns-clause-newest
-returns-clause-newest c =
-    λ h. subst (λ (k : Kept). IsIn k c.args.newest) (sym c.stays.ensures)
-    (newest_after c.args.self.now c.args.newest c.args.seen.now h)
+returns-clause-newest c = rw (returns-clause-kept c) (newest_after _ _ c.args.seen.now)
 
 pub returns-clause-exact : goal.returns-clause-exact
-returns-clause-exact c =
-    λ v there h. subst (λ (k : Kept). IsIn k v) (sym c.stays.ensures)
-    (exact_after c.args.self.now c.args.newest c.args.seen.now v there h)
+returns-clause-exact c = rw (returns-clause-kept c) (exact_after _ _ _)
 
 pub returns-clause-from : goal.returns-clause-from
-returns-clause-from c =
-    λ a v there low h. subst (λ (k : Kept). IsIn k v) (sym c.stays.ensures)
-    (from_after c.args.self.now c.args.newest c.args.seen.now a v there low h)
+returns-clause-from c = rw (returns-clause-kept c) (from_after _ _ _)
 
 pub returns-clause-part : goal.returns-clause-part
 returns-clause-part c =
-    subst (λ (k : Kept). IsPartOfKept k.slots c.args.self.now.slots) (sym c.stays.ensures)
-    (part-after c.args.newest c.args.seen.now c.args.self.now.slots)
+    rw (ap (λ (k : Kept). k.slots) (returns-clause-kept c)) (part-after _ c.args.seen.now _)
 
 pub returns-clause-few : goal.returns-clause-few
 returns-clause-few c =
-    λ apart exact. subst (λ (k : Kept). length (members k.slots)
-    ≤ 1 + announcements c.args.seen.now) (sym c.stays.ensures)
-    (few_after c.args.self.now c.args.newest c.args.seen.now apart exact)
+    rw (ap (λ (k : Kept). k.slots) (returns-clause-kept c)) (few_after _ _ c.args.seen.now)

@@ -35,8 +35,7 @@ invariant_of-self c =
     c.enter_checkpoint-reply.ensures.reply) (now_of_ledger _ _ _ _ entered c.commit.ensures.now)
     in
     rw (c.commit.ensures.log)
-    (consistent_commit _ _ _ _ _ _ c.self.inside.done _ _ _ c.self.inside.scanned.items _ _ _ _ _ _
-    _ _ c.self.invariant does
+    (consistent_commit _ _ _ _ _ _ _ _ _ _ _ _ _ _ _ _ _ c.self.invariant does
     (summary_checkpoint _ _ _ _ _ _ c.self.invariant.summary entered)
     (omega arith) (omega arith) (omega arith) c.self.invariant.roomy.scratch)
 

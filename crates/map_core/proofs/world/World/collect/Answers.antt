@@ -1,6 +1,6 @@
 -- The last step of a collect is safe: what is kept after the blocks went back tells the log with
 -- its entry.
-use Rattle.map_core.proofs.Names.{ap, ◌≡◌, ◌-◌, arith, refl, length, Ledger}
+use Rattle.map_core.proofs.Names.{ap, ◌≡◌, ◌-◌, arith, refl, length, map, Ledger, pin_word}
 use Rattle.map_core.proofs.CommitWorld.{kept_collect, reply_collect, room_retired, stay_few}
 use Rattle.map_core.proofs.CommitWorld.{choice_collect, last_known, last_does, place_of_last}
 use Rattle.map_core.proofs.CommitWorld.{consistent_commit}
@@ -22,7 +22,7 @@ overflow_sub-freed c =
       c.len-before.ensures,
       c.self.inside.retired.ok,
       c.give_back_retired.new.retired.ok,
-      stay_few c.after_scan-kept.result c.self.inside.retired.items
+      stay_few c.after-kept.result c.self.inside.retired.items
           c.give_back_retired.new.retired.items c.give_back_retired.ensures.retired,
     )
 
@@ -55,12 +55,12 @@ invariant_of-self c =
     let known = last_known c.self.inside.hand _ _ c.self.view_is refl c.requires in
     let ledger = c.self.invariant.summary.ledger_is in
     let entered = ledger_collect _ _ _ c.enter_collect-reply.new.self c.enter_collect-reply.result _
-    _ _ c.after_scan-kept.result ledger c.enter_collect-reply.ensures.reply
+    _ _ c.after-kept.result ledger c.enter_collect-reply.ensures.reply
     c.enter_collect-reply.ensures.entered in
-    let kept_is = kept_collect _ _ _ c.self.inside.scanned.items c.after_scan-kept.result ledger
-    (rw (← c.as_slice.ensures.value) c.after_scan-kept.ensures) in
-    let choice = choice_collect c.self.invariant c.self.inside.scanned.items
-    c.after_scan-kept.result kept_is in
+    let kept_is = kept_collect _ _ _ c.self.inside.scanned.items c.after-kept.result ledger
+    (rw (← c.as_slice.ensures.value) c.after-kept.ensures.kept) in
+    let choice = choice_collect c.self.invariant (map pin_word c.self.inside.scanned.items)
+    c.after-kept.result kept_is in
     let tidy = tidy_of _ c.self.invariant.whole in
     let count : c.len-before.result - c.len.result
     ≡ length c.self.inside.retired.items - length c.give_back_retired.new.retired.items =
@@ -77,8 +77,7 @@ invariant_of-self c =
     (reply_collect _ _ _ _ _ _ _ ledger c.enter_collect-reply.ensures.reply kept_is freed)
     (now_of_ledger _ _ _ _ entered c.commit.ensures.now) in
     rw (c.commit.ensures.log)
-    (consistent_commit _ _ _ _ _ _ c.self.inside.done _ _ _ c.self.inside.scanned.items _ _ _ _ _ _
-    _ _ c.self.invariant does
+    (consistent_commit _ _ _ _ _ _ _ _ _ _ _ _ _ _ _ _ _ c.self.invariant does
     (summary_collect _ _ _ _ _ _ _ _ _ _ _ _ c.self.invariant.summary
     c.enter_collect-reply.ensures.reply entered c.give_back_retired.ensures.retired
     c.give_back_retired.ensures.free)
@@ -90,12 +89,12 @@ returns c =
     let known = last_known c.self.inside.hand _ _ c.self.view_is refl c.requires in
     let ledger = c.self.invariant.summary.ledger_is in
     let entered = ledger_collect _ _ _ c.enter_collect-reply.new.self c.enter_collect-reply.result _
-    _ _ c.after_scan-kept.result ledger c.enter_collect-reply.ensures.reply
+    _ _ c.after-kept.result ledger c.enter_collect-reply.ensures.reply
     c.enter_collect-reply.ensures.entered in
-    let kept_is = kept_collect _ _ _ c.self.inside.scanned.items c.after_scan-kept.result ledger
-    (rw (← c.as_slice.ensures.value) c.after_scan-kept.ensures) in
-    let choice = choice_collect c.self.invariant c.self.inside.scanned.items
-    c.after_scan-kept.result kept_is in
+    let kept_is = kept_collect _ _ _ c.self.inside.scanned.items c.after-kept.result ledger
+    (rw (← c.as_slice.ensures.value) c.after-kept.ensures.kept) in
+    let choice = choice_collect c.self.invariant (map pin_word c.self.inside.scanned.items)
+    c.after-kept.result kept_is in
     let tidy = tidy_of _ c.self.invariant.whole in
     let count : c.len-before.result - c.len.result
     ≡ length c.self.inside.retired.items - length c.give_back_retired.new.retired.items =

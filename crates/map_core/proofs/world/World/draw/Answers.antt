@@ -22,7 +22,7 @@ copy_from-requires-clause-height c = same_height c.self.invariant
 
 pub draw-changed-requires-clause-inside : goal.draw-changed-requires-clause-inside
 draw-changed-requires-clause-inside c =
-    hand_inside c.self.invariant c.in-Some.command c.self.inside.done c.self.inside.scanned.items _
+    hand_inside c.self.invariant c.in-Some.command c.self.inside.done _ _
     refl (sym c.take.ensures.value ∙ c.in-Some.is) c.copy_from.ensures
 
 pub draw-changed-requires-clause-bitmap : goal.draw-changed-requires-clause-bitmap
@@ -71,8 +71,7 @@ invariant_of-self c =
     c.draw-changed.ensures.changed))
     (now_of_ledger _ _ _ _ entered c.commit.ensures.now) in
     rw (c.commit.ensures.log, c.take.ensures.after)
-    (consistent_commit _ _ _ _ _ _ c.self.inside.done _ _ _ c.self.inside.scanned.items _ _ _ _ _ _
-    _ _ c.self.invariant does
+    (consistent_commit _ _ _ _ _ _ _ _ _ _ _ _ _ _ _ _ _ c.self.invariant does
     (summary_draw _ _ _ _ _ _ _ _ _ _ c.self.invariant.summary
     (tidy_of _ c.self.invariant.whole).shape.changed known.draws
     entered

@@ -119,8 +119,7 @@ invariant_of-self c =
     (reply_publish _ _ _ _ _ c.self.invariant.summary.ledger_is
     c.enter_publish-reply.ensures.reply) (now_of_ledger _ _ _ _ entered c.commit.ensures.now) in
     rw (c.commit.ensures.log)
-    (consistent_commit _ _ _ _ _ _ c.self.inside.done _ _ _ c.self.inside.scanned.items _ _ _ _ _ _
-    _ _ c.self.invariant does
+    (consistent_commit _ _ _ _ _ _ _ _ _ _ _ _ _ _ _ _ _ c.self.invariant does
     (summary_publish _ _ _ _ _ _ _ _ _ _ c.self.invariant.summary tidy entered c.copy_from.ensures
     (cleared_back _ _ _ _ _ c.publish_own.ensures.own c.as_mut_slice.ensures.value
     (omega (arith, c.self.inside.own.ok)))

@@ -37,8 +37,7 @@ invariant_of-self c =
     (reply_revert _ _ _ _ _ c.self.invariant.summary.ledger_is c.enter_revert-reply.ensures.reply)
     (now_of_ledger _ _ _ _ entered c.commit.ensures.now) in
     rw (c.commit.ensures.log)
-    (consistent_commit _ _ _ _ _ _ c.self.inside.done _ _ _ c.self.inside.scanned.items _ _ _ _ _ _
-    _ _ c.self.invariant does
+    (consistent_commit _ _ _ _ _ _ _ _ _ _ _ _ _ _ _ _ _ c.self.invariant does
     (summary_revert _ _ _ _ _ _ _ _ _ c.self.invariant.summary entered c.copy_from.ensures
     (cleared_back _ _ _ _ _ c.give_back_own.ensures.own c.as_mut_slice.ensures.value
     (omega (arith, c.self.inside.own.ok)))
