@@ -33,8 +33,5 @@ pub fn say_last<S: Stream>(stream: &mut S, text: &mut Text, answer: &Answer, end
     requires { CanGoOn (S.wire stream.old) }
     ensures { HasSaid end result (S.wire stream.old) (reply_line answer.now) (S.wire stream.new) }
 {
-    match say_now(stream, text, answer) {
-        Ok(()) => end,
-        Err(_) => End::WriteFailed,
-    }
+    say_now(stream, text, answer).map_or(End::WriteFailed, |()| end)
 }

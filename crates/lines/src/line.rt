@@ -48,14 +48,11 @@ pub fn parse_line(alloc: Global, bytes: &[u8]) -> Result<Line, Refusal>
         → said bytes.now ≡ Err refusal) }
     ensures memory { result ≡ Err Refusal.Memory → IsOkAnd (said bytes.now) SaysPoints }
 {
-    let Some((verb, rest)) = split_verb(bytes) else {
-        return Err(Refusal::UnknownCommand);
-    };
+    let (verb, rest) = split_verb(bytes).ok_or(Refusal::UnknownCommand)?;
     match verb {
-        Verb::Order(order) => match read_order(order, rest) {
-            Some(command) => Ok(Line::Command(command)),
-            None => Err(Refusal::BadArguments),
-        },
+        Verb::Order(order) => read_order(order, rest)
+            .map(Line::Command)
+            .ok_or(Refusal::BadArguments),
         Verb::Ask(kind) => Ok(Line::Query(read_query(alloc, kind, rest)?)),
         Verb::Stamp => read_stamp(rest).ok_or(Refusal::BadArguments),
         Verb::Pin => bare_line(rest, Line::Pin).ok_or(Refusal::BadArguments),

@@ -65,26 +65,22 @@ pub fn read_query(alloc: Global, kind: QueryKind, rest: Option<&[u8]>) -> Result
     ensures memory { result ≡ Err Refusal.Memory
         → IsOkAnd (arguments_asked kind (words_left rest.entry)) HasPoints }
 {
-    let Some((metric, rest)) = read_metric(rest) else {
-        return Err(Refusal::BadArguments);
-    };
+    let (metric, rest) = read_metric(rest).ok_or(Refusal::BadArguments)?;
     match kind {
-        QueryKind::At => match read_point(rest) {
-            Some(cell) => Ok(Query::At { metric, cell }),
-            None => Err(Refusal::BadArguments),
-        },
-        QueryKind::Rect => match read_rect(rest) {
-            Some(rect) => Ok(Query::Rect { metric, rect }),
-            None => Err(Refusal::BadArguments),
-        },
+        QueryKind::At => {
+            let cell = read_point(rest).ok_or(Refusal::BadArguments)?;
+            Ok(Query::At { metric, cell })
+        }
+        QueryKind::Rect => {
+            let rect = read_rect(rest).ok_or(Refusal::BadArguments)?;
+            Ok(Query::Rect { metric, rect })
+        }
         QueryKind::Path => {
             let points = read_path(alloc, rest)?;
             Ok(Query::Path { metric, points })
         }
         QueryKind::ClearOf => {
-            let Some((d, rest)) = next_number(rest) else {
-                return Err(Refusal::BadArguments);
-            };
+            let (d, rest) = next_number(rest).ok_or(Refusal::BadArguments)?;
             let points = read_path(alloc, rest)?;
             Ok(Query::ClearOf { metric, d, points })
         }

@@ -13,10 +13,7 @@ use metric::Refusal;
 pub fn answered(applied: Result<Reply, (Command, Refusal)>) -> Result<Reply, Refusal>
     ensures { result ≡ outcome_of applied }
 {
-    match applied {
-        Ok(reply) => Ok(reply),
-        Err((_, refusal)) => Err(refusal),
-    }
+    applied.map_err(|(_, refusal)| refusal)
 }
 
 /// The answer to a stamp; of a command that was returned, only the bitmap.
