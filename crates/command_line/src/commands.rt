@@ -1,17 +1,15 @@
 //! The words that the program accepts, by `clap`.
 
 ghost use Rattle.std.specs.Prelude.{◌≡◌, ℕ, List, [], ◌∷◌, IfOk, IfErr, OnErr, MatchResult, true};
-ghost use Rattle.std.specs.Prelude.{false, map, option_and_then, Some, codes};
+ghost use Rattle.std.specs.Prelude.{false, codes};
 ghost use Rattle.clap.specs.Words.{HasMatchesOf, app_of, found_of, kind_of};
 ghost use Rattle.clap.specs.Words.{rows_of, rule_of, takes};
 ghost use Rattle.clap.specs.declared.builder.command.Command.TheViews.{out-Command};
 ghost use Rattle.clap.specs.declared.error.kind.ErrorKind.TheVariants.{OutOfMemory};
-ghost use Rattle.metric.specs.Kind.{metric_named};
 ghost use Rattle.command_line.specs.declared.arguments.Fault.TheVariants.{Memory};
 ghost use Rattle.command_line.specs.declared.arguments.Options.TheVariants.{Steps};
 ghost use Rattle.command_line.specs.CommandLine.{AreDistOptions, AreNoDistOptions, AreOptions};
 ghost use Rattle.command_line.specs.CommandLine.{AreTaken, IsDefaultDist, program_app, texts_of};
-ghost use Rattle.command_line.specs.ServeLine.{flag_text};
 ghost use Rattle.command_line.specs.Tables.{app_of_entry, rule_of_flag, with_entries};
 
 use crate::arguments::{DistOptions, Fault, Options};
@@ -43,15 +41,13 @@ pub fn options<'a>(alloc: Global, words: &'a [&'a str]) -> Result<Options<'a>, F
 }
 
 /// The flags of `dist`.
+#[tactic(auto, using(crate::proofs::CommandLines::text_of_flag))]
 fn dist_options<'a>(flags: &ArgMatches<'a>) -> Result<DistOptions<'a>, Fault<'a>>
     ensures options { IfOk result (AreDistOptions (rows_of (found_of flags.now))) }
     ensures refused { OnErr result (AreNoDistOptions (rows_of (found_of flags.now))) }
 {
-    let Some(metric) = metric_given(flags) else {
-        return Err(Fault::UnknownMetric {
-            name: flags.get_str("metric").unwrap_or(""),
-        });
-    };
+    let name = flags.get_str("metric").unwrap_or("");
+    let metric = MetricKind::named(name.as_bytes()).ok_or(Fault::UnknownMetric { name })?;
     let edge = edge_given(flags)?;
     let workers = number_given(flags, "workers", 1, 16)?;
     Ok(DistOptions {
@@ -63,16 +59,6 @@ fn dist_options<'a>(flags: &ArgMatches<'a>) -> Result<DistOptions<'a>, Fault<'a>
             count: workers as u8,
         },
     })
-}
-
-/// The metric that `--metric` names.
-#[tactic(auto, using(crate::proofs::CommandLines::text_of_flag))]
-fn metric_given(flags: &ArgMatches<'_>) -> Option<MetricKind>
-    ensures { result ≡ option_and_then metric_named (flag_text flags.now (codes "metric")) }
-{
-    flags
-        .get_str("metric")
-        .and_then(|name| MetricKind::named(name.as_bytes()))
 }
 
 /// What the words say, by the program's commands and flags.
@@ -101,17 +87,15 @@ fn program<'a>(alloc: Global) -> Result<Command<'a>, AllocError>
 /// The program with these commands, too.
 fn with_commands<'a>(
     alloc: Global,
-    program: Command<'a>,
+    mut program: Command<'a>,
     entries: &[Entry<'a>],
 ) -> Result<Command<'a>, AllocError>
     ensures { IfOk result (λ made. app_of made ≡ with_entries (app_of program.entry) entries.now) }
 {
-    let mut made = program;
     for entry in entries {
-        let command = command_of(alloc, *entry)?;
-        made = made.subcommand(command)?;
+        program = program.subcommand(command_of(alloc, *entry)?)?;
     }
-    Ok(made)
+    Ok(program)
 }
 
 /// A command and its flags.

@@ -1,9 +1,7 @@
 //! Reports why words are refused, or prints the help or the version that they ask for.
 
-ghost use Rattle.std.specs.Prelude.{◌≡◌, ◌≢◌, ◌+◌, ◌≤◌, ◌∷◌, ◌++◌, []};
-ghost use Rattle.metric.specs.Stream.{Appends, CanFail};
-ghost use Rattle.metric.specs.Refusal.{refusal_text};
-ghost use Rattle.metric.specs.declared.refusal.Refusal.{Refusal};
+ghost use Rattle.std.specs.Prelude.{◌≡◌, ◌≢◌, ◌+◌, ◌≤◌};
+ghost use Rattle.metric.specs.Stream.{CanFail};
 ghost use Rattle.command_line.specs.Told.{Begins, IsFaultTold, IsStatusOf};
 
 use crate::arguments::Fault;
@@ -37,32 +35,6 @@ fn text_of(alloc: Global, fault: &Fault<'_>) -> Result<String, AllocError> {
     }
 }
 
-/// Writes a text, and returns this status, or 1 if the writer fails.
-fn write_or_fail<W: Sink>(writer: &mut W, text: &[u8], status: u8) -> u8
-    requires { CanFail (W.failed_writes writer.old) }
-    ensures written { W.failed_writes writer.new ≡ W.failed_writes writer.old
-        → Appends (W.held writer.old) text.now (W.held writer.new) × (result ≡ status) }
-    ensures failed { W.failed_writes writer.new ≢ W.failed_writes writer.old
-        → Begins (W.held writer.old) (W.held writer.new) × (result ≡ 1) }
-    ensures one_failure { W.failed_writes writer.new ≤ W.failed_writes writer.old + 1 }
-{
-    write_text(writer, text, status).unwrap_or(REFUSED)
-}
-
-/// Reports that memory has run out. Returns the status.
-fn tell_memory<W: Sink>(writer: &mut W, refusal: Refusal) -> u8
-    requires writer { CanFail (W.failed_writes writer.old) }
-    requires memory { refusal ≡ Refusal.Memory }
-    ensures written { W.failed_writes writer.new ≡ W.failed_writes writer.old
-        → Appends (W.held writer.old) (refusal_text Refusal.Memory ++ 10 ∷ []) (W.held writer.new) }
-    ensures failed { W.failed_writes writer.new ≢ W.failed_writes writer.old
-        → Begins (W.held writer.old) (W.held writer.new) }
-    ensures one_failure { W.failed_writes writer.new ≤ W.failed_writes writer.old + 1 }
-    ensures status { result ≡ 1 }
-{
-    write_refusal(writer, refusal).unwrap_or(REFUSED)
-}
-
 /// Reports on `errors` why words are refused, or prints on the writer what they ask for. Returns
 /// the status.
 pub fn tell<W: Sink, E: Sink>(
@@ -86,18 +58,17 @@ pub fn tell<W: Sink, E: Sink>(
     ensures one_failure { W.failed_writes writer.new + E.failed_writes errors.new
         ≤ W.failed_writes writer.old + E.failed_writes errors.old + 1 }
 {
-    match fault {
-        Fault::Memory => return tell_memory(writer, Refusal::Memory),
-        _ => {}
+    if let Fault::Memory = fault {
+        return write_refusal(writer, Refusal::Memory).unwrap_or(REFUSED);
     }
     let text = match text_of(alloc, fault) {
         Ok(text) => text,
-        Err(refused) => return tell_memory(writer, Refusal::from(refused)),
+        Err(refused) => return write_refusal(writer, Refusal::from(refused)).unwrap_or(REFUSED),
     };
     let status = status_of(fault);
     if status == MISTAKEN {
-        write_or_fail(errors, text.as_bytes(), status)
+        write_text(errors, text.as_bytes(), status).unwrap_or(REFUSED)
     } else {
-        write_or_fail(writer, text.as_bytes(), status)
+        write_text(writer, text.as_bytes(), status).unwrap_or(REFUSED)
     }
 }

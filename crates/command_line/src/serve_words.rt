@@ -54,15 +54,8 @@ pub fn edge_given<'a>(flags: &ArgMatches<'a>) -> Result<Edge, Fault<'a>>
         ≡ Some edge) (λ _. option_and_then edge_named
         (flag_text flags.now (codes "edge")) ≡ None) }
 {
-    match flags
-        .get_str("edge")
-        .and_then(|name| Edge::named(name.as_bytes()))
-    {
-        Some(edge) => Ok(edge),
-        None => Err(Fault::UnknownEdge {
-            name: flags.get_str("edge").unwrap_or(""),
-        }),
-    }
+    let name = flags.get_str("edge").unwrap_or("");
+    Edge::named(name.as_bytes()).ok_or(Fault::UnknownEdge { name })
 }
 
 /// The flag of `ask`.
@@ -82,8 +75,7 @@ fn port_given(flags: &ArgMatches<'_>, least: u32) -> Result<u16, Fault<'static>>
         (λ port. in_range least 65535 (flag_text flags.now (codes "port")) ≡ Some port)
         (λ _. in_range least 65535 (flag_text flags.now (codes "port")) ≡ None) }
 {
-    let port = number_given(flags, "port", least, 65535)?;
-    Ok(port as u16)
+    Ok(number_given(flags, "port", least, 65535)? as u16)
 }
 
 /// The number that a flag gives, in its range.

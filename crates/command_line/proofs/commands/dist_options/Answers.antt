@@ -1,5 +1,5 @@
 -- The options are what the flags' values spell.
-use Rattle.std.proofs.Common.{◌∙◌, sym, codes}
+use Rattle.std.proofs.Common.{◌∙◌, codes, rules}
 use Rattle.clap.specs.Words.{found_of}
 use Rattle.clap.proofs.WalkLemmas.{one_text-rows}
 use Rattle.command_line.proofs.CommandLines.{text_of_flag}
@@ -9,7 +9,7 @@ pub returns-clause-options : goal.returns-clause-options
 returns-clause-options c =
     let given = one_text-rows (found_of c.args.flags.now) (codes "nearest") in
     record {
-      metric = sym c.metric_given.ensures ∙ c.in-Some.is;
+      metric = search (rules, text_of_flag);
       set = λ e. c.get_flag.ensures.value (given ∙ e);
       unset = λ e. c.get_flag.ensures.other (given ∙ e);
       query = c.get_str-2.ensures ∙ text_of_flag (found_of c.args.flags.now) (codes "query");

@@ -16,8 +16,8 @@ from_place app entries i other within = rw (add-one, drop-cons entries i other) 
 pub loop-entry-preserved : goal.loop-entry-preserved
 loop-entry-preserved c =
     ap (λ (app : App). with_entries app (drop (c.loop-entry.entry-index + 1) c.args.entries.now))
-    (c.in_ok-made.ensures.shape c.in_ok-command.ensures.local
-    ∙ ap (λ (app : App). with_subcommand (app_of c.loop-entry.made) app.top)
-    c.in_ok-command.ensures.app)
+    (c.in_ok-program.ensures.shape c.in_ok-command_of.ensures.local
+    ∙ ap (λ (app : App). with_subcommand (app_of c.loop-entry.program) app.top)
+    c.in_ok-command_of.ensures.app)
     ∙ (sym (from_place _ c.args.entries.now c.loop-entry.entry-index _ c.loop-entry-test.true)
     ∙ c.loop-entry.invariant)
