@@ -2,7 +2,7 @@
 
 ghost use Rattle.std.specs.Prelude.{◌≡◌, ◌<◌, ◌≤◌, Some};
 ghost use Rattle.metric.specs.Nearest.{IsNear};
-ghost use Rattle.metric.specs.declared.edge.Edge.TheVariants.{Open, Wall};
+ghost use Rattle.metric.specs.declared.edge.Edge.TheVariants.{Wall};
 ghost use Rattle.bits.specs.Cells.{IsInside};
 ghost use Rattle.bits.specs.Edges.{IsBlocked};
 ghost use Rattle.clearance.specs.Firsts.{IsCellNear};
@@ -10,7 +10,6 @@ ghost use Rattle.clearance.specs.Frames.{IsLoweredByFrame};
 ghost use Rattle.clearance.specs.Search.{IsLeastBelow, IsRectIn};
 
 use crate::far::{least_in_bits, nearest, nearest_below};
-use crate::found::Found;
 use crate::frame::{better, frame_nearest};
 use crate::rows::{Rows, holds};
 use crate::search::NO_LIMIT;

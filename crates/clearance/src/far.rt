@@ -12,7 +12,7 @@ use crate::elsewhere::first_elsewhere;
 use crate::found::Found;
 use crate::nearest::{cell_rect, nearest_by_rows};
 use crate::rows::{Rows, holds};
-use crate::search::{NO_LIMIT, least_by_rows};
+use crate::search::least_by_rows;
 use crate::seed::{Seed, far_seed};
 use crate::spot::{limit_with, merged};
 use metric::{Cell, Metric, Rect};

@@ -21,7 +21,11 @@ pub fn is_tall(rect: Rect) -> bool
 }
 
 /// Whether obstacles below the limit seem to be far away, and a search by rows, whose first row is
-/// this many rows away, doesn't meet one soon.
+/// this many rows away, doesn't meet one soon and may cost more than one by tiles.
+///
+/// Where that row is at most 32 rows away, no more than a few tiles within 32 cells may have an
+/// obstacle: one for each 64 rows of the rectangle, so none unless it has many rows. At most two of
+/// them are tiles that the rectangle meets.
 pub fn seems_far<M: Metric, R: Rows>(rows: &mut R, rect: Rect, gap: u16, limit: u64) -> bool
     requires rect { IsRectIn (R.cells rows.old) rect }
     requires gap { gap ≤ MOST_SIDE }

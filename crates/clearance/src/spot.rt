@@ -47,11 +47,7 @@ fn spot_if<M: Metric>(cell: Cell, columns: u16, rows: u16, limit: u64) -> Option
     ensures { IsSpotIf cell.x cell.y (M.distance columns rows) limit result }
 {
     let dist = M::of(columns, rows);
-    if u64::from(dist) < limit {
-        Some(Found { dist, cell })
-    } else {
-        None
-    }
+    (u64::from(dist) < limit).then_some(Found { dist, cell })
 }
 
 /// The first of the obstacles of a word, none of which is left of the rectangle's first column: its

@@ -166,11 +166,7 @@ fn near_piece<M: Metric, R: Rows>(
         across: 1,
     };
     let least = least_below::<M, R>(rows, edge, cells.rect(1, count_cells(from, to)), limit);
-    if least < limit {
-        Some(Piece { from, to, least })
-    } else {
-        None
-    }
+    (least < limit).then_some(Piece { from, to, least })
 }
 
 /// The first of the cells after a point, up to the next, that has an obstacle at a distance below

@@ -80,11 +80,7 @@ fn nearer<M: Metric>(column: u16, columns: u16, gap: u16, limit: u64) -> Option<
     requires gap { gap ≤ LAST_FRAMED }
     ensures { IsWhereNearer (M.distance columns gap) limit column result }
 {
-    if u64::from(M::of(columns, gap)) < limit {
-        Some(column)
-    } else {
-        None
-    }
+    (u64::from(M::of(columns, gap)) < limit).then_some(column)
 }
 
 /// The last obstacle of the row before column `end`, if its distance is below `limit`.
