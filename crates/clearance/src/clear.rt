@@ -136,13 +136,8 @@ fn is_blank_in_row<R: Rows>(rows: &mut R, y: u16, left: u16, right: u16) -> bool
     ensures rows { rows.new ≡ rows.old }
 {
     let (first, last) = (left / WORD_CELLS, right / WORD_CELLS);
-    if !is_blank_in_word(rows, y, first, left, right) {
-        return false;
-    }
-    if first == last {
-        return true;
-    }
-    is_blank_in_word(rows, y, last, left, right)
+    is_blank_in_word(rows, y, first, left, right)
+        && (first == last || is_blank_in_word(rows, y, last, left, right))
 }
 
 /// The same for columns of one word.

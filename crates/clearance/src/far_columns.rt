@@ -20,11 +20,8 @@ pub fn are_tiles_far<M: Metric>(tiles: u64, rect: Rect, gap: u16, least: u64) ->
     ensures { result ≡ true → AreTilesFar M.distance rect gap least tiles }
 {
     let own = rect.x0 / WORD_CELLS;
-    if are_far_from::<M>(WORD_CELLS * next_tile(tiles, own), rect, gap, least) {
-        are_far_before::<M>(WORD_CELLS * after_last_tile(tiles, own), rect, gap, least)
-    } else {
-        false
-    }
+    are_far_from::<M>(WORD_CELLS * next_tile(tiles, own), rect, gap, least)
+        && are_far_before::<M>(WORD_CELLS * after_last_tile(tiles, own), rect, gap, least)
 }
 
 /// Whether the band's obstacles, `gap` or more rows outside the rectangle, are at least `least`

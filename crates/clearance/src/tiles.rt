@@ -68,10 +68,7 @@ pub fn next_tile(tiles: u64, from: u16) -> u16
     ensures some { result < 64 → bit_at tiles result ≡ 1 }
     ensures none { (k : ℕ) → from ≤ k → k < result → bit_at tiles k ≡ 1 → ⊥ }
 {
-    if from == NO_TILE {
-        return from;
-    }
-    if tiles == u64::MAX {
+    if from == NO_TILE || tiles == u64::MAX {
         return from;
     }
     let later = bits_from(tiles, from);
