@@ -26,12 +26,10 @@ impl VersionCopy {
         ensures bitmap { (result.bitmap ≡ bitmap) × IsBitmap bitmap }
         ensures unread { (k : ℕ) → k < tiles_down bitmap.height → bit_at result.unread k ≡ 1 }
     {
-        let looks = Looks::fresh(bitmap.width(), bitmap.tiles());
-        let unread = unread_bands(&bitmap);
         VersionCopy {
+            unread: unread_bands(&bitmap),
+            looks: Looks::fresh(bitmap.width(), bitmap.tiles()),
             bitmap,
-            unread,
-            looks,
         }
     }
 
@@ -50,11 +48,7 @@ impl VersionCopy {
         ensures { IfSome result (λ bitmap. (bitmap.now ≡ self.now.bitmap)
             × (self.now.unread ≡ 0)) }
     {
-        if self.unread == 0 {
-            Some(&self.bitmap)
-        } else {
-            None
-        }
+        (self.unread == 0).then_some(&self.bitmap)
     }
 
     /// Whether the next query reads all other bands first: half of the bands have been read, or

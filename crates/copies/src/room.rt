@@ -77,7 +77,6 @@ impl Room {
             return Ok(copy);
         }
         let bitmap = Bitmap::blank(alloc, self.width, self.height)?;
-        let copy = Box::new(alloc, VersionCopy::fresh(bitmap)).map_err(AllocError::from)?;
-        Ok(copy)
+        Ok(Box::new(alloc, VersionCopy::fresh(bitmap)).map_err(AllocError::from)?)
     }
 }
