@@ -9,7 +9,8 @@ use Rattle.map_core.proofs.Names.{Standing, Story, newest, kept, IsKept, Base, t
 use Rattle.map_core.proofs.Names.{word_count, pin_at, map_at, slot_of, next_slot, Reader, State}
 use Rattle.map_core.proofs.Names.{story_of, blocks_of_state, Outcome, does, SafeStep, IsWhole, Room}
 use Rattle.map_core.proofs.Names.{reader_of, IsStanding, IsConsistent, Summary, Ledger}
-use Rattle.std.specs.Prelude.{option_map}
+use Rattle.std.specs.Prelude.{Result, option_map}
+use Rattle.std.specs.Result.{IsErr}
 use Rattle.std.proofs.lemmas.Option.{slice_get-map}
 use Rattle.events.specs.Ledger.{HasNowRoom}
 use Rattle.events.proofs.steps.DoesLemmas.{does-keeps}
@@ -22,9 +23,9 @@ use Rattle.map_core.proofs.SeenLemmas.{does-grows, seen_stays, sees_none}
 use Rattle.events.proofs.steps.StepLemmas.{nothing_stored, slice_get-set, tidy_of}
 
 -- what is found among the standings is what is kept of the reader
-pub standing_found : {xs standings : List Standing} (r : ℕ) {found o : Option Standing}
+pub found_at : {xs standings : List Standing} (r : ℕ) {found o : Option Standing}
     → found ≡ slice_get xs r → xs ≡ standings → found ≡ o → slice_get standings r ≡ o
-standing_found {xs} {standings} r {found} {o} found_is same is = search rules
+found_at {xs} {standings} r {found} {o} found_is same is = search rules
 
 -- a reader of a world is what is kept of it, if there is one
 pub reader_got : (log : List Entry) (standings : List Standing) (r : ℕ) (found : Option Standing)
@@ -36,6 +37,12 @@ reader_got log standings r found is = search (rules, slice_get-map)
 pub safe_refused : (w : State) (e : Event) (why : NotEnabled) → IsWhole w → does w e ≡ None
     → SafeStep w e (Err why) w
 safe_refused w e why whole none = grind (arith, IsSafe-whole, nothing_stored, seen_stays, sees_none)
+
+-- an event that fails, since it isn't enabled, changes nothing
+pub safe_failed : (w : State) (e : Event) (result : Result StepReply NotEnabled) → IsWhole w
+    → does w e ≡ None → IsErr result → SafeStep w e result w
+safe_failed w e (Err why) whole none fails = safe_refused w e why whole none
+safe_failed w e (Ok reply) whole none fails = absurd (cc)
 
 -- an event that is enabled does what it does, safely
 pub safe_done : (w : State) (e : Event) (o : Outcome) → IsWhole w → does w e ≡ Some o
