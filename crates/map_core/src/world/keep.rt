@@ -104,16 +104,14 @@ impl World {
         let Some(command) = &self.hand else {
             return Err(NotEnabled);
         };
-        let answer = match command {
-            Command::Paint { .. } => self.draw(),
-            Command::Stamp { .. } => self.draw(),
+        Ok(match command {
+            Command::Paint { .. } | Command::Stamp { .. } => self.draw(),
             Command::Publish if has_more => self.write(),
             Command::Publish => self.publish(),
             Command::Revert => self.revert(),
             Command::Collect if has_more => self.scan(),
             Command::Collect => self.collect(),
             Command::Checkpoint => self.checkpoint(),
-        };
-        Ok(answer)
+        })
     }
 }
