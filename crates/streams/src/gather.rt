@@ -5,7 +5,6 @@ ghost use Rattle.std.specs.Prelude.{OnErr, Err, length, vec_len};
 ghost use Rattle.metric.specs.Stream.{CanFail, Takes};
 ghost use Rattle.streams.specs.Gathered.{Gathers, GathersAll, PutsCount, PutsFewer};
 ghost use Rattle.streams.specs.Gathered.{PutsLine, PutsUnended, TakesAtMost, TakesFew};
-ghost use Rattle.streams.specs.declared.gather.PartStop.{PartStop};
 ghost use Rattle.streams.specs.declared.gather.PartStop.TheVariants.{Ended, Failed};
 
 use metric::Source;

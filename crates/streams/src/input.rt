@@ -1,6 +1,6 @@
 //! Reads a stream to its end.
 
-ghost use Rattle.std.specs.Prelude.{◌≡◌, ◌≢◌, ◌+◌, IfOk, IfErr, OnOk, Err};
+ghost use Rattle.std.specs.Prelude.{◌≡◌, ◌≢◌, ◌+◌, IfOk, Err};
 ghost use Rattle.metric.specs.Stream.{AreAll, CanFail};
 ghost use Rattle.streams.specs.declared.input.InputStop.TheVariants.{Failed, Memory};
 
@@ -41,9 +41,7 @@ pub fn read_to_end<R: Source>(alloc: Global, reader: &mut R) -> Result<Vec<u8>, 
     'turns: for _ in 0..u64::MAX {
         match reader.next_block(block.as_mut_slice()) {
             Ok(0) => return Ok(bytes),
-            Ok(count) => {
-                bytes.extend_from_slice(&block[..count])?;
-            }
+            Ok(count) => bytes.extend_from_slice(&block[..count])?,
             Err(_) => return Err(InputStop::Failed),
         }
     }

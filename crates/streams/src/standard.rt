@@ -30,19 +30,12 @@ impl Held {
     /// Whether standard input or standard output was closed. The first directory has the lowest
     /// descriptor that was free.
     pub fn lacks_input_or_output(&self) -> bool {
-        match &self.first {
-            Some(folder) => folder.as_raw_fd() < ERRORS,
-            None => false,
-        }
+        matches!(&self.first, Some(folder) if folder.as_raw_fd() < ERRORS)
     }
 }
 
 /// Opens a directory at the lowest free descriptor, if that is a standard stream's.
 fn hold(files: &impl Files<File = File>) -> Option<File> {
     let folder = File::open(files, "/").ok()?;
-    if folder.as_raw_fd() < STREAMS {
-        Some(folder)
-    } else {
-        None
-    }
+    (folder.as_raw_fd() < STREAMS).then_some(folder)
 }
