@@ -28,10 +28,8 @@ impl<R: Read + Drop> ReaderSource<R> {
         ensures fresh { IfOk result (λ source. source ≡ 0) }
         ensures memory { IfErr result (λ refusal. refusal ≡ Memory) }
     {
-        match BufReader::new(alloc, reader) {
-            Ok(reader) => Ok(ReaderSource { reader, failed: 0 }),
-            Err(fault) => Err(Refusal::of_buffer(&fault)),
-        }
+        let reader = BufReader::new(alloc, reader).map_err(|fault| Refusal::of_buffer(&fault))?;
+        Ok(ReaderSource { reader, failed: 0 })
     }
 }
 
@@ -88,13 +86,11 @@ impl<W: Write + Drop> WriterSink<W> {
         ensures fresh { IfOk result (λ sink. sink ≡ 0) }
         ensures memory { IfErr result (λ refusal. refusal ≡ Memory) }
     {
-        match BufWriter::new(alloc, writer) {
-            Ok(writer) => Ok(WriterSink {
-                writer: Some(writer),
-                failed: 0,
-            }),
-            Err(fault) => Err(Refusal::of_buffer(&fault)),
-        }
+        let writer = BufWriter::new(alloc, writer).map_err(|fault| Refusal::of_buffer(&fault))?;
+        Ok(WriterSink {
+            writer: Some(writer),
+            failed: 0,
+        })
     }
 
     /// Counts a failed call, and drops the writer without flushing its buffer.
