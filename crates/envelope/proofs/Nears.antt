@@ -4,7 +4,6 @@ use Rattle.std.proofs.Common.{slice_index, slice_index_or, Option, Some, None, r
 use Rattle.std.proofs.Common.{arith}
 use Rattle.std.specs.Int.{abs_diff}
 use Rattle.std.proofs.lemmas.Bool.{cases_eq, cases_lt, ne_eqb}
-use Rattle.std.proofs.lemmas.Grind.{get_or_default_zero}
 use Rattle.metric.specs.Distance.{Grows, distance_between}
 use Rattle.metric.specs.Cellwise.{IsAtMost, IsNearestCell, key_of}
 use Rattle.metric.specs.Edge.{shift, spot_of}
@@ -15,10 +14,10 @@ use Rattle.bits.specs.Cells.{Cells, IsBitmap, IsObstacle}
 use Rattle.bits.specs.Edges.{IsBlocked, IsMap, framed}
 use Rattle.bits.proofs.Framing.{edge_nearest, edge_none, framed_map, framed_size, spot_seen}
 use Rattle.column.specs.Columns.{IsNearestRow, IsRowAtMost, IsRowOfTable}
-use Rattle.envelope.specs.Rows.{AreRowAnswers, AreRowDistances, AreRowNears, AreRowValues}
+use Rattle.envelope.specs.Rows.{AreRowAnswers, AreRowNears, AreRowValues}
 use Rattle.envelope.specs.Columns.{AreEntries, AreSaid, IsAmong, IsBest}
 use Rattle.envelope.specs.Columns.{IsNearColumn, IsSaid, distance_from, gap_of, near_from}
-use Rattle.envelope.specs.Answer.{IsDistanceOf, Reading, Saying}
+use Rattle.envelope.specs.Answer.{Reading, Saying}
 use Rattle.envelope.specs.Scans.{IsToldBy}
 
 -- a column with an obstacle has an entry
@@ -197,26 +196,6 @@ AreRowAnswers-values told nothing d cells edge y count answers values = record {
       subst (λ (near : Option Near). IsNear d (IsBlocked cells edge) x y near) (sym it.said)
       it.near_is;
 }
-
--- numbers that say how far the nearest obstacles are, are the distances of the row
-pub AreRowDistances-values : (unset : ℕ) (d : ℕ → ℕ → ℕ) (cells : Cells) (edge : Edge)
-    (y count : ℕ) (numbers : List ℕ)
-    → AreRowValues (λ distance x y number near. IsDistanceOf near number) unset d cells edge y count
-    numbers
-    → AreRowDistances d cells edge y count numbers
-AreRowDistances-values unset d cells edge y count numbers values =
-    let many = values.as_many in
-    record {
-      as_many = many;
-      each = λ x below.
-          let it = values.each x below in
-          record {
-            near = it.near;
-            near_is = it.near_is;
-            number_is =
-                rw (get_or_default_zero numbers x unset (omega (arith, below, many))) at it.said;
-          };
-    }
 
 -- where all is kept, the answers are the nearest obstacles
 pub AreRowNears-answers : (d : ℕ → ℕ → ℕ) (cells : Cells) (edge : Edge) (y count : ℕ)

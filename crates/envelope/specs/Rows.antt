@@ -2,14 +2,14 @@
 -- Source: A. Meijster, J. Roerdink, W. Hesselink, "A General Algorithm for Computing Distance
 -- Transforms in Linear Time" (2000): the distance transform of a binary image, and its feature
 -- transform with this project's rule for ties.
-use Rattle.std.specs.Prelude.{◌≡◌, ℕ, ℤ, ◌<◌, List, Option, None, length, slice_index}
+use Rattle.std.specs.Prelude.{◌≡◌, ℕ, ℤ, ◌<◌, List, Option, None, length}
 use Rattle.std.specs.Prelude.{slice_index_or}
 use Rattle.metric.specs.declared.near.Near.{Near}
 use Rattle.metric.specs.Nearest.{IsNear}
 use Rattle.metric.specs.declared.edge.Edge.{Edge}
 use Rattle.bits.specs.Cells.{Cells}
 use Rattle.bits.specs.Edges.{IsBlocked}
-use Rattle.envelope.specs.Answer.{IsDistanceOf, Reading, Saying}
+use Rattle.envelope.specs.Answer.{Reading, Saying}
 
 -- the nearest obstacles of the first cells of row y, from the left, or none
 pub record AreRowNears (distance : ℕ → ℕ → ℕ) (cells : Cells) (edge : Edge) (y count : ℕ)
@@ -25,19 +25,6 @@ pub record AreRowAnswers {T : Type 0} (told : Reading T) (nothing : T) (distance
   pub each : (x : ℕ) → x < count
       → IsNear distance (IsBlocked cells edge) x y
       (told distance x y (slice_index_or answers x nothing))
-
--- the number is the distance of the nearest obstacle of cell (x, y)
-pub record IsAway (distance : ℕ → ℕ → ℕ) (Obstacle : ℤ → ℤ → Type 0) (x y number : ℕ) : Type 0 where
-  pub near : Option Near
-  pub near_is : IsNear distance Obstacle x y near
-  pub number_is : IsDistanceOf near number
-
--- the numbers are the distances of the first cells of row y, from the left
-pub record AreRowDistances (distance : ℕ → ℕ → ℕ) (cells : Cells) (edge : Edge) (y count : ℕ)
-    (numbers : List ℕ) : Type 0 where
-  pub as_many : length numbers ≡ count
-  pub each : (x : ℕ) → x < count
-      → IsAway distance (IsBlocked cells edge) x y (slice_index numbers x)
 
 -- the value says what the nearest obstacle of cell (x, y) is
 pub record SaysNear {T : Type 0} (says : Saying T) (distance : ℕ → ℕ → ℕ)

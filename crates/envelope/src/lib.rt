@@ -17,4 +17,4 @@ mod stack;
 
 pub use answer::{CellAnswer, CellValue};
 pub use metric::Near;
-pub use stack::{Stack, distances_from, row, row_from, values_from};
+pub use stack::{Stack, row, row_from, values_from};

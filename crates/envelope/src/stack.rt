@@ -4,7 +4,7 @@ ghost use Rattle.std.specs.Prelude.{◌≡◌, ℕ, ◌+◌, ◌*◌, ◌<◌, �
 ghost use Rattle.bits.specs.Cells.{Cells, IsBitmap};
 ghost use Rattle.column.specs.Columns.{IsRowOfTable};
 ghost use Rattle.envelope.specs.Columns.{AreEntries, AreSaid};
-ghost use Rattle.envelope.specs.Rows.{AreRowAnswers, AreRowDistances, AreRowNears, AreRowValues};
+ghost use Rattle.envelope.specs.Rows.{AreRowAnswers, AreRowNears, AreRowValues};
 ghost use Rattle.bits.specs.Edges.{framed};
 ghost use Rattle.metric.specs.Edge.{shift};
 ghost use Rattle.metric.specs.declared.refusal.Refusal.TheVariants.{Memory};
@@ -142,28 +142,6 @@ pub fn row_from<M: Metric, A: CellAnswer>(
     ensures stack { stack.new ≡ stack.old }
 {
     values_from::<M, A>(entries, y, edge, stack, answers);
-}
-
-/// As `values_from`, with the distances alone, which takes less time; `u32::MAX` where there is no
-/// obstacle.
-pub fn distances_from<M: Metric>(
-    entries: &[u16],
-    y: u16,
-    edge: Edge,
-    stack: &mut Stack,
-    distances: &mut [u32],
-)
-    requires entries { AreEntries entries.now y }
-    requires row { shift edge ≤ y }
-    requires stack { length entries.now ≤ stack.old }
-    requires width { length distances.old + 2 * shift edge ≡ length entries.now }
-    ensures distances { (cells : Cells) (row : ℕ) → IsBitmap cells → row < cells.height
-        → y ≡ row + shift edge
-        → IsRowOfTable (framed edge cells) y entries.now
-        → AreRowDistances M.distance cells edge row cells.width distances.new }
-    ensures stack { stack.new ≡ stack.old }
-{
-    values_from::<M, u32>(entries, y, edge, stack, distances);
 }
 
 /// Fills a row with the obstacle of the column nearest to each cell: by two scans if the distance
