@@ -1,12 +1,14 @@
 -- The points of a line are read one after another.
-use Rattle.std.proofs.Common.{◌≡◌, ℕ, zero, suc, ◌+◌, ◌^◌, ◌≤◌, ◌<◌, true, List, [], ◌∷◌, ◌++◌}
-use Rattle.std.proofs.Common.{Option, Some, None, refl, sym, ap, ◌∙◌, inl, inr, arith}
+use Rattle.std.proofs.Common.{◌≡◌, ℕ, ◌+◌, ◌^◌, ◌≤◌, ◌<◌, Bool, true, not}
+use Rattle.std.proofs.Common.{List, [], ◌∷◌, ◌++◌}
+use Rattle.std.proofs.Common.{Option, Some, None, refl, inl, inr, arith}
 use Rattle.std.proofs.Common.{append_assoc, take}
 use Rattle.std.specs.Prelude.{is_some, option_map}
+use Rattle.std.specs.Bool.{then_some}
 use Rattle.std.specs.Borrow.{Bor}
 use Rattle.metric.specs.declared.cell.Cell.{Cell}
 use Rattle.words.specs.Numbers.{point, join_point, points, HasNoFirst, only}
-use Rattle.words.specs.Words.{words, words_left}
+use Rattle.words.specs.Words.{words_left}
 use Rattle.words.proofs.Splitting.{words-some}
 
 -- a point is put before others, where they could be read
@@ -25,11 +27,14 @@ unfolding points
 only-word cell word [] = refl
 only-word cell word (next ∷ others) = only-joined cell (point word next) (points others)
 
--- a point before the words of a line is not the only one
-pub only-more : (cell : Cell) (rest : List (List ℕ)) (bytes : List ℕ)
-    → points rest ≡ before cell (points (words bytes)) → None ≡ only (points rest)
-only-more cell rest bytes e =
-    let some = words-some bytes in rw (e, some.2, only-word cell some.0 some.1) refl
+-- a point is the only one if nothing is left of the line
+pub is_only : (cell : Cell) (rest : List (List ℕ)) (left : Option (Bor (List ℕ))) (none : Bool)
+    → is_some left ≡ not none → points rest ≡ before cell (points (words_left left))
+    → then_some none cell ≡ only (points rest)
+unfolding points
+is_only cell rest None none is e = grind arith
+is_only cell rest (Some bytes) none is e =
+    let some = words-some bytes.now in rw (e, some.2, only-word cell some.0 some.1) (grind arith)
 
 -- where what is left of a line doesn't start with a point, it is no list of points
 pub points-none : (rest : Option (Bor (List ℕ))) → is_some rest ≡ true

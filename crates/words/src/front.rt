@@ -1,10 +1,10 @@
 //! The number at the front of the rest of a line.
 
-ghost use Rattle.std.specs.Prelude.{◌≡◌, ◌<◌, ◌≤◌, ◌^◌, length, take, true, Some, None, IfSome};
-ghost use Rattle.std.specs.Prelude.{MatchOption};
+ghost use Rattle.std.specs.Prelude.{◌≡◌, ◌∷◌, ◌<◌, ◌≤◌, ◌^◌, length, take, true, Some, None};
+ghost use Rattle.std.specs.Prelude.{IfSome, MatchOption, option_map};
 ghost use Rattle.std.specs.List.{list_all};
 ghost use Rattle.metric.specs.Digits.{is_digit, value_from};
-ghost use Rattle.words.specs.Numbers.{first_of, number};
+ghost use Rattle.words.specs.Numbers.{HasNoNumber, first_of, number, numbers};
 ghost use Rattle.words.specs.Words.{bytes_left, words, words_left};
 
 use crate::number::read_number;
@@ -57,16 +57,18 @@ fn short_number(bytes: &[u8]) -> Option<(u32, Option<&[u8]>)>
 
 /// The number that the next word spells, and the rest after it: in one pass over its digits if they
 /// are few.
-pub fn front_number(rest: Option<&[u8]>) -> Option<(u32, Option<&[u8]>)>
+#[tactic(auto, unfolding(crate::specs::Numbers::numbers))]
+pub fn next_number(rest: Option<&[u8]>) -> Option<(u32, Option<&[u8]>)>
     ensures first { MatchOption result (first_of number (words_left rest.entry) ≡ None)
         (λ found. first_of number (words_left rest.entry) ≡ Some (found.0, words_left found.1)) }
+    ensures numbers { MatchOption result (HasNoNumber (words_left rest.entry))
+        (λ found. numbers (words_left rest.entry) ≡ option_map (λ others. found.0 ∷ others)
+        (numbers (words_left found.1))) }
     ensures fewer { IfSome result (λ found. bytes_left found.1 < bytes_left rest.entry) }
     ensures small { bytes_left rest.entry ≤ 2 ^ 64 }
 {
-    if let Some(bytes) = rest {
-        if let Some(found) = short_number(bytes) {
-            return Some(found);
-        }
+    if let Some(found) = rest.and_then(short_number) {
+        return Some(found);
     }
     let (word, rest) = next_word(rest)?;
     let number = read_number(word)?;

@@ -7,7 +7,7 @@ ghost use Rattle.metric.specs.declared.refusal.Refusal.{Refusal};
 ghost use Rattle.words.specs.Numbers.{path_of, coordinate, points, only, pair, HasNoFirst};
 ghost use Rattle.words.specs.Words.{words_left, bytes_left};
 
-use crate::front::front_number;
+use crate::front::next_number;
 use metric::{Cell, Refusal};
 use std::alloc::Global;
 
@@ -33,8 +33,8 @@ fn next_point(rest: Option<&[u8]>) -> Option<(Cell, Option<&[u8]>)>
     ensures fewer { IfSome result (λ found. bytes_left found.1 + 2 ≤ bytes_left rest.entry) }
     ensures small { bytes_left rest.entry ≤ 2 ^ 64 }
 {
-    let (x, rest) = front_number(rest)?;
-    let (y, rest) = front_number(rest)?;
+    let (x, rest) = next_number(rest)?;
+    let (y, rest) = next_number(rest)?;
     let (x, y) = (coordinate(x), coordinate(y));
     Some((Cell { x, y }, rest))
 }
@@ -45,10 +45,7 @@ pub fn read_point(rest: Option<&[u8]>) -> Option<Cell>
     ensures { result ≡ only (points (words_left rest.entry)) }
 {
     let (cell, rest) = next_point(rest)?;
-    match rest {
-        None => Some(cell),
-        Some(_) => None,
-    }
+    rest.is_none().then_some(cell)
 }
 
 /// The two points that are the whole rest of a line.

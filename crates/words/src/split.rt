@@ -30,10 +30,7 @@ pub fn next_word(rest: Option<&[u8]>) -> Option<(&[u8], Option<&[u8]>)>
     ensures fewer { IfSome result (λ found. bytes_left found.1 < bytes_left rest.entry) }
     ensures small { bytes_left rest.entry ≤ 2 ^ 64 }
 {
-    match rest {
-        Some(bytes) => Some(split_word(bytes)),
-        None => None,
-    }
+    Some(split_word(rest?))
 }
 
 /// A line without the CR at its end, if it has one.

@@ -1,6 +1,8 @@
--- A point after which more is left of the line isn't the only one.
-use Rattle.words.proofs.Pointing.{only-more}
+-- A point is the only one if nothing is left of the line.
+use Rattle.words.proofs.Pointing.{is_only}
 use Rattle.words.proofs.points.read_point.Goals as goal
 
-pub returns-in-Some : goal.returns-in-Some
-returns-in-Some c = only-more c.in_ok-cell.cell _ _ (rw c.in-Some.is at c.in_ok-cell.ensures.points)
+pub returns : goal.returns
+returns c =
+    rw c.then_some.ensures
+    (is_only _ _ c.in_ok-cell.rest _ c.is_none.ensures c.in_ok-cell.ensures.points)
