@@ -111,11 +111,10 @@ fn serve_all<Id: StoreName, R: Wait, T: Streams>(
     alloc: Global,
     store: &Store<Id>,
     streams: &Mutex<T>,
-    session: Session<Id>,
+    mut session: Session<Id>,
 ) -> Session<Id>
     ensures { HasWorked T.fresh T.S.wire Id.store session result }
 {
-    let mut session = session;
     'streams: for _ in rt.forever() {
         let next = streams.lock(rt).next();
         let Some(mut stream) = next else {
@@ -129,7 +128,7 @@ fn serve_all<Id: StoreName, R: Wait, T: Streams>(
 
 /// Puts each session into a seat, the last one first; `room` has capacity for them. Returns the
 /// empty buffer of the sessions, and the seats.
-fn seat_all<S>(sessions: Vec<S>, room: Vec<Option<S>>) -> (Vec<S>, Vec<Option<S>>)
+fn seat_all<S>(mut sessions: Vec<S>, room: Vec<Option<S>>) -> (Vec<S>, Vec<Option<S>>)
     requires empty { room.items ≡ [] }
     requires room { length sessions.items ≤ vec_capacity room }
     ensures empty { result.0.items ≡ [] }
@@ -137,7 +136,6 @@ fn seat_all<S>(sessions: Vec<S>, room: Vec<Option<S>>) -> (Vec<S>, Vec<Option<S>
     ensures seats { result.1.items ≡ reverse (map Some sessions.items) }
     ensures full { All IsSome result.1.items }
 {
-    let mut sessions = sessions;
     let mut seats = room;
     'sessions: while let Some(session) = sessions.pop() {
         seats.push_reserved(Some(session));
@@ -146,13 +144,12 @@ fn seat_all<S>(sessions: Vec<S>, room: Vec<Option<S>>) -> (Vec<S>, Vec<Option<S>
 }
 
 /// Takes the sessions out of their seats, the last one first.
-fn unseat_all<S>(seats: Vec<Option<S>>, empty: Vec<S>) -> Vec<S>
+fn unseat_all<S>(mut seats: Vec<Option<S>>, empty: Vec<S>) -> Vec<S>
     requires empty { empty.items ≡ [] }
     requires room { length seats.items ≤ vec_capacity empty }
     requires full { All IsSome seats.items }
     ensures { map Some result.items ≡ reverse seats.items }
 {
-    let mut seats = seats;
     let mut sessions = empty;
     'seats: while let Some(seat) = seats.pop() {
         match seat {

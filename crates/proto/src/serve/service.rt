@@ -72,7 +72,7 @@ impl<'a, Id: StoreName, R: Wait> Service<'a, Id, R> {
     /// Serves a line that was read to its LF.
     fn serve<S: Stream>(
         &mut self,
-        caller: Caller<Id>,
+        mut caller: Caller<Id>,
         asked: Result<Line, Refusal>,
         stream: &mut S,
     ) -> (Caller<Id>, Option<End>)
@@ -80,7 +80,6 @@ impl<'a, Id: StoreName, R: Wait> Service<'a, Id, R> {
         ensures { (before : Wire) → HasHeard before (line_seen_in asked) (S.wire stream.old)
             → IsServed Id.store result.1 before caller (S.wire stream.new) result.0 }
     {
-        let mut caller = caller;
         match asked {
             Ok(Line::Quit) => {
                 let caller = Caller::new(caller.into_session());
@@ -144,7 +143,7 @@ impl<'a, Id: StoreName, R: Wait> Service<'a, Id, R> {
     }
 
     /// Answers a stamp whose image is at the front of the bytes kept.
-    fn stamp(&self, caller: Caller<Id>, x: u16, y: u16, kept: Counted) -> (Caller<Id>, Answer)
+    fn stamp(&self, mut caller: Caller<Id>, x: u16, y: u16, kept: Counted) -> (Caller<Id>, Answer)
         ensures { (bytes : List ℕ) → AreKept kept bytes
             → IsStampAnswer Id.store x y bytes caller result.1 result.0 }
     {
@@ -152,7 +151,6 @@ impl<'a, Id: StoreName, R: Wait> Service<'a, Id, R> {
             Ok(bytes) => bytes,
             Err(refused) => return (caller, Answer::Refused(Refusal::from(refused))),
         };
-        let mut caller = caller;
         match read_image(self.alloc, bytes.as_slice()) {
             Ok((bitmap, _)) => {
                 let answer = caller.command(self.rt, self.store, Command::Stamp { x, y, bitmap });
