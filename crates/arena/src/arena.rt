@@ -3,11 +3,10 @@
 //! The free blocks hold the list themselves: the first word of a free block is the number of the
 //! next.
 
-ghost use Rattle.std.specs.Prelude.{◌≡◌, ℕ, ◌<◌, ◌≤◌, List, [], ◌∷◌, length, MatchOption, IfOk};
-ghost use Rattle.std.specs.Prelude.{IfErr};
+ghost use Rattle.std.specs.Prelude.{◌≡◌, ◌≤◌, [], ◌∷◌, length, MatchOption, IfOk, IfErr};
 ghost use Rattle.metric.specs.declared.refusal.Refusal.TheVariants.{Memory};
 ghost use Rattle.std.specs.List.{range_with_len};
-ghost use Rattle.arena.specs.Chain.{Pool, chain, IsArena, IsLeased, Filled};
+ghost use Rattle.arena.specs.Chain.{Pool, chain, IsArena, IsLeased};
 
 use crate::region::{Lease, Region, Tile};
 use core::mem::replace_with;
@@ -53,16 +52,13 @@ impl Arena {
         ensures free { IfOk result (λ a. a.free ≡ range_with_len 0 count) }
         ensures refused { IfErr result (λ refusal. refusal ≡ Memory) }
     {
-        let Some((region, lease)) = Region::new(&alloc, count) else {
+        let Some((mut region, lease)) = Region::new(&alloc, count) else {
             return Err(Refusal::Memory);
         };
-        let mut region = region;
-        let mut done = 0;
-        'filling: while done < count {
+        'filling: for done in 0..count {
             let mut words = [0u64; 64];
             words[0] = u64::from(done) + 1;
             region = region.fill(done, words);
-            done += 1;
         }
         Ok(Arena {
             region,
@@ -108,11 +104,10 @@ impl Arena {
     /// Makes the block the front of the free list. Requires that it came from this arena. It
     /// allocates no memory.
     #[tactic(auto, using(crate::proofs::Chains::giving))]
-    pub fn give(&mut self, tile: Tile)
+    pub fn give(&mut self, mut tile: Tile)
         requires { tile.home ≡ self.old.home }
         ensures { (self.new.home ≡ self.old.home) × (self.new.free ≡ tile.number ∷ self.old.free) }
     {
-        let mut tile = tile;
         let number = tile.number();
         tile.words_mut()[0] = u64::from(self.front);
         replace_with(&mut self.region, tile, Region::put);
