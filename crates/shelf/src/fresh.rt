@@ -10,7 +10,7 @@ use crate::name::StoreName;
 use crate::reader::ReaderSeat;
 use crate::word_table::{TableSeat, View, Words};
 use atomic_table::Badge;
-use events::Plan;
+use events::{Now, Plan};
 use std::alloc::Global;
 use std::marker::{Model, PhantomData};
 use std::sync::Arc;
@@ -47,9 +47,11 @@ impl FreshKeeper {
             seat,
             words,
             plan,
-            place: 0,
-            version: 0,
-            slot: 0,
+            now: Now {
+                place: 0,
+                version: 0,
+                slot: 0,
+            },
             publishes: false,
             unmet: false,
             of: PhantomData,

@@ -27,10 +27,7 @@ pub struct KeeperSeat<Id: StoreName> {
     pub(crate) seat: TableSeat,
     pub(crate) words: Arc<Words, Global>,
     pub(crate) plan: Plan,
-    // The fields of NOW: the place of the last entry, the newest version, and its slot.
-    pub(crate) place: u32,
-    pub(crate) version: u32,
-    pub(crate) slot: u32,
+    pub(crate) now: Now,
     // Whether the current command is a publish, and whether the reader of the last commit hasn't
     // met the keeper since.
     pub(crate) publishes: bool,
@@ -48,8 +45,8 @@ impl<Id: StoreName> Model for KeeperSeat<Id> {
     ghost view = { λ s. keeper_in s.seat.me.0 };
 
     ghost invariant = { λ s. IsKeeperSeat Id.store (arc_value s.words).shared.table_id
-        (arc_value s.words).shared.key s.seat.table_id s.plan s.seat.me s.place s.version s.slot
-        s.publishes s.unmet };
+        (arc_value s.words).shared.key s.seat.table_id s.plan s.seat.me s.now.place
+        s.now.version s.now.slot s.publishes s.unmet };
 }
 
 impl<Id: StoreName> KeeperSeat<Id> {
@@ -70,12 +67,7 @@ impl<Id: StoreName> KeeperSeat<Id> {
             (story Id.store.base (entries self.old.log)) asked.now.command ≡ None }
         ensures { self.new ≡ with_command self.old asked.now.by asked.now.command }
     {
-        let now = Now {
-            place: self.place,
-            version: self.version,
-            slot: self.slot,
-        }
-        .word();
+        let now = self.now.word();
         self.words
             .shared
             .compare_exchange_with::<Order>(&mut self.seat, 0, now, now, asked);
@@ -122,16 +114,11 @@ impl<Id: StoreName> KeeperSeat<Id> {
             → self.new ≡ committed Id.store.base self.old t }
         ensures legal { IsLegal Id.store.base.setting Id.store.base.opening (entries self.new.log) }
     {
-        self.place += 1;
-        self.version += u32::from(self.publishes);
-        self.slot = slot;
+        self.now.place += 1;
+        self.now.version += u32::from(self.publishes);
+        self.now.slot = slot;
         self.unmet = true;
-        let now = Now {
-            place: self.place,
-            version: self.version,
-            slot: self.slot,
-        }
-        .word();
+        let now = self.now.word();
         self.words
             .shared
             .store::<Commit<Id>>(&mut self.seat, 0, now);

@@ -68,6 +68,6 @@ pub fn meet<Id: StoreName>(keeper: &mut KeeperSeat<Id>, reader: &mut ReaderSeat<
     let seat = replace(&mut reader.seat, Badge::blank());
     reader.seat = meet_on::<Id>(&keeper.words, &mut keeper.seat, seat);
     reader.made += u32::from(keeper.unmet);
-    reader.version = keeper.version;
+    reader.version = keeper.now.version;
     keeper.unmet = false;
 }

@@ -24,5 +24,5 @@ overflow_add-reader g c =
     let made = c.reader.invariant.2.made_is in
     let place = c.keeper.invariant.2.place_is in
     let fits = c.keeper.ranges in
-    let enough : c.reader.inside.made + c.from.result ≤ c.keeper.inside.place = omega arith in
+    let enough : c.reader.inside.made + c.from.result ≤ c.keeper.inside.now.place = omega arith in
     omega arith

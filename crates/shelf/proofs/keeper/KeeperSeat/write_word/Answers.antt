@@ -26,3 +26,7 @@ invariant_of-self g c =
       rw (ap (λ m. keeper_in m.0) told) (says_on _ _ _ _ _ _ _ next.task _
           (rw c.self.view_is at c.self.invariant.2) next.in_hand refl),
     )
+
+pub returns : goal.returns
+returns g c t task =
+    ap (λ m. keeper_in m.0) (c.store.ensures.2 c.args.self.now t (search rules) task)
