@@ -80,8 +80,5 @@ fn map_of<R: Rows>(
     if status != DONE {
         return Err(status);
     }
-    match bitmap_of::<R>(alloc, rows) {
-        Ok(bitmap) => Ok(bitmap),
-        Err(_) => Err(MEMORY),
-    }
+    bitmap_of::<R>(alloc, rows).or(Err(MEMORY))
 }
