@@ -1,6 +1,7 @@
 -- What is wrong with a call, as a number: this project's own rule. Of several faults it is the
 -- first, in the order of their numbers up to 9, with 12 after 3; then comes 11, and 10 comes last.
 use Rattle.std.specs.Prelude.{◌≡◌, ℕ, zero, suc, ◌+◌, ◌-◌, ◌*◌, ◌^◌, ◌&&◌, ◌||◌, ◌⊎◌, ◌==◌, nat_le}
+use Rattle.std.specs.Prelude.{◌≢◌, Err, Ok, Result}
 use Rattle.std.specs.Prelude.{nat_lt, not, Bool, List, length, Option, Some, None, if◌then◌else◌}
 use Rattle.metric.specs.declared.cell.Cell.{Cell}
 use Rattle.metric.specs.declared.refusal.Refusal.{Refusal}
@@ -16,6 +17,11 @@ use Rattle.libclearmap.specs.Layouts.{bands_down, rows_end}
 abbrev pub first_wrong : ℕ → ℕ → ℕ
 first_wrong zero next = next
 first_wrong (suc n) next = suc n
+
+-- a check with this status refuses what is wrong
+abbrev pub IsChecked : Result (Unit {0}) ℕ → ℕ → Type 0
+IsChecked (Ok done) status = status ≡ 0
+IsChecked (Err wrong) status = (wrong ≡ status) × (wrong ≢ 0)
 
 -- whether a side is 1 to 4096 cells long
 abbrev pub is_side : ℕ → Bool

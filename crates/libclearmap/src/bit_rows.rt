@@ -4,11 +4,11 @@ ghost use Rattle.std.specs.Prelude.{◌≡◌, ◌≢◌, IfErr, IfOk, length};
 ghost use Rattle.bits.specs.Words.{words_across};
 ghost use Rattle.libclearmap.specs.Layouts.{IsShape, cells_of_bits};
 ghost use Rattle.libclearmap.specs.Rows.{cells_of};
-ghost use Rattle.libclearmap.specs.Statuses.{bits_status, marks_status};
+ghost use Rattle.libclearmap.specs.Statuses.{IsChecked, bits_status, marks_status};
 
 use crate::bit_map::BitMap;
 use crate::layout::ClearmapBits;
-use crate::status::{DONE, TILES, shape_status};
+use crate::status::{DONE, TILES, check_shape};
 use crate::tiled_map::TiledMap;
 use metric::BAND_ROWS;
 
@@ -31,34 +31,28 @@ impl<'a> BitRows<'a> {
         ensures some { IfErr result (λ status. status ≢ DONE) }
     {
         let across = (map.width as usize).div_ceil(64);
-        let status = shape_status(map.width, map.height, across, map.stride, words.len());
-        if status != DONE {
-            return Err(status);
-        }
+        check_shape(map.width, map.height, across, map.stride, words.len())?;
         let plain = BitMap { words, map: *map };
         if map.tiles == 0 {
             return Ok(BitRows::Plain(plain));
         }
-        let status = marks_status(map.tiles, map, words.len());
-        if status != DONE {
-            return Err(status);
-        }
+        check_marks(map.tiles, map, words.len())?;
         Ok(BitRows::Tiled(TiledMap { plain }))
     }
 }
 
-/// The status of marks of tiles from an index on, for a map in this many words.
-pub fn marks_status(tiles: usize, map: &ClearmapBits, count: usize) -> u32
+/// Checks marks of tiles from an index on, for a map in this many words.
+pub fn check_marks(tiles: usize, map: &ClearmapBits, count: usize) -> Result<(), u32>
     requires { IsShape map.now.width map.now.height (words_across map.now.width) map.now.stride
         count }
-    ensures { result ≡ marks_status tiles map.now count }
+    ensures { IsChecked result (marks_status tiles map.now count) }
 {
     let across = (map.width as usize).div_ceil(64);
     let rows = (map.height as usize - 1) * map.stride + across;
     let bands = (map.height as usize).div_ceil(usize::from(BAND_ROWS));
     if tiles < rows || count < bands || count - bands < tiles {
-        TILES
+        Err(TILES)
     } else {
-        DONE
+        Ok(())
     }
 }

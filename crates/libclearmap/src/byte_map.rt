@@ -8,7 +8,7 @@ ghost use Rattle.libclearmap.specs.Layouts.{IsShape, is_obstacle_byte};
 ghost use Rattle.libclearmap.specs.Statuses.{bytes_status};
 
 use crate::layout::ClearmapBytes;
-use crate::status::{DONE, shape_status};
+use crate::status::{DONE, check_shape};
 use clearance::Rows;
 use std::simd::prelude::*;
 
@@ -34,10 +34,7 @@ impl<'a> ByteMap<'a> {
     {
         let map = *map;
         let across = map.width as usize;
-        let status = shape_status(map.width, map.height, across, map.stride, bytes.len());
-        if status != DONE {
-            return Err(status);
-        }
+        check_shape(map.width, map.height, across, map.stride, bytes.len())?;
         Ok(ByteMap { bytes, map })
     }
 }

@@ -9,7 +9,7 @@ ghost use Rattle.clearance.specs.Rows.{IsBlankRow};
 ghost use Rattle.libclearmap.specs.Layouts.{IsBlankTile, IsShape, bands_down, cells_of_bits};
 ghost use Rattle.libclearmap.specs.Statuses.{bits_status, first_wrong, marks_status};
 
-use crate::bit_rows::{BitRows, marks_status};
+use crate::bit_rows::{BitRows, check_marks};
 use crate::layout::ClearmapBits;
 use crate::marks::{blank_bands, blank_tiles, write_marks};
 use crate::status::DONE;
@@ -44,8 +44,7 @@ pub extern "C" fn clearmap_mark(words: &mut [u64], map: &mut ClearmapBits, tiles
         Ok(marks) => marks,
         Err(status) => return status,
     };
-    let status = marks_status(tiles, map, words.len());
-    if status != DONE {
+    if let Err(status) = check_marks(tiles, map, words.len()) {
         return status;
     }
     let bands = (map.height as usize).div_ceil(64);

@@ -12,7 +12,7 @@ ghost use Rattle.libclearmap.specs.Statuses.{cell_status, first_wrong, setting_s
 use crate::near::{ClearmapFound, ClearmapNear, found_of, kept_of};
 use crate::search::{Search, find_by};
 use crate::setting::{Setting, at_by, edge_of, kind_of};
-use crate::status::{DONE, OUTSIDE, refusal_status, setting_status};
+use crate::status::{DONE, OUTSIDE, check_setting, refusal_status};
 use clearance::Rows;
 use metric::Cell;
 
@@ -30,8 +30,7 @@ pub fn at_in<R: Rows>(
         (first_wrong (cell_status (R.cells rows.old) x y) setting.range) }
     ensures refused { result ≢ DONE → near.new ≡ near.old }
 {
-    let status = setting_status(setting.metric, setting.edge);
-    if status != DONE {
+    if let Err(status) = check_setting(setting.metric, setting.edge) {
         return status;
     }
     let (width, height) = (u32::from(rows.width()), u32::from(rows.height()));
@@ -69,8 +68,7 @@ pub fn find_in<R: Rows>(
         (first_wrong (search_status (R.cells rows.old) search.entry) setting.range) }
     ensures refused { result ≢ DONE → found.new ≡ found.old }
 {
-    let status = setting_status(setting.metric, setting.edge);
-    if status != DONE {
+    if let Err(status) = check_setting(setting.metric, setting.edge) {
         return status;
     }
     let (kind, edge) = (kind_of(setting.metric), edge_of(setting.edge));

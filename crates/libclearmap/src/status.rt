@@ -1,9 +1,9 @@
 //! The statuses of calls, in the order in which they are checked: the first that applies is
 //! returned.
 
-ghost use Rattle.std.specs.Prelude.{◌≡◌, ◌≤◌};
+ghost use Rattle.std.specs.Prelude.{◌≡◌, ◌≤◌, IfOk};
 ghost use Rattle.libclearmap.specs.Layouts.{IsShape};
-ghost use Rattle.libclearmap.specs.Statuses.{first_wrong, range_status, refusal_status};
+ghost use Rattle.libclearmap.specs.Statuses.{IsChecked, first_wrong, range_status, refusal_status};
 ghost use Rattle.libclearmap.specs.Statuses.{room_status, setting_status, shape_status};
 
 use crate::layout::ClearmapBytes;
@@ -52,34 +52,40 @@ pub const MEMORY: u32 = 10;
 /// The largest stride.
 const MOST_STRIDE: usize = 0xffff_ffff;
 
-/// The status of a map whose rows have `across` items each, `stride` apart, in `count` items.
-pub fn shape_status(width: u32, height: u32, across: usize, stride: usize, count: usize) -> u32
-    ensures status { result ≡ shape_status width height across stride count }
-    ensures shape { result ≡ DONE → IsShape width height across stride count }
+/// Checks a map whose rows have `across` items each, `stride` apart, in `count` items.
+pub fn check_shape(
+    width: u32,
+    height: u32,
+    across: usize,
+    stride: usize,
+    count: usize,
+) -> Result<(), u32>
+    ensures status { IsChecked result (shape_status width height across stride count) }
+    ensures shape { IfOk result (λ _. IsShape width height across stride count) }
 {
     let most = u32::from(MOST_SIDE);
     if width < 1 || most < width || height < 1 || most < height {
-        return SIZE;
+        return Err(SIZE);
     }
     if stride < across || MOST_STRIDE < stride {
-        return STRIDE;
+        return Err(STRIDE);
     }
     if count < (height as usize - 1) * stride + across {
-        return LENGTH;
+        return Err(LENGTH);
     }
-    DONE
+    Ok(())
 }
 
-/// The status of the numbers of a metric and an edge.
-pub fn setting_status(metric: u32, edge: u32) -> u32
-    ensures { result ≡ setting_status metric edge }
+/// Checks the numbers of a metric and an edge.
+pub fn check_setting(metric: u32, edge: u32) -> Result<(), u32>
+    ensures { IsChecked result (setting_status metric edge) }
 {
     if metric > 2 {
-        METRIC
+        Err(METRIC)
     } else if edge > 1 {
-        EDGE
+        Err(EDGE)
     } else {
-        DONE
+        Ok(())
     }
 }
 

@@ -7,7 +7,7 @@ ghost use Rattle.libclearmap.specs.Statuses.{IsStatus, first_wrong, table_status
 
 use crate::copy::bitmap_of;
 use crate::setting::{Setting, edge_of, kind_of};
-use crate::status::{DONE, MEMORY, OUTSIDE, first_wrong, room_status, setting_status};
+use crate::status::{DONE, MEMORY, OUTSIDE, check_setting, first_wrong, room_status};
 use crate::table_cell::TableCell;
 use bits::Bitmap;
 use clearance::Rows;
@@ -68,10 +68,7 @@ fn map_of<R: Rows>(
         setting.metric setting.edge asked.now.start asked.now.end count) setting.range) status) }
     ensures some { IfErr result (λ status. status ≢ DONE) }
 {
-    let status = setting_status(setting.metric, setting.edge);
-    if status != DONE {
-        return Err(status);
-    }
+    check_setting(setting.metric, setting.edge)?;
     if asked.end < asked.start || u32::from(rows.height()) < asked.end {
         return Err(OUTSIDE);
     }

@@ -21,8 +21,7 @@ returns-clause-same c = λ done.
     let map = c.args.map.now in
     let words = c.args.words.now in
     let shape = c.in-Ok.ensures.shape in
-    let placed = marks_placed c.args.tiles _ map (sym c.marks_status-status.ensures
-    ∙ c.if-status-ne-DONE.false) in
+    let placed = marks_placed c.args.tiles _ map c.in_default.ensures in
     let bands = c.div_ceil-bands.ensures in
     let wide = shape.width_is.few in
     let high = shape.height_is.few in
