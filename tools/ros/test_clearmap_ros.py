@@ -239,6 +239,8 @@ class Settings(unittest.TestCase):
             (YAML.replace("[-1.0, -2.0, 0.0]", "[0, 0]"), "no 'origin' of three numbers"),
             (YAML.replace("[-1.0, -2.0, 0.0]", "[0, 0"), "doesn't end"),
             (YAML + "image: b.pgm\n", "isn't one key"),
+            (YAML + "other:\n  resolution: 0.1\n", "is nested in another one"),
+            (YAML.replace("resolution", "  resolution"), "is nested in another one"),
         )
         for text, sentence in rows:
             with self.assertRaisesRegex(ros.RosError, sentence, msg=text):

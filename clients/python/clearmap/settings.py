@@ -17,7 +17,7 @@ def yaml_values(text: str) -> Values:
     """The keys and values of the flat YAML that a map has: words, and lists as `[1, 2]` or as lines
     with `-`."""
     values: Values = {}
-    key = ""
+    key, margin = "", 0
     for line in text.splitlines():
         bare = line.split(" #")[0].strip() if not line.lstrip().startswith("#") else ""
         if bare in ("", "---", "..."):
@@ -28,6 +28,10 @@ def yaml_values(text: str) -> Values:
                 raise RosError(f"the yaml's line '{bare}' comes after a value that is no list")
             values[key] = listed + [bare[2:].strip()]
             continue
+        blanks = len(line) - len(line.lstrip())
+        if values and blanks != margin:  # a key of another map
+            raise RosError(f"the yaml's line '{bare}' is nested in another one")
+        margin = blanks
         name, colon, value = bare.partition(":")
         if not colon or (value and not value[0].isspace()) or name in values:
             raise RosError(f"the yaml's line '{bare}' isn't one key and its value")
