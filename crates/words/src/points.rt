@@ -72,12 +72,11 @@ fn keep(cells: &mut [Cell], place: usize, cell: Cell)
 /// Reads the points in the rest of a line into the front of the buffer, as far as it has places,
 /// and returns how many there are; `None` where its words aren't all numbers, or are odd in number.
 #[tactic(auto, unfolding(crate::specs::Numbers::points))]
-fn read_points(rest: Option<&[u8]>, cells: &mut [Cell]) -> Option<usize>
+fn read_points(mut rest: Option<&[u8]>, cells: &mut [Cell]) -> Option<usize>
     ensures count { result ≡ option_map (λ cells. length cells) (points (words_left rest.entry)) }
     ensures cells { IfSome result (λ count. count ≤ length cells.old
         → points (words_left rest.entry) ≡ Some (take count cells.new)) }
 {
-    let mut rest = rest;
     let mut count = 0;
     'points: while rest.is_some() {
         let (cell, others) = next_point(rest)?;
