@@ -35,6 +35,9 @@ MADE_UP = (
     "        Err(AllocFailed { value })",
     "        Err(AllocError::from(why))",
     "        Err(OUTSIDE) => MEMORY,",
+    "    status.or(MEMORY)",
+    "    if let Fault::Full = fault {\n        return told(Refusal::Memory);\n    }",
+    "    if let Fault::Memory = fault {\n        0\n    } else {\n        told(Refusal::Memory)\n    }",
     "    const FULL: u32 = MEMORY;",
     "    fn from(_words: Words) -> Refusal {\n        Refusal::Memory\n    }",
 )
@@ -62,6 +65,8 @@ PASSED_ON = (
     "    pub fn new(alloc: Global) -> Result<Self, AllocError> {",
     "        let kept = Box::new(alloc, kept).map_err(AllocError::from)?;",
     "        Err(_) => Err(MEMORY),",
+    "    bitmap_of(alloc, rows).or(Err(MEMORY))",
+    "    if let Fault::Memory = fault {\n        return told(Refusal::Memory);\n    }",
     "pub const MEMORY: u32 = 10;",
 )
 

@@ -2,11 +2,11 @@
 """Checks that being out of memory is never made up: each `Memory` comes from a refused allocation.
 
 A value that says so is made in a `From` of the toolchain's `AllocError` or `AllocFailed`, and
-reaches callers by `?`, after `map_err(AllocError::from)` too, and by arms each of whose
-alternatives names it already. It is written with its type's name, so that a line shows it: no
-import brings it alone. The status of the library for C that says so (`MEMORY`) stands on an arm for
-an error, and its text on an arm for the value. Any other line that makes one is listed, and the
-status is 1. Tests may make them.
+reaches callers by `?`, after `map_err(AllocError::from)` too, by arms each of whose alternatives
+names it already, and by the first line after an `if let` that does. It is written with its type's
+name, so that a line shows it: no import brings it alone. The status of the library for C that says
+so (`MEMORY`) stands on an arm for an error, or in an `or`, and its text on an arm for the value.
+Any other line that makes one is listed, and the status is 1. Tests may make them.
 
 What that doesn't show: that an allocation was needed, or that it wasn't larger than it had to be;
 of which error `MEMORY` is told; what a macro writes, or a text that is put together from parts.
@@ -25,9 +25,12 @@ MADE = re.compile(r"(?:\b\w+|>)::(?:OutOf)?Memory\b")
 TEXT = re.compile(r'"(?:ERR 5\b|Memory")')
 TAIL = re.compile(r"(?:\((?:_|mut \w+|\w+)\))?\)*\s*(=>|\|(?!\|)|if\b|=(?!=))")
 GUARD = re.compile(r"\bif\b(?! let\b)")
+BRANCH = re.compile(r"\s*if let \w+::(?:OutOf)?Memory = [^{]*\{$")
 CONVERSION = re.compile(r"fn from\(\w+: Alloc(Error|Failed<\w+>)\)")
 STATUS = re.compile(r"\bMEMORY\b")
-STATUS_OF_AN_ERROR = re.compile(r"Err\(_\) => (Err\()?MEMORY\b|^pub const MEMORY\b")
+STATUS_OF_AN_ERROR = re.compile(
+    r"Err\(_\) => (Err\()?MEMORY\b|\.or\(Err\(MEMORY\)\)|^pub const MEMORY\b"
+)
 REFUSED_GROWTH = re.compile(r"\bAllocError\b(?!>|::from\)\?)|\bAllocFailed\b(?:::<[^>]*>)?\s*\{")
 
 # The other places, one line each, with why it is no invention.
@@ -99,7 +102,8 @@ def makes_memory(code, above):
         before, after = code[: match.start()], code[match.end() :]
         if before.rstrip().endswith(("==", "!=")) or is_pattern(before, after):
             continue
-        if not (is_matched(before) or is_known(before) or CONVERSION.search(above)):
+        named = CONVERSION.search(above) or BRANCH.match(above)
+        if not (is_matched(before) or is_known(before) or named):
             return True
     if STATUS.search(code) and not STATUS_OF_AN_ERROR.search(code):
         return True
