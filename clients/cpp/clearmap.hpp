@@ -50,6 +50,7 @@
 #include <stdexcept>
 #include <string>
 #include <system_error>
+#include <thread>
 #include <type_traits>
 #include <utility>
 #include <vector>
@@ -157,8 +158,9 @@ struct Options {
     /// A call of the client that finds the connection closed reconnects first, to a map of the same
     /// size. A call whose reply was lost isn't repeated. A pin of the earlier connection stays
     /// lost. The server may be another one, with versions and places that start again, and without
-    /// the draft: where paints were accepted and no call has thrown since, the first `publish` over
-    /// a new connection throws ConnectionLost, and publishes nothing.
+    /// the draft: where paints were accepted that aren't published, and their thread wasn't told by
+    /// an error that closes the connection, the first `publish` over a new one throws
+    /// ConnectionLost, and publishes nothing.
     bool reconnect = false;
 };
 
@@ -347,8 +349,9 @@ public:
         socket_ = -1;
         owed_ = 0;
         pinned_ = 0;
-        busy_ = answered_ = changed_ = false;
+        busy_ = answered_ = false;
         buffer_.clear();
+        tell();
     }
 
     // -- the start and the end of a call
@@ -357,9 +360,14 @@ public:
     void ready() {
         if (is_open()) return;
         if (finished_ || !options_.reconnect) throw ConnectionLost("the connection is closed");
-        bool changed = std::exchange(changed_, false);
-        open();
-        draft_lost_ = draft_lost_ || changed;
+        try {
+            open();
+        } catch (...) {
+            tell();
+            throw;
+        }
+        draft_lost_ = draft_lost_ || painters_ != Painters::none;
+        painters_ = Painters::none;
     }
 
     /// Throws, once, if the draft that is to be published may be lost with an earlier connection.
@@ -373,14 +381,23 @@ public:
     /// Marks that a command was accepted which leaves the draft with changes that aren't published,
     /// or without.
     void drafted(bool changed) {
-        changed_ = changed;
-        draft_lost_ = draft_lost_ && changed;
+        if (!changed) {
+            painters_ = Painters::none;
+            draft_lost_ = false;
+        } else if (painters_ == Painters::none) {
+            painters_ = Painters::one;
+            painter_ = std::this_thread::get_id();
+        } else if (painter_ != std::this_thread::get_id()) {
+            painters_ = Painters::several;
+        }
     }
 
     /// The same for calls of a pin, which no new connection has.
     void ready_for(std::uint64_t pin) {
-        if (!is_open() || pin < first_pin_)
+        if (!is_open() || pin < first_pin_) {
+            if (socket_ < 0) tell();
             throw ConnectionLost("the connection is closed, and the pin with it");
+        }
         if (pin != pinned_) throw ConnectionLost("the pin was left");
     }
 
@@ -636,9 +653,15 @@ private:
 
     /// Closes the connection where no caller is told that it is lost.
     void leave() noexcept {
-        bool changed = changed_;
+        Painters painters = painters_;
         drop();
-        changed_ = changed;
+        painters_ = painters;
+    }
+
+    /// Marks that this thread is told of a lost connection: it knows what becomes of its paints.
+    void tell() noexcept {
+        if (painters_ == Painters::one && painter_ == std::this_thread::get_id())
+            painters_ = Painters::none;
     }
 
     Clock::time_point next_deadline() const { return Clock::now() + timeout_; }
@@ -713,8 +736,11 @@ private:
     bool busy_ = false;            // a call has begun
     bool answered_ = false;        // on this connection
     bool finished_ = false;        // by `close`
-    bool changed_ = false;         // the draft, since it was published; no caller knows of a loss
-    bool draft_lost_ = false;      // such a one, with an earlier connection
+    /// Threads whose accepted paints aren't published, and that weren't told of a lost connection.
+    enum class Painters { none, one, several };
+    Painters painters_ = Painters::none;
+    std::thread::id painter_;  // the one, or the first
+    bool draft_lost_ = false;  // with an earlier connection
     std::uint64_t pins_ = 0;       // made so far, on all connections
     std::uint64_t first_pin_ = 1;  // the first that this connection can have made
     std::uint64_t pinned_ = 0;     // the pin that is held, or 0
@@ -1173,7 +1199,7 @@ struct Frame {
     double resolution, origin_x, origin_y;
 
     Frame() = default;
-    /// Throws std::invalid_argument for a resolution that isn't above 0.
+    /// Throws std::invalid_argument for a resolution that isn't above 0, or infinite.
     constexpr Frame(detail::Whole width, detail::Whole height, double resolution,
                     double origin_x = 0, double origin_y = 0)
         : width(width),
@@ -1181,7 +1207,8 @@ struct Frame {
           resolution(resolution),
           origin_x(origin_x),
           origin_y(origin_y) {
-        if (!(resolution > 0)) throw std::invalid_argument("a resolution is above 0");
+        if (!(resolution > 0 && resolution <= std::numeric_limits<double>::max()))
+            throw std::invalid_argument("a resolution is above 0, and finite");
     }
 
     /// The size that a client of the map can expect.

@@ -282,6 +282,20 @@ static void drafts() {
     CHECK(throws<ConnectionLost>([&] { client.paint(5, 0, 6, 1); }));  // who painted knows of it
     server.loses = false;
     CHECK(client.publish() == 5 && server.connections == 6);
+    Pinned map = client.pin();
+    std::thread([&] { client.paint(6, 0, 7, 1); }).join();
+    cut();
+    CHECK(throws<ConnectionLost>([&] { map.at({0, 0}); }));  // this thread didn't paint
+    CHECK(is_told() && client.publish() == 5);
+    Pinned own = client.pin();
+    client.paint(7, 0, 8, 1);
+    cut();
+    CHECK(throws<ConnectionLost>([&] { own.at({0, 0}); }));  // this one did
+    CHECK(client.publish() == 5);
+    client.paint(8, 0, 9, 1);
+    std::thread([&] { client.paint(9, 0, 10, 1); }).join();
+    cut();
+    CHECK(is_told());
 }
 
 static void busy(std::uint16_t port) {

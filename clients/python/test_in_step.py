@@ -308,6 +308,28 @@ class Reconnecting(unittest.TestCase):
             client.revert()  # nothing is left to lose
             self.assertEqual(client.publish(), 1)
 
+    def test_a_draft_of_another_thread(self):
+        """One thread is told of the loss, and another has painted."""
+        with Served(POST) as server, clearmap.Client(server.port, reconnect=True) as client:
+            pinned = client.pin()
+            painter = threading.Thread(target=client.paint, args=(0, 0, 1, 1))
+            painter.start()
+            painter.join()
+            self.restarted(POST, server)
+            self.assertRaises(clearmap.ConnectionLost, pinned.at, 0, 0)
+            self.assertRaisesRegex(clearmap.ConnectionLost, "paint again", client.publish)
+            self.assertEqual(client.publish(), 1)
+
+    def test_no_server_for_a_while(self):
+        """Whoever painted is told, and paints again."""
+        with Served(POST) as server, clearmap.Client(server.port, reconnect=True) as client:
+            client.paint(0, 0, 1, 1)
+            server.end()
+            self.assertRaisesRegex(clearmap.ConnectionLost, "no server", client.paint, 1, 0, 2, 1)
+            self.restarted(POST, server)
+            client.paint(0, 0, 2, 1)
+            self.assertEqual(client.publish(), 1)
+
     def test_a_draft_that_is_not_lost(self):
         """It was published, or reverted, or whoever painted knows of the loss."""
         with Served(POST) as server, clearmap.Client(server.port, reconnect=True) as client:

@@ -199,6 +199,7 @@ class Waits(Follows):
     def test_what_cant_be_copied(self):
         with self.assertRaisesRegex(TypeError, "can't be copied or pickled"):
             pickle.dump(self.follow(), io.BytesIO())
+        self.direct.show(grid_of(1))
         version = self.follow().wait(timeout=PATIENCE)
         for copied in (pickle.dumps, copy.copy, copy.deepcopy):
             with self.assertRaisesRegex(TypeError, "ages are this machine's"):

@@ -36,6 +36,8 @@ MADE_UP = (
     "        Err(AllocError::from(why))",
     "        Err(OUTSIDE) => MEMORY,",
     "    status.or(MEMORY)",
+    "    if let Fault::Memory = fault {\n    } else { Error::OutOfMemory }",
+    "    known.or(Err(MEMORY)).map(|_| MEMORY)",
     "    if let Fault::Full = fault {\n        return told(Refusal::Memory);\n    }",
     "    if let Fault::Memory = fault {\n        0\n    } else {\n        told(Refusal::Memory)\n    }",
     "    const FULL: u32 = MEMORY;",

@@ -102,10 +102,10 @@ def makes_memory(code, above):
         before, after = code[: match.start()], code[match.end() :]
         if before.rstrip().endswith(("==", "!=")) or is_pattern(before, after):
             continue
-        named = CONVERSION.search(above) or BRANCH.match(above)
+        named = CONVERSION.search(above) or (BRANCH.match(above) and "}" not in before)
         if not (is_matched(before) or is_known(before) or named):
             return True
-    if STATUS.search(code) and not STATUS_OF_AN_ERROR.search(code):
+    if STATUS.search(STATUS_OF_AN_ERROR.sub("", code)):
         return True
     for match in REFUSED_GROWTH.finditer(code):
         before = code[: match.start()].rstrip()

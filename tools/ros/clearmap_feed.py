@@ -2,8 +2,8 @@
 asked about. No ROS is wanted, and nothing here is proved.
 
 The server is one that runs, by its port, or one that is started with the first map. A server that
-went away is asked for again at the next call. A plan has no answer as long as the server lacks an
-obstacle of what the topics said last, and that can't be put.
+went away is asked for again at the next call. After a connection that was lost, or a map that could
+not be put, a plan has no answer before the server has each obstacle of what the topics said last.
 """
 import math
 import subprocess
@@ -58,7 +58,7 @@ class Feed:
         self._is_refused = False  # whether their last message couldn't be read
         self._served: Optional[grids.Grid] = None  # what was put on this connection's server
         self._covered: Optional[grids.Grid] = None  # the last whose obstacles are known to be there
-        self._is_half_put = False  # whether a draft may have what its publish left out
+        self._is_half_put = self._given  # whether a draft may have what nobody published
         self._kept: Optional[grids.Grid] = None  # what a server of one's own is started with
         self._connections, self._is_closed = 0, False
         self.place: Optional[Place] = None
@@ -239,7 +239,7 @@ class Feed:
 
     def _change(self, client: clearmap.Client, before: grids.Grid, grid: grids.Grid) -> str:
         """Stamps and publishes what differs from the newest version; the whole map where the draft
-        may have another one, whose publish was refused or had no reply."""
+        may have another one, as at first, or after a publish that was refused or had no reply."""
         area = before.changed(grid)
         if area is None and not self._is_half_put:
             return "nothing changed"

@@ -229,6 +229,22 @@ class Feeds(unittest.TestCase):
                         feed.put(newer, PLACE)
                         self.assertEqual(dump_of(served.port)[1], newer)
 
+    def test_a_draft_of_an_earlier_node(self):
+        """Its publish was refused, and the node was started again."""
+        served = self.served(POST.pbm(), "--log", "2")
+        moved = grid("100000", "000000", "000000", "000000")
+        with clearmap.Client(served.port) as other:
+            other.paint(5, 3, 6, 4), other.clear(5, 3, 6, 4)
+            other.checkpoint()
+            other.collect()
+            self.assertRaises(clearmap.LogFull, self.feed(served.port).put, moved, PLACE)
+            for _ in range(2):
+                other.checkpoint()
+            feed = self.feed(served.port, checkpoints=True)
+            self.assertEqual(feed.put(POST, PLACE), "nothing changed")
+            feed.update(*CORNER)
+        self.assertEqual(dump_of(served.port)[1], grid("000001", "001000", "000000", "000000"))
+
     def test_a_publish_without_a_reply(self):
         """The server ends after a stamp, and the one at its port has the same map."""
         served = self.served(POST.pbm())

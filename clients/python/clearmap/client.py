@@ -1,7 +1,7 @@
 """A client of one server: its connection, whose calls wait for one another, and its commands."""
 import os
 import threading
-from typing import Callable, NoReturn, Optional, Union
+from typing import Callable, NoReturn, Optional, Set, Union
 
 from . import requests
 from .connection import Connection
@@ -39,9 +39,10 @@ class Client:
 
     With `reconnect` a call that finds the connection closed reconnects first, and checks a known
     size again. A call whose own reply was lost raises, and is never sent twice. A pin is lost with
-    its connection, and a draft with its server: where paints were accepted and no call has raised
-    since, the first `publish` over a new connection raises `ConnectionLost`, and publishes nothing.
-    Paint again, and publish. Nothing reconnects after `close`.
+    its connection, and a draft with its server: where paints were accepted that aren't published,
+    and their thread wasn't told by an error that closes the connection, the first `publish` over a
+    new one raises `ConnectionLost`, and publishes nothing. Paint again, and publish. Nothing
+    reconnects after `close`.
 
     With `checkpoints` a command that is answered LogFull is sent once more after a checkpoint.
     **That drops the entries of the log, those of other painters too**: it changes no bitmap and no
@@ -67,8 +68,8 @@ class Client:
         self._lock = threading.RLock()
         self._process = os.getpid()
         self._is_closed = False
-        self._has_changes = False  # that were accepted on this connection and aren't published
-        self._is_draft_lost = False  # since such a connection ended, and nobody was told
+        self._painters: Set[int] = set()  # threads whose paints aren't published: see `publish`
+        self._is_draft_lost = False
         self._connection = self._connected()
 
     def __enter__(self) -> "Client":
@@ -168,8 +169,7 @@ class Client:
                 return ConnectionLost(DRAFT_LOST)
             answer = ask(connection)
             if leaves_changes is not None and not isinstance(answer, Refused):
-                self._has_changes = leaves_changes
-                self._is_draft_lost &= leaves_changes
+                self._mark(leaves_changes)
             return answer
 
         def ask(connection: Connection) -> Union[T, Refused]:
@@ -212,8 +212,8 @@ class Client:
                 answer = work(connection)
             except BaseException:
                 connection.close()
-                if connection is self._connection:  # whoever called is told
-                    self._has_changes = False
+                if connection is self._connection:
+                    self._painters.discard(threading.get_ident())  # which is told
                 raise
             connection.busy = False
             if isinstance(answer, OutOfRange) and self._size:
@@ -223,10 +223,22 @@ class Client:
     def _newest(self) -> Connection:
         """The connection, reconnected if it has ended and that is wanted."""
         if self._reconnect and not self._is_closed and self._connection.has_ended():
-            self._connection = self._connected()
-            self._is_draft_lost |= self._has_changes
-            self._has_changes = False
+            try:
+                self._connection = self._connected()
+            except BaseException:
+                self._painters.discard(threading.get_ident())
+                raise
+            self._is_draft_lost |= bool(self._painters)
+            self._painters.clear()
         return self._connection
+
+    def _mark(self, has_changes: bool) -> None:
+        """Notes whether the draft has changes now that aren't published, and whose."""
+        if has_changes:
+            self._painters.add(threading.get_ident())
+        else:
+            self._painters.clear()
+            self._is_draft_lost = False
 
     def _connected(self) -> Connection:
         """A new connection, whose map has the size that is known."""

@@ -47,7 +47,8 @@ class Version:
     _known: Known = field(repr=False)
 
     def __reduce__(self) -> NoReturn:
-        raise TypeError("a Version's ages are this machine's, so it can't be pickled; its map can")
+        ages = "a Version's ages are this machine's"
+        raise TypeError(f"{ages}, so it can't be copied or pickled; its map can")
 
     @property
     def age(self) -> float:

@@ -42,6 +42,8 @@ class Frame:
             object.__setattr__(self, name, exact(getattr(self, name)))
         if self.resolution <= 0:
             raise RosError(f"the resolution is {self.resolution}, which isn't above 0")
+        if self.width < 1 or self.height < 1:
+            raise RosError(f"a map of {self.width} by {self.height} cells has none")
 
     @property
     def size(self) -> Tuple[int, int]:
@@ -127,9 +129,9 @@ class Frame:
         through a corner, through one of the two next to it. So each point of the plan lies in a
         cell of the path, and the middle of each such cell is less than one cell from the plan.
         """
-        if len(plan) == 0:  # an array has no truth
-            raise RosError("the plan has no point")
         ends = [self._upwards(point) for point in plan]
+        if not ends:
+            raise RosError("the plan has no point")
         walked = [(math.floor(ends[0][0]), math.floor(ends[0][1]))]
         for start, end in zip(ends, ends[1:]):
             walked += crossed(start, end)

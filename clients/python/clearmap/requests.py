@@ -76,7 +76,7 @@ def whole(number: object) -> int:
 
 def chosen(name: str, value: object) -> bool:
     """A bool, or a number that equals one. A text would count as True, 'false' too."""
-    if value not in (True, False):
+    if getattr(value, "shape", ()) != () or value not in (True, False):
         raise TypeError(f"{name} is {value!r:.80}, where a bool is wanted")
     return bool(value)
 
