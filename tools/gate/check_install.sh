@@ -97,12 +97,12 @@ else
     echo 'the first run at a terminal left out: there is no script'
 fi
 expect 'a first run without a terminal' "$(fresh "$scratch/fresh/clearmap" one 2>&1 | sed 's/ took [0-9]* s/ took so long/')" \
-    "$(printf '%s\n' "clearmap: the first run proves and builds all crates: 20 to 25 minutes on four cores" \
+    "$(printf '%s\n' "clearmap: the first run proves and builds all crates: 15 to 25 minutes on four cores" \
         'clearmap: proved 1 of 2 crates; low took so long' 'clearmap: proved 2 of 2 crates; high took so long' 'ran one')"
 forget
 sed -i 's/echo .logic=proved.*/exit 1/; s/ls .*/echo "what rt says"; exit 1/' "$scratch/fresh/bin/rt"
 expect 'a first run that fails' "$(fresh "$scratch/fresh/clearmap" one 2>&1; echo "status $?")" \
-    "$(printf '%s\n' "clearmap: the first run proves and builds all crates: 20 to 25 minutes on four cores" \
+    "$(printf '%s\n' "clearmap: the first run proves and builds all crates: 15 to 25 minutes on four cores" \
         "clearmap: low isn't proved; no other proof begins" 'what rt says' \
         'clearmap: not proved and built; the lines above say why' 'status 3')"
 expect 'a run without a proof' "$(fresh "$scratch/fresh/clearmap" --unproved one two 2> /dev/null)" 'tried one two'

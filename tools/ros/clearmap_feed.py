@@ -5,6 +5,7 @@ The server is one that runs, by its port, or one that is started with the first 
 went away is asked for again at the next call. After a connection that was lost, or a map that could
 not be put, a plan has no answer before the server has each obstacle of what the topics said last.
 """
+import contextlib
 import math
 import subprocess
 import threading
@@ -241,21 +242,24 @@ class Feed:
         """Stamps and publishes what differs from the newest version; the whole map where the draft
         may have another one, as at first, or after a publish that was refused or had no reply."""
         area = before.changed(grid)
-        if area is None and not self._is_half_put:
+        if area is None:
+            if self._is_half_put:
+                self._clean(client)
             return "nothing changed"
-        stamped = area
-        if area is None or self._is_half_put:
-            stamped = grids.Area(0, 0, *grid.size)
-        assert stamped is not None
+        stamped = grids.Area(0, 0, *grid.size) if self._is_half_put else area
         corner, image = (stamped.x0, stamped.y0), grid.pbm(stamped)
         self._served, self._covered, self._is_half_put = None, None, True
         change = self._with_room(client, lambda: client.stamp(*corner, image))
-        said = "nothing changed"
-        if area is not None:
-            version = self._with_room(client, client.publish)
-            said = f"version {version}: {change.changed} cells of columns {area.x0} to {area.x1 - 1}, rows {area.y0} to {area.y1 - 1}"
+        version = self._with_room(client, client.publish)
         self._is_half_put = False
-        return said
+        return f"version {version}: {change.changed} cells of columns {area.x0} to {area.x1 - 1}, rows {area.y0} to {area.y1 - 1}"
+
+    def _clean(self, client: clearmap.Client) -> None:
+        """Makes the draft the newest version. Where that is refused, as over a full log, the next
+        change is stamped whole."""
+        with contextlib.suppress(clearmap.Refused):
+            client.revert()
+            self._is_half_put = False
 
     @staticmethod
     def _with_room(client: clearmap.Client, call: Callable[[], T]) -> T:
