@@ -8,13 +8,15 @@
 int main(int count, char** words) {
     if (count != 7) return 2;
     try {
-        clearmap::Frame frame{std::stoi(words[2]), std::stoi(words[3]), std::stod(words[4]), std::stod(words[5]), std::stod(words[6])};
+        clearmap::Frame frame{std::stoi(words[2]), std::stoi(words[3]), std::stod(words[4]),
+                              std::stod(words[5]), std::stod(words[6])};
         std::vector<clearmap::Point> plan;
         for (std::string line, more; std::getline(std::cin, line);) {
             std::istringstream numbers(line);
             clearmap::Point point;
             if (line.find_first_not_of(" \t\r") == std::string::npos) continue;
-            if (!(numbers >> point.x >> point.y) || numbers >> more) throw clearmap::Error("'" + line + "' isn't X Y");
+            if (!(numbers >> point.x >> point.y) || numbers >> more)
+                throw clearmap::Error("'" + line + "' isn't X Y");
             plan.push_back(point);
         }
         clearmap::Client client(std::stoi(words[1]), {frame.size()});

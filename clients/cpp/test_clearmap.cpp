@@ -211,7 +211,8 @@ static void frames() {
     CHECK(*Frame({384, 256, 0.05, -9.6, -6.4}).staircase({{0.5, 0.5}, {1.5, 0.8}}) == (Path{{202, 117}, {205, 117}, {205, 116}, {208, 116}, {208, 115}, {212, 115}, {212, 114}, {215, 114}, {215, 113}, {218, 113}, {218, 112}, {222, 112}, {222, 111}}));
     for (auto [radius, wanted] : {std::pair<double, std::uint32_t>{0, 2}, {0.22, 34}, {0.05, 6}, {1, 459}}) CHECK(frame.clear_distance(radius) == wanted);
     for (double radius : {-0.1, 501.0, std::nan("")}) CHECK(throws<std::invalid_argument>([&] { frame.clear_distance(radius); }));
-    for (double resolution : {0.0, -0.05, std::nan("")}) CHECK(throws<std::invalid_argument>([&] { Frame(4, 3, resolution); }));
+    for (double wrong : {0.0, -0.05, std::nan("")})
+        CHECK(throws<std::invalid_argument>([&] { Frame(4, 3, wrong); }));
     Frame wide{10, 10, 1, 0, 0};
     CHECK(*wide.staircase({{0.5, 0.5}, {0.6, 0.7}}) == (Path{{0, 9}}));
     CHECK(*wide.staircase({{0.5, 0.5}, {5.5, 0.5}, {5.5, 4.5}}) == (Path{{0, 9}, {5, 9}, {5, 5}}));

@@ -341,7 +341,9 @@ class Tables(unittest.TestCase):
         self.assertEqual(self.table(b"P1\n2 1\n00\n"), [[None, None]])
         walled = self.table(b"P1\n2 1\n00\n", "--edge", "wall", "--nearest")
         self.assertEqual(walled, [[clearmap.Near(1, (-1, 0)), clearmap.Near(1, (1, -1))]])
-        for text in ("ERR 15 BadImage Truncated\n", "", "0 1\n0\n", "1/2\n", "-1\n", "0  1\n", "-1/0/0\n", "1/-/0\n", "1/2/3/4\n", "0 1\n4 5", "16", "0 1\n4 "):
+        wrong = ("ERR 15 BadImage Truncated\n", "", "0 1\n0\n", "1/2\n", "-1\n", "0  1\n")
+        numbers = ("-1/0/0\n", "1/-/0\n", "1/2/3/4\n")
+        for text in (*wrong, *numbers, "0 1\n4 5", "16", "0 1\n4 "):  # the last three are cut
             with self.assertRaises(clearmap.WrongAnswer, msg=text):
                 clearmap.read_distances(io.StringIO(text))
 

@@ -39,7 +39,7 @@ MADE_UP = (
     "    if let Fault::Memory = fault {\n    } else { Error::OutOfMemory }",
     "    known.or(Err(MEMORY)).map(|_| MEMORY)",
     "    if let Fault::Full = fault {\n        return told(Refusal::Memory);\n    }",
-    "    if let Fault::Memory = fault {\n        0\n    } else {\n        told(Refusal::Memory)\n    }",
+    "    if let Fault::Memory = fault {\n 0\n    } else {\n        told(Refusal::Memory)\n    }",
     "    const FULL: u32 = MEMORY;",
     "    fn from(_words: Words) -> Refusal {\n        Refusal::Memory\n    }",
 )

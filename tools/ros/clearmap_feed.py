@@ -132,7 +132,8 @@ class Feed:
         has none. Where the plan's frame is given, it has to be the map's, if that has a name."""
         with self._lock:
             if self._is_refused:
-                raise RosError("the last map or update wasn't taken, and it isn't known what it said")
+                sentence = "the last map or update wasn't taken, and it isn't known what it said"
+                raise RosError(sentence)
             if self._said is None and self.place is None:
                 raise RosError("no map has come yet")
             version, frame, found = self._tried(lambda: self._ask(plan, frame_id))
@@ -218,10 +219,7 @@ class Feed:
         except clearmap.WrongMap as other:
             sizes = "the map has %d by %d cells, and that of the server %d by %d"
             raise RosError(sizes % (*grid.size, *other.served) + ": it isn't put") from None
-        before = self._served
-        if before is None:
-            with client.pin() as pinned:
-                before = grids.grid_of_dump(pinned.dump())
+        before = self._served if self._served is not None else self._dumped(client)
         said = self._change(client, before, grid)
         self._served, self._covered, self.place = grid, grid, place
         return said
@@ -231,12 +229,18 @@ class Feed:
         missing, as on a server that was restarted, that is put."""
         assert self._said is not None
         grid, place = self._said
-        with self._connected(grid.size).pin() as pinned:
-            served = grids.grid_of_dump(pinned.dump())
+        served = self._dumped(self._connected(grid.size))
         if grid.is_within(served):
             self._covered, self.place = grid, place
         else:
+            self._served = served
             self._put(starts=False)
+
+    @staticmethod
+    def _dumped(client: clearmap.Client) -> grids.Grid:
+        """The newest version's grid, as the server dumps it."""
+        with client.pin() as pinned:
+            return grids.grid_of_dump(pinned.dump())
 
     def _change(self, client: clearmap.Client, before: grids.Grid, grid: grids.Grid) -> str:
         """Stamps and publishes what differs from the newest version; the whole map where the draft
@@ -252,7 +256,9 @@ class Feed:
         change = self._with_room(client, lambda: client.stamp(*corner, image))
         version = self._with_room(client, client.publish)
         self._is_half_put = False
-        return f"version {version}: {change.changed} cells of columns {area.x0} to {area.x1 - 1}, rows {area.y0} to {area.y1 - 1}"
+        columns = f"columns {area.x0} to {area.x1 - 1}"
+        rows = f"rows {area.y0} to {area.y1 - 1}"
+        return f"version {version}: {change.changed} cells of {columns}, {rows}"
 
     def _clean(self, client: clearmap.Client) -> None:
         """Makes the draft the newest version. Where that is refused, as over a full log, the next

@@ -75,7 +75,8 @@ class Clearances(unittest.TestCase):
         square = "0.1,0.1 -0.1,0.1 -0.1,-0.1 0.1,-0.1"
         for plan, words, said in (
             ("", (), "no point"), ("9 9\n", (), "isn't on the map"), ("0 0 0\n", (), "X and Y"),
-            ("0 0\n", ("--radius", "-1"), "0 or more"), ("0 0\n", ("--radius", "x"), "no number"), ("0 0\n", ("--radius", ""), "no number"),
+            ("0 0\n", ("--radius", "-1"), "0 or more"), ("0 0\n", ("--radius", "x"), "no number"),
+            ("0 0\n", ("--radius", ""), "no number"),
             ("0 0\n", ("--footprint", square), "X, Y and THETA"), ("", ("--footprint", square), "no pose"),
             ("0 0 0\n", ("--footprint", "1,1 2,2 3"), "points of a footprint"),
             ("0 0 0\n", ("--footprint", "0,0 1,1"), "3 to 128"), ("0 0 0\n", ("--footprint", "1,a 2,2 3,4"), "no number"),

@@ -250,8 +250,9 @@ class Feeds(unittest.TestCase):
         served = self.served(POST.pbm())
         feed = self.feed(served.port)
         feed.put(POST, PLACE)
-        with mock.patch.object(clearmap.Client, "publish", side_effect=clearmap.ConnectionLost("cut")):
-            self.assertRaises(clearmap.ConnectionLost, feed.put, grid("100000", "000000", "000000", "000000"), PLACE)
+        moved, cut = grid("100000", "000000", "000000", "000000"), clearmap.ConnectionLost("cut")
+        with mock.patch.object(clearmap.Client, "publish", side_effect=cut):
+            self.assertRaises(clearmap.ConnectionLost, feed.put, moved, PLACE)
         self.assertEqual(feed.put(POST, PLACE), "nothing changed")
         with clearmap.Client(served.port) as other:
             other.publish()
@@ -284,7 +285,9 @@ class Feeds(unittest.TestCase):
         self.assertRaises(clearmap.WrongMap, feed.clearance, plan)
         feed.put(POST, PLACE)
         self.assertEqual(feed.clearance(plan).version, 0)
-        for refuse in (feed.refuse, lambda: self.assertRaises(RosError, feed.update, 6, 0, (1, 1), b"\1", b"\0")):
+        outside = 6, 0, (1, 1), b"\1", b"\0"
+        refusals = (feed.refuse, lambda: self.assertRaises(RosError, feed.update, *outside))
+        for refuse in refusals:
             refuse()
             self.assertRaisesRegex(RosError, "wasn't taken", feed.clearance, plan)
             self.assertRaisesRegex(RosError, "the next map is", feed.update, *CORNER)
@@ -309,8 +312,9 @@ class Feeds(unittest.TestCase):
     def test_frames_of_plans(self):
         feed = self.feed(program=PROGRAM)
         feed.put(POST, feeds.Place(FRAME, "map"))
-        self.assertRaisesRegex(RosError, "frame 'odom', and the map in 'map'", feed.clearance, [(0, 0)], "odom")
-        self.assertRaisesRegex(RosError, "frame '', and the map in 'map'", feed.clearance, [(0, 0)], "")
+        for name in ("odom", ""):
+            with self.assertRaisesRegex(RosError, f"frame '{name}', and the map in 'map'"):
+                feed.clearance([(0, 0)], name)
         self.assertEqual(feed.clearance([(-0.9, -1.9)], "map"), feed.clearance([(-0.9, -1.9)]))
 
     def test_no_server_and_no_program(self):

@@ -207,7 +207,8 @@ class Node(Running):
         self.assertTrue(math.isnan(self.answer(plans, plan_message((0, 0), (50, 0)))[0]))
         self.line("the point (50.0, 0.0) isn't on the map")
         self.assertAlmostEqual(self.answer(plans, PLAN)[0], 99 * RESOLUTION)
-        for wrong, said in ((map_message(width=200, height=100), "it isn't put"), (short, "the message has 119999 values")):
+        small = map_message(width=200, height=100)
+        for wrong, said in ((small, "it isn't put"), (short, "the message has 119999 values")):
             maps.publish(wrong)
             self.line(said)
             self.assertTrue(math.isnan(self.answer(plans, PLAN)[0]))  # over a map that isn't there
