@@ -136,6 +136,13 @@ struct Change {
     std::uint32_t place, changed;
 };
 
+/// An accepted publish: its place in the log, and the number of its version, which it converts to.
+/// The place is that of the last change and 1 more if nobody gave a command in between.
+struct Published {
+    std::uint32_t place, version;
+    constexpr operator std::uint32_t() const noexcept { return version; }
+};
+
 /// An accepted collect: its place, the least version that is kept, and how many blocks came back.
 struct Collected {
     std::uint32_t place, floor, freed;
@@ -1117,14 +1124,15 @@ public:
         return stamp(corner, image, length - (image[length - 1] == '\0'));
     }
 
-    /// Appends the draft as the next version, and returns its number. Refused as VersionsFull too.
-    /// Throws ConnectionLost if the draft may be lost, as `Options::reconnect` says.
-    std::uint32_t publish() {
+    /// Appends the draft as the next version, and returns its number, which has its place in the
+    /// log too. Refused as VersionsFull too. Throws ConnectionLost if the draft may be lost, as
+    /// `Options::reconnect` says.
+    Published publish() {
         detail::Turn turn(wire_);
         turn->check_draft();
-        std::uint32_t version = change(*turn, "PUBLISH", 2)[1];
+        auto n = change(*turn, "PUBLISH", 2);
         turn->drafted(false);
-        return version;
+        return {n[0], n[1]};
     }
 
     /// Makes the draft the newest version again, and returns the place in the log.

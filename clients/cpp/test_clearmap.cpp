@@ -79,7 +79,10 @@ static void commands(std::uint16_t port) {
     Change stamped = painter.stamp({0, 2}, "P1\n3 2\n111\n101");
     CHECK(stamped.place == 2 && stamped.changed == 5);
     CHECK(painter.clear(0, 2, 1, 3).changed == 1);
-    CHECK(painter.publish() == 1);
+    const Published published = painter.publish();
+    CHECK(published == 1 && published.version == 1 && published.place == 4);
+    const std::uint32_t number = published;  // converts to its version
+    CHECK(number == 1 && std::to_string(published) == "1");
     CHECK(painter.paint(0, 0, 6, 4).changed == 17);
     CHECK(painter.revert() == 6);
     CHECK(before.at({5, 3}, Metric::city)->distance == 5);

@@ -3,6 +3,7 @@
 import array
 import copy
 import importlib.util
+import json
 import pathlib
 import pickle
 import re
@@ -147,6 +148,36 @@ class Errors(unittest.TestCase):
                     for copied in (pickle.dumps, copy.copy, copy.deepcopy):
                         with self.assertRaisesRegex(TypeError, "can't be copied or pickled"):
                             copied(thing)
+
+
+class Versions(unittest.TestCase):
+    def test_what_publish_returns(self):
+        """The version's number, which has its place in the log too."""
+        with Fake(b"OK 9 3\n", closes=False) as fake:
+            with clearmap.Client(fake.port, timeout=5) as client:
+                published = client.publish()
+        for again in (published, pickle.loads(pickle.dumps(published)), copy.copy(published)):
+            self.assertIs(type(again), clearmap.Published)
+            self.assertEqual((again.place, again.version, type(again.version)), (9, 3, int))
+            self.assertEqual(repr(again), "Published(place=9, version=3)")
+            self.assertEqual((again, again + 1, {3: "map"}[again], range(9)[again]), (3, 4, "map", 3))
+            self.assertEqual((f"{again}", str(again), "%d" % again, json.dumps(again)), ("3",) * 4)
+
+    def test_others_between(self):
+        """A command of another client between a paint and the publish shows in its place."""
+        others = (
+            (None, 1),
+            (lambda other: other.revert(), 2),
+            (lambda other: other.clear(0, 0, 1, 1), 2),
+            (lambda other: other.publish(), 2),
+        )
+        for act, wanted in others:
+            with Served(POST) as server, clearmap.Client(server.port) as client:
+                painted = client.paint(0, 0, 1, 1)
+                if act:
+                    with clearmap.Client(server.port) as other:
+                        act(other)
+                self.assertEqual(client.publish().place - painted.place, wanted)
 
 
 class Package(unittest.TestCase):

@@ -79,7 +79,17 @@ from .library import NO_OBSTACLE, NOWHERE
 from .maps import Map
 from .pinned import Pinned
 from .plans import TightestSegment, plan_clearance, read_plan, read_poses
-from .requests import CHESS, CITY, EUCLID2, Change, Collected, Near, Queries, Tightest
+from .requests import (
+    CHESS,
+    CITY,
+    EUCLID2,
+    Change,
+    Collected,
+    Near,
+    Published,
+    Queries,
+    Tightest,
+)
 from .ros_maps import RosMap, read_map
 from .rows import distances
 from .signed import gradients, signed_distances
@@ -96,6 +106,7 @@ __all__ = [
     "Near",
     "Tightest",
     "Change",
+    "Published",
     "Collected",
     "Entry",
     "read_distances",

@@ -7,7 +7,7 @@ from . import requests
 from .connection import Connection
 from .errors import ConnectionLost, LogFull, OutOfRange, Refused, Size, extent, raised
 from .pinned import Pinned
-from .requests import Change, Collected, Request, T, whole
+from .requests import Change, Collected, Published, Request, T, whole
 from .size import check_size, find_size, size_of
 
 LONGEST_TIMEOUT = 480 * 3600.0  # seconds; a socket takes no more than some years
@@ -140,9 +140,10 @@ class Client:
         17,100,000. BadImage if they aren't an image; else refused as `paint` is."""
         return self._command(requests.stamp(x, y, image), leaves_changes=True)
 
-    def publish(self) -> int:
-        """Appends the draft as the next version, and returns its number. VersionsFull if all slots
-        for versions are in use. ConnectionLost if paints may be lost, as the class says."""
+    def publish(self) -> Published:
+        """Appends the draft as the next version, and returns its number, which has its `place` in
+        the log too. VersionsFull if all slots for versions are in use. ConnectionLost if paints may
+        be lost, as the class says."""
         return self._command(requests.PUBLISH, leaves_changes=False)
 
     def revert(self) -> int:

@@ -43,6 +43,32 @@ class Change(NamedTuple):
     changed: int
 
 
+class Published(int):
+    """An accepted publish: the number of its version, which it is, and its place in the log. The
+    place is that of the last change and 1 more if nobody gave a command in between."""
+
+    place: int
+
+    def __new__(cls, place: int, version: int) -> "Published":
+        made = super().__new__(cls, version)
+        made.place = place
+        return made
+
+    @property
+    def version(self) -> int:
+        """The number, as an int alone."""
+        return int(self)
+
+    def __getnewargs__(self) -> Tuple[int, int]:  # type: ignore[override]
+        return self.place, self.version
+
+    def __repr__(self) -> str:
+        return f"Published(place={self.place}, version={self.version})"
+
+    def __str__(self) -> str:
+        return str(self.version)
+
+
 class Collected(NamedTuple):
     """An accepted collect: its place, the least version that is kept, and how many blocks came
     back."""
@@ -163,9 +189,9 @@ def _read_change(reply: str, line: str) -> Change:
     return Change(*_two(reply, line))
 
 
-def _read_version(reply: str, line: str) -> int:
-    """The answer of PUBLISH, without its place."""
-    return _two(reply, line)[1]
+def _read_published(reply: str, line: str) -> Published:
+    """The answer of PUBLISH."""
+    return Published(*_two(reply, line))
 
 
 def _read_collected(reply: str, line: str) -> Collected:
@@ -178,7 +204,7 @@ def _read_collected(reply: str, line: str) -> Collected:
 PIN = Request("PIN", read_one)
 UNPIN = Request("UNPIN", read_one)
 DUMP = Request("DUMP", read_one)
-PUBLISH = Request("PUBLISH", _read_version)
+PUBLISH = Request("PUBLISH", _read_published)
 REVERT = Request("REVERT", read_one)
 COLLECT = Request("COLLECT", _read_collected)
 CHECKPOINT = Request("CHECKPOINT", read_one)
