@@ -50,7 +50,6 @@
 #include <stdexcept>
 #include <string>
 #include <system_error>
-#include <thread>
 #include <type_traits>
 #include <utility>
 #include <vector>
@@ -137,9 +136,11 @@ struct Change {
 };
 
 /// An accepted publish: its place in the log, and the number of its version, which it converts to.
-/// The place is that of the last change and 1 more if nobody gave a command in between.
+/// The place is that of the last change and 1 more if nobody gave a command in between. `floor` is
+/// the least version that is kept, where a collect followed.
 struct Published {
     std::uint32_t place, version;
+    std::optional<std::uint32_t> floor = std::nullopt;
     constexpr operator std::uint32_t() const noexcept { return version; }
 };
 
@@ -154,6 +155,10 @@ struct Collected {
 /// by then, LogFull is thrown.
 enum class FullLog { thrown, checkpointed };
 
+/// What becomes of older versions when one is published: they stay until a collect, or one follows
+/// at once. It keeps those that a pin holds.
+enum class OldVersions { kept, collected };
+
 /// How a client connects, and what it does later.
 struct Options {
     /// The size that the map must have: otherwise WrongMap is thrown, before anything else is
@@ -165,10 +170,14 @@ struct Options {
     /// A call of the client that finds the connection closed reconnects first, to a map of the same
     /// size. A call whose reply was lost isn't repeated. A pin of the earlier connection stays
     /// lost. The server may be another one, with versions and places that start again, and without
-    /// the draft: where paints were accepted that aren't published, and their thread wasn't told by
-    /// an error that closes the connection, the first `publish` over a new one throws
-    /// ConnectionLost, and publishes nothing.
+    /// the draft: where changes were accepted over an earlier connection that aren't published, the
+    /// first `publish` over a new one throws ConnectionLost, and publishes nothing, whatever other
+    /// calls and threads were told before. Then make all the changes again, and publish. A `revert`
+    /// drops what was changed, so nothing is told after it.
     bool reconnect = false;
+    /// For a whole call, from its turn to its last byte, with the connection that it makes; 0 sets
+    /// no end.
+    std::chrono::milliseconds call_timeout = std::chrono::milliseconds(0);
 };
 
 // ---- what goes wrong
@@ -305,6 +314,32 @@ inline std::optional<std::pair<std::string, std::size_t>> refusal(std::uint32_t 
     return at->second;
 }
 
+/// What would have been taken, after the words of a refusal that don't say it. The size is the
+/// map's, if it is known.
+inline std::string cure(std::uint32_t refusal, const std::vector<std::string>& words,
+                        const std::optional<Size>& size) {
+    const std::string& last = words.back();
+    switch (refusal) {
+        case OutOfRange:
+            if (!size) return ": Client::size has the map's columns and rows";
+            return ": the map has columns 0 to " + std::to_string(size->width - 1) +
+                   " and rows 0 to " + std::to_string(size->height - 1);
+        case VersionsFull:
+            return ": collect frees the versions that no pin holds, and"
+                   " publish(OldVersions::collected) does so each time";
+        case AlreadyPinned: return ": unpin the other pin";
+        case BadPath: return ": a path has 1 to 1000 points";
+        case Crooked:
+            return ": the point " + last + " is in neither the row nor the column of the one before";
+        case BadImage:
+            if (last == "TooLarge") return ": an image has at most 4096 columns and 4096 rows";
+            if (last == "Truncated") return ": its bytes end before its last pixel";
+            if (last == "BadPixel") return ": each pixel of a plain image is 0 or 1";
+            return "";
+        default: return "";
+    }
+}
+
 /// A reply line: its words, or its refusal.
 struct Reply {
     std::vector<std::string> words;
@@ -318,14 +353,15 @@ struct Reply {
 class Wire {
 public:
     Wire(std::uint16_t port, const Options& options)
-        : port_(port), options_(options), timeout_(options.timeout), owner_(::getpid()) {
-        constexpr std::chrono::milliseconds longest =
-            std::chrono::hours(480);  // `poll` can count it
-        if (timeout_.count() < 0) throw std::invalid_argument("a time-out is 0 or more");
+        : port_(port), options_(options), owner_(::getpid()) {
+        for (std::chrono::milliseconds* limit : {&options_.timeout, &options_.call_timeout}) {
+            if (limit->count() < 0) throw std::invalid_argument("a time-out is 0 or more");
+            *limit = std::min<std::chrono::milliseconds>(*limit, std::chrono::hours(480));
+        }
         if (options.expected &&
             !(in_range(options.expected->width) && in_range(options.expected->height)))
             throw std::invalid_argument("a map has 1 to 4096 columns and rows");
-        timeout_ = std::min(timeout_, longest);
+        begin();
         open();
     }
     Wire(const Wire&) = delete;
@@ -347,64 +383,64 @@ public:
         drop();
     }
 
+    /// Ends the connection for good, from any thread: whoever has the turn throws.
+    void abort() noexcept {
+        std::lock_guard<std::mutex> guard(socket_guard_);
+        finished_ = true;
+        if (socket_ >= 0) ::shutdown(socket_, SHUT_RDWR);
+    }
+
     /// Closes the connection at once. A child closes only its own copy.
     void drop() noexcept {
-        if (socket_ >= 0) {
-            if (owned()) ::shutdown(socket_, SHUT_RDWR);
-            ::close(socket_);
-        }
-        socket_ = -1;
+        if (socket_ >= 0 && owned()) ::shutdown(socket_, SHUT_RDWR);
+        const int old = set_socket(-1);
+        if (old >= 0) ::close(old);
         owed_ = 0;
         pinned_ = 0;
         busy_ = answered_ = false;
         buffer_.clear();
-        tell();
+        if (draft_ == Draft::changed) draft_ = Draft::lost;
     }
 
     // -- the start and the end of a call
 
+    /// Starts the time of a call.
+    void begin() {
+        const auto limit = options_.call_timeout;
+        until_ = limit.count() == 0 ? Clock::time_point::max() : Clock::now() + limit;
+    }
+
     /// Makes sure that the connection is there and that no byte of an earlier call is on it.
     void ready() {
+        begin();
         if (is_open()) return;
         if (finished_ || !options_.reconnect) throw ConnectionLost("the connection is closed");
-        try {
-            open();
-        } catch (...) {
-            tell();
-            throw;
-        }
-        draft_lost_ = draft_lost_ || painters_ != Painters::none;
-        painters_ = Painters::none;
+        open();
     }
 
-    /// Throws, once, if the draft that is to be published may be lost with an earlier connection.
+    /// Throws, once, if changes that are to be published may be lost with an earlier connection.
     void check_draft() {
-        if (std::exchange(draft_lost_, false))
-            throw ConnectionLost(
-                "the connection was lost after changes that aren't published, and another server "
-                "doesn't have them: paint again, and publish");
+        if (draft_ != Draft::lost) return;
+        ConnectionLost told(
+            "the connection was lost after changes that aren't published, and another server "
+            "doesn't have them: paint again, and publish");
+        draft_ = Draft::changed;  // as it may be, over this connection
+        throw told;
     }
 
-    /// Marks that a command was accepted which leaves the draft with changes that aren't published,
-    /// or without.
-    void drafted(bool changed) {
-        if (!changed) {
-            painters_ = Painters::none;
-            draft_lost_ = false;
-        } else if (painters_ == Painters::none) {
-            painters_ = Painters::one;
-            painter_ = std::this_thread::get_id();
-        } else if (painter_ != std::this_thread::get_id()) {
-            painters_ = Painters::several;
-        }
+    /// Marks that a change of the draft was accepted.
+    void changed() {
+        if (draft_ == Draft::published) draft_ = Draft::changed;
     }
+
+    /// Marks that the draft was published, or reverted.
+    void published() { draft_ = Draft::published; }
 
     /// The same for calls of a pin, which no new connection has.
     void ready_for(std::uint64_t pin) {
-        if (!is_open() || pin < first_pin_) {
-            if (socket_ < 0) tell();
+        begin();
+        if (!is_open() || pin < first_pin_)
             throw ConnectionLost("the connection is closed, and the pin with it");
-        }
         if (pin != pinned_) throw ConnectionLost("the pin was left");
     }
 
@@ -462,7 +498,7 @@ public:
         if (!said.refused) return numbers(said.words, count);
         done();
         int number = said.refused->number;
-        if (counts_bytes && (number == BadArguments || number == UnknownCommand)) leave();
+        if (counts_bytes && (number == BadArguments || number == UnknownCommand)) drop();
         throw *said.refused;
     }
 
@@ -547,8 +583,15 @@ private:
         }
     }
 
+    /// Sets the socket, which `abort` of another thread may read, and returns the one before.
+    int set_socket(int socket) noexcept {
+        std::unique_lock<std::mutex> guard(socket_guard_, std::defer_lock);
+        if (owned()) guard.lock();  // in a child a thread of its parent may have it for ever
+        return std::exchange(socket_, socket);
+    }
+
     void connect() {
-        socket_ = ::socket(AF_INET, SOCK_STREAM | SOCK_CLOEXEC | SOCK_NONBLOCK, 0);
+        set_socket(::socket(AF_INET, SOCK_STREAM | SOCK_CLOEXEC | SOCK_NONBLOCK, 0));
         if (socket_ < 0)
             throw ConnectionLost("no socket can be had: " + std::generic_category().message(errno));
         first_pin_ = pins_ + 1;
@@ -563,10 +606,11 @@ private:
             fault = errno;
         if (fault == EINPROGRESS || fault == EINTR) {
             socklen_t size = sizeof fault;
-            if (!wait(POLLOUT, next_deadline()))
-                late("no connection at port " + std::to_string(port_));
+            const auto deadline = next_deadline();
+            if (!wait(POLLOUT, deadline)) late("no connection at port " + std::to_string(port_));
             if (::getsockopt(socket_, SOL_SOCKET, SO_ERROR, &fault, &size) != 0) fault = errno;
         }
+        if (finished_) lost();
         if (fault == 0) return;
         drop();
         throw ConnectionLost("no server at port " + std::to_string(port_) + ": " +
@@ -648,30 +692,20 @@ private:
         char unasked[longest_reply];
         ssize_t n = ::recv(socket_, unasked, sizeof unasked, MSG_PEEK | MSG_DONTWAIT);
         if (n < 0 && (errno == EAGAIN || errno == EWOULDBLOCK || errno == EINTR)) return true;
-        if (n <= 0) {
-            leave();
-            return false;
-        }
         drop();
+        if (n <= 0) return false;
         std::string said(unasked, static_cast<std::size_t>(n));
         throw ConnectionLost("the server ended the connection with what nobody asked: " +
                              said.substr(0, said.find('\n')));
     }
 
-    /// Closes the connection where no caller is told that it is lost.
-    void leave() noexcept {
-        Painters painters = painters_;
-        drop();
-        painters_ = painters;
+    /// When the next wait has to end. The call's own time mustn't be over.
+    Clock::time_point next_deadline() {
+        const auto now = Clock::now(), longest = Clock::time_point::max();
+        if (now >= until_) late(reason());
+        return std::min(until_,
+                        options_.timeout.count() == 0 ? longest : now + options_.timeout);
     }
-
-    /// Marks that this thread is told of a lost connection: it knows what becomes of its paints.
-    void tell() noexcept {
-        if (painters_ == Painters::one && painter_ == std::this_thread::get_id())
-            painters_ = Painters::none;
-    }
-
-    Clock::time_point next_deadline() const { return Clock::now() + timeout_; }
 
     /// Waits until the socket is ready or the time is up. Signals don't prolong it.
     bool wait(short events, Clock::time_point deadline) {
@@ -679,9 +713,9 @@ private:
             auto left =
                 std::chrono::ceil<std::chrono::milliseconds>(deadline - Clock::now()).count();
             pollfd one{socket_, events, 0};
+            const bool is_endless = deadline == Clock::time_point::max();
             int ready = ::poll(
-                &one, 1,
-                timeout_.count() == 0 ? -1 : static_cast<int>(std::max<decltype(left)>(left, 0)));
+                &one, 1, is_endless ? -1 : static_cast<int>(std::max<decltype(left)>(left, 0)));
             if (ready >= 0) return ready > 0;
             if (errno != EINTR) lost();
         }
@@ -690,8 +724,7 @@ private:
     /// Waits after a failed call that can be retried.
     void await(short events, Clock::time_point deadline) {
         if (errno != EAGAIN && errno != EWOULDBLOCK && errno != EINTR) lost();
-        if (wait(events, deadline)) return;
-        late(answered_ ? "no reply" : "connected, but no worker has answered");
+        if (!wait(events, deadline)) late(reason());
     }
 
     /// Receives what has come, once something has.
@@ -706,16 +739,23 @@ private:
 
     [[noreturn]] void lost() {
         drop();
-        throw ConnectionLost("the connection is closed");
+        throw ConnectionLost(finished_ ? "the connection was aborted" : "the connection is closed");
+    }
+
+    /// What didn't come in time.
+    const char* reason() const {
+        return answered_ ? "no reply" : "connected, but no worker has answered";
     }
 
     [[noreturn]] void late(const std::string& what) {
-        auto time = timeout_.count();
-        std::string within =
-            time % 1000 == 0 ? std::to_string(time / 1000) + " s" : std::to_string(time) + " ms";
+        const bool is_of_call = Clock::now() >= until_;
+        auto time = (is_of_call ? options_.call_timeout : options_.timeout).count();
+        std::string within = is_of_call ? " within the call's " : " within ";
+        within += time % 1000 == 0 ? std::to_string(time / 1000) + " s"
+                                   : std::to_string(time) + " ms";
         bool answered = answered_;
         drop();
-        throw TimedOut(what + " within " + within +
+        throw TimedOut(what + within +
                        (answered ? "" : ": are all workers of the server taken?"));
     }
 
@@ -728,26 +768,27 @@ private:
             if (auto n = number(said[i])) found.push_back(*n);
         bool as_known = known && said[2] == known->first && found.size() == known->second;
         if (!as_known || said.size() != 3 + known->second + image) wrong(line);
-        Refused refused(static_cast<int>(code), said[2], found, image ? said[3] : "", line);
-        if (code == LineTooLong || code == TooMuchData) leave();
+        Refused refused(static_cast<int>(code), said[2], found, image ? said[3] : "",
+                        line + cure(code, said, options_.expected));
+        if (code == LineTooLong || code == TooMuchData) drop();
         return refused;
     }
 
     std::uint16_t port_;
     Options options_;  // `expected` is the size that was found, once it was
-    std::chrono::milliseconds timeout_;
     pid_t owner_;
+    std::mutex socket_guard_;  // of its writes, and of the reads of `abort`
     int socket_ = -1;
+    Clock::time_point until_{};  // the end of the call's time
     std::string buffer_;           // received and not yet taken
     std::size_t owed_ = 0;         // replies still to come
     bool busy_ = false;            // a call has begun
     bool answered_ = false;        // on this connection
-    bool finished_ = false;        // by `close`
-    /// Threads whose accepted paints aren't published, and that weren't told of a lost connection.
-    enum class Painters { none, one, several };
-    Painters painters_ = Painters::none;
-    std::thread::id painter_;  // the one, or the first
-    bool draft_lost_ = false;  // with an earlier connection
+    std::atomic<bool> finished_{false};  // by `close` or `abort`
+    /// What became of the changes that were accepted: `lost` with a connection, or published, where
+    /// there are none too.
+    enum class Draft { published, changed, lost };
+    Draft draft_ = Draft::published;
     std::uint64_t pins_ = 0;       // made so far, on all connections
     std::uint64_t first_pin_ = 1;  // the first that this connection can have made
     std::uint64_t pinned_ = 0;     // the pin that is held, or 0
@@ -1085,6 +1126,12 @@ public:
         wire_->close();
     }
 
+    /// Ends the connection at once, from any thread while others use the client. A call that waits
+    /// throws ConnectionLost, and may have been accepted. As after `close`, nothing reconnects.
+    void abort() noexcept {
+        if (wire_ && wire_->owned()) wire_->abort();
+    }
+
     /// The map's size: what was expected, or what is found by two writes at the first call.
     Size size() { return detail::Turn(wire_)->size(); }
 
@@ -1125,28 +1172,29 @@ public:
     }
 
     /// Appends the draft as the next version, and returns its number, which has its place in the
-    /// log too. Refused as VersionsFull too. Throws ConnectionLost if the draft may be lost, as
-    /// `Options::reconnect` says.
-    Published publish() {
+    /// log too. Refused as VersionsFull too: where older versions are collected there is room again
+    /// after each publish. Their floor is none if that was refused. Throws ConnectionLost, once, if
+    /// changes may be lost, as `Options::reconnect` says.
+    Published publish(OldVersions old = OldVersions::kept) {
         detail::Turn turn(wire_);
         turn->check_draft();
-        auto n = change(*turn, "PUBLISH", 2);
-        turn->drafted(false);
-        return {n[0], n[1]};
+        auto n = command(*turn, "PUBLISH", 2);
+        turn->published();
+        return {n[0], n[1], old == OldVersions::collected ? floor(*turn) : std::nullopt};
     }
 
     /// Makes the draft the newest version again, and returns the place in the log.
     std::uint32_t revert() {
         detail::Turn turn(wire_);
-        std::uint32_t place = change(*turn, "REVERT", 1)[0];
-        turn->drafted(false);
+        std::uint32_t place = command(*turn, "REVERT", 1)[0];
+        turn->published();
         return place;
     }
 
     /// Frees what no kept version uses: the newest is kept, and each that a pin holds.
     Collected collect() {
         detail::Turn turn(wire_);
-        auto n = change(*turn, "COLLECT", 3);
+        auto n = command(*turn, "COLLECT", 3);
         return {n[0], n[1], n[2]};
     }
 
@@ -1171,9 +1219,9 @@ private:
     }
 
     /// The same, with a checkpoint in between if the log is full and the client allows it.
-    static std::vector<std::uint32_t> change(detail::Wire& wire, const std::string& line,
-                                             std::size_t count, const char* data = nullptr,
-                                             std::size_t size = 0) {
+    static std::vector<std::uint32_t> command(detail::Wire& wire, const std::string& line,
+                                              std::size_t count, const char* data = nullptr,
+                                              std::size_t size = 0) {
         try {
             return sent(wire, line, count, data, size);
         } catch (const Refused& refused) {
@@ -1183,10 +1231,19 @@ private:
         return sent(wire, line, count, data, size);
     }
 
+    /// The floor of a collect, or none if it is refused.
+    static std::optional<std::uint32_t> floor(detail::Wire& wire) {
+        try {
+            return command(wire, "COLLECT", 3)[1];
+        } catch (const Refused&) {
+            return std::nullopt;
+        }
+    }
+
     Change draw(const std::string& line, const char* data = nullptr, std::size_t size = 0) {
         detail::Turn turn(wire_);
-        auto n = change(*turn, line, 2, data, size);
-        turn->drafted(true);
+        auto n = command(*turn, line, 2, data, size);
+        turn->changed();
         return {n[0], n[1]};
     }
 

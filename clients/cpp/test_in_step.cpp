@@ -254,50 +254,6 @@ static void lost() {
     CHECK(throws<ConnectionLost>([&] { again.paint(6, 0, 7, 1); }) && server.connections == 4);
 }
 
-/// A draft whose server may have gone isn't published in silence.
-static void drafts() {
-    Telling server;
-    Client client(server.port, {size, std::chrono::seconds(10), FullLog::thrown, true});
-    auto cut = [&] {
-        server.cut();
-        let_arrive();
-    };
-    auto is_told = [&] {
-        return throws<ConnectionLost>([&] { client.publish(); }, "paint again, and publish");
-    };
-    client.paint(1, 0, 2, 1);
-    cut();
-    CHECK(is_told() && client.publish() == 5 && server.connections == 2);
-    client.stamp({1, 0}, "P1\n1 1\n1\n");
-    cut();
-    client.paint(2, 0, 3, 1);  // over the new connection
-    CHECK(is_told() && client.publish() == 5 && server.connections == 3);
-    client.paint(3, 0, 4, 1);
-    cut();
-    CHECK(client.revert() == 0 && client.publish() == 5);  // nothing is left to lose
-    cut();
-    CHECK(client.publish() == 5 && server.connections == 5);
-    client.paint(4, 0, 5, 1);
-    server.loses = true;
-    CHECK(throws<ConnectionLost>([&] { client.paint(5, 0, 6, 1); }));  // who painted knows of it
-    server.loses = false;
-    CHECK(client.publish() == 5 && server.connections == 6);
-    Pinned map = client.pin();
-    std::thread([&] { client.paint(6, 0, 7, 1); }).join();
-    cut();
-    CHECK(throws<ConnectionLost>([&] { map.at({0, 0}); }));  // this thread didn't paint
-    CHECK(is_told() && client.publish() == 5);
-    Pinned own = client.pin();
-    client.paint(7, 0, 8, 1);
-    cut();
-    CHECK(throws<ConnectionLost>([&] { own.at({0, 0}); }));  // this one did
-    CHECK(client.publish() == 5);
-    client.paint(8, 0, 9, 1);
-    std::thread([&] { client.paint(9, 0, 10, 1); }).join();
-    cut();
-    CHECK(is_told());
-}
-
 static void busy(std::uint16_t port) {
     const char* text =
         "connected, but no worker has answered within 200 ms: are all workers of the server taken?";
@@ -475,7 +431,6 @@ int main(int count, char** words) {
     signals_and_silence();
     unasked();
     lost();
-    drafts();
     busy(one);
     sizes(port);
     another_map_later();

@@ -158,16 +158,23 @@ public:
         for (int stream : streams_) ::close(stream);
     }
 
-    /// Ends all connections.
+    /// Ends all connections, as a server that is started anew: nothing of the draft is left.
     void cut() {
         std::lock_guard<std::mutex> lock(mutex_);
         for (int stream : streams_) ::shutdown(stream, SHUT_RDWR);
+        draft_.clear();
     }
 
     /// The lines that draw, of all connections.
     std::vector<std::string> drawn() {
         std::lock_guard<std::mutex> lock(mutex_);
         return drawn_;
+    }
+
+    /// The lines that drew what is in the version that was published last.
+    std::vector<std::string> published() {
+        std::lock_guard<std::mutex> lock(mutex_);
+        return published_;
     }
 
     std::atomic<int> pause{0};       ///< Microseconds before each reply, and within it.
@@ -230,10 +237,16 @@ private:
         }
         if (asked[0] == "DUMP") return "OK 9\nP1\n1 1\n1\n";
         if (asked[0] == "QUIT") return "BYE\n";
-        if (asked[0] == "PUBLISH") return "OK 9 5\n";
-        if (!draws(line)) return "OK 0\n";
+        if (asked[0] == "COLLECT") return "OK 10 5 0\n";
         std::lock_guard<std::mutex> lock(mutex_);
+        if (asked[0] == "PUBLISH") {
+            published_ = draft_;
+            return "OK 9 5\n";
+        }
+        if (asked[0] == "REVERT") draft_.clear();
+        if (!draws(line)) return "OK 0\n";
         drawn_.push_back(line);
+        if (!loses) draft_.push_back(line);
         if (loses) return "";
         return "OK " + std::to_string(drawn_.size()) + ' ' +
                (asked[0] == "STAMP" ? asked[3] : asked[1]) + '\n';
@@ -241,7 +254,7 @@ private:
 
     Listener listener_;
     std::mutex mutex_;
-    std::vector<std::string> drawn_;
+    std::vector<std::string> drawn_, draft_, published_;
     std::list<int> streams_;
     std::list<std::thread> serving_;
     std::thread thread_;

@@ -6,6 +6,10 @@ import threading
 
 POST = b"P1\n6 4\n000000\n001000\n000000\n000000\n"  # one obstacle, at column 2 of row 1
 
+OUTSIDE = b"ERR 1 OutOfRange\n"
+SIZED = (b"OK 0\n", *[OUTSIDE] * 252, b"OK 0\n")  # what a map of one cell answers who asks its size
+CHECKED = (b"OK 0\n", b"NONE\n", OUTSIDE, OUTSIDE, b"OK 0\n")  # and who checks it
+
 
 class Ring(bytes):
     """Bytes that are sent, and after which an alarm comes, in the middle of the client's call."""

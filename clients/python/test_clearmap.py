@@ -221,12 +221,67 @@ class Refusals(unittest.TestCase):
                 self.assertEqual(pinned.at(0, 0).distance, 5)
 
     def test_what_would_be_right(self):
-        """A refusal says which columns and rows there are, once the client knows the size."""
+        """A refusal says which columns and rows there are; a client that doesn't know asks."""
+        said = "the map has columns 0 to 5 and rows 0 to 3$"
         with Served(POST) as server:
-            for size, said in ((None, "'\\)$"), ((6, 4), "columns 0 to 5 and rows 0 to 3$")):
+            for size in (None, (6, 4)):
                 with clearmap.Client(server.port, size=size) as client, client.pin() as pinned:
                     self.assertRaisesRegex(clearmap.OutOfRange, said, pinned.at, 6, 0)
+                    self.assertEqual(pinned.at(5, 3).distance, 13)
                     self.assertRaisesRegex(clearmap.OutOfRange, said, client.paint, 0, 0, 7, 1)
+                with clearmap.Client(server.port, size=size) as client:
+                    self.assertRaisesRegex(clearmap.OutOfRange, said, client.paint, 0, 0, 7, 1)
+                    client.pin().unpin()  # no pin was left
+        with Fake(b"ERR 1 OutOfRange\n", b"ERR 5 Memory\n", *[b"ERR 6 NotPinned\n"] * 126, closes=False) as fake:
+            with clearmap.Client(fake.port, timeout=5) as client:
+                self.assertRaisesRegex(clearmap.OutOfRange, "'\\)$", client.paint, 0, 0, 7, 1)
+
+    def test_cures(self):
+        """What a refusal says that its own words don't."""
+        raw = b"P4\n9 2\n\xff"
+        rows = (
+            (lambda client, pinned: pinned.path([(0, 0), (1, 0), (2, 1)]), "the point 2 is in neither the row nor the column of the one before"),
+            (lambda client, pinned: pinned.path([]), "a path has 1 to 1000 points"),
+            (lambda client, pinned: pinned.path([(0, 0)] * 1001), "a path has 1 to 1000 points"),
+            (lambda client, pinned: client.pin(), "unpin the other pin"),
+            (lambda client, pinned: client.stamp(0, 0, b"P1\n4097 1\n"), "an image has at most 4096 columns and 4096 rows"),
+            (lambda client, pinned: client.stamp(0, 0, b"P1\n2 1\n1"), "2 by 1 are 2 pixels, and 1 are there"),
+            (lambda client, pinned: client.stamp(0, 0, b"P1\n2 2\n1 # 0\n 10"), "2 by 2 are 4 pixels, and 3 are there"),
+            (lambda client, pinned: client.stamp(0, 0, raw), "9 by 2 pixels are 4 bytes after the head, and 1 are there"),
+            (lambda client, pinned: client.stamp(0, 0, b"P1\n2 1\n1 2"), "its byte 9 is b'2', where a pixel is 0 or 1"),
+            (lambda client, pinned: client.stamp(0, 0, b"P1 #a\n2 1\n# b\n1x"), "its byte 15 is b'x', where a pixel is 0 or 1"),
+            (lambda client, pinned: client.stamp(0, 0, b"P1 2"), ""),
+        )
+        with Served(POST) as server, clearmap.Client(server.port) as client, client.pin() as pinned:
+            for call, cure in rows:
+                with self.subTest(cure=cure), self.assertRaises(clearmap.Refused) as caught:
+                    call(client, pinned)
+                self.assertEqual(caught.exception.cure, cure)
+                self.assertTrue(str(caught.exception).endswith(cure and f": {cure}"))
+
+    def test_collect_at_each_publish(self):
+        """Slots for versions run out, or older ones are freed at each publish."""
+        with Served(POST) as server, clearmap.Client(server.port) as client:
+            for _ in range(7):
+                self.assertIsNone(client.publish().floor)
+            with self.assertRaisesRegex(clearmap.VersionsFull, "publish\\(collect=True\\)"):
+                client.publish()
+            self.assertEqual(client.collect().floor, 7)
+            for number in range(8, 30):
+                done = client.publish(collect=True)
+                self.assertEqual((done, done.floor), (number, number))
+            with client.pin():
+                self.assertEqual(client.publish(collect=True).floor, 29)
+            self.assertRaisesRegex(TypeError, "collect is 'false'", client.publish, "false")
+
+    def test_a_collect_that_is_refused(self):
+        """The version is published all the same."""
+        with Served(POST, "--log", "1") as server, clearmap.Client(server.port) as client:
+            done = client.publish(collect=True)
+            self.assertEqual((done, done.place, done.floor), (1, 1, None))
+            self.assertRaises(clearmap.LogFull, client.publish)
+        with Served(POST, "--log", "1") as server, clearmap.Client(server.port, checkpoints=True) as client:
+            self.assertEqual(client.publish(collect=True).floor, 1)
 
     def test_what_is_never_sent(self):
         with Served(POST) as server, clearmap.Client(server.port) as client, client.pin() as pinned:

@@ -13,7 +13,7 @@ sys.path += [str(TOOLS), str(TOOLS / "stress")]
 
 import clearmap
 import stress_python_client as stress
-from fakes import POST, Fake, Ring
+from fakes import CHECKED, POST, SIZED, Fake, Ring
 from served import Served
 
 
@@ -174,6 +174,36 @@ class Threads(unittest.TestCase):
             self.assertEqual(known - {(0, 5), (1, 0)}, set())
 
 
+class Pins(unittest.TestCase):
+    def test_a_pin_that_nobody_has(self):
+        """It was dropped without an unpin: the next pin is of the newest version."""
+        with Served(POST) as server, clearmap.Client(server.port) as client:
+            self.assertEqual(client.pin().at(0, 0).distance, 5)
+            client.paint(0, 0, 1, 1)
+            client.publish()
+            for _ in range(3):
+                self.assertEqual(client.pin().at(0, 0).distance, 0)
+            self.assertEqual(client.collect().floor, 1)
+
+    def test_a_pin_that_somebody_has(self):
+        with Served(POST) as server, clearmap.Client(server.port) as client:
+            first = client.pin()
+            with self.assertRaisesRegex(clearmap.AlreadyPinned, "unpin the other pin$"):
+                client.pin()
+            self.assertEqual(first.at(0, 0).distance, 5)
+            first.unpin()
+            second = client.pin()
+            first = None
+            self.assertRaises(clearmap.AlreadyPinned, client.pin)
+            self.assertEqual(second.at(0, 0).distance, 5)
+
+    def test_a_pin_that_an_interrupt_takes(self):
+        """At each step of the interpreter: the next pin answers."""
+        cuts, wrong = stress.pins_at_each_step(3)
+        self.assertEqual(wrong[:3], [])
+        self.assertGreater(cuts, 30)
+
+
 class Processes(unittest.TestCase):
     def child(self, work):
         """What a forked child writes."""
@@ -192,7 +222,7 @@ class Processes(unittest.TestCase):
 
     def test_a_fork(self):
         with Served(POST) as server, clearmap.Client(server.port, reconnect=True) as client:
-            with client.pin() as pinned:
+            with client.pin() as pinned, clearmap.Client(server.port) as other:
 
                 def told(call):
                     try:
@@ -200,7 +230,7 @@ class Processes(unittest.TestCase):
                     except clearmap.ConnectionLost as fault:
                         return fault
 
-                for call in (lambda: pinned.at(0, 0), client.publish, lambda: client.size):
+                for call in (lambda: pinned.at(0, 0), client.publish, lambda: other.size):
                     said = self.child(lambda: told(call))
                     self.assertIn("a forked process can't use its parent's connection", said)
                     self.assertEqual(pinned.at(5, 3), (13, (2, 1)))
@@ -275,7 +305,7 @@ class Reconnecting(unittest.TestCase):
         with Served(POST) as server:
             with clearmap.Client(server.port, reconnect=True) as client:
                 old = client.pin()
-                self.restarted(b"P1\n2 1\n01\n", server)
+                self.restarted(b"P1\n6 4\n010000\n" + b"0" * 18, server)
                 self.assertEqual(client.paint(0, 0, 1, 1), (1, 1))
                 with self.assertRaisesRegex(clearmap.ConnectionLost, "its pin lost: pin again"):
                     old.at(0, 0)
@@ -283,67 +313,6 @@ class Reconnecting(unittest.TestCase):
                     self.assertEqual(pinned.at(0, 0), (1, (1, 0)))
                     self.assertRaises(clearmap.ConnectionLost, old.at, 0, 0)
                     self.assertEqual(pinned.at(1, 0), (0, (1, 0)))
-
-    def test_a_draft_that_is_lost(self):
-        """Its paints were accepted, and no call has raised since its server ended: publish says so
-        once, and publishes nothing."""
-        with Served(POST) as server, clearmap.Client(server.port, reconnect=True) as client:
-            client.paint(0, 0, 1, 1)
-            other = self.restarted(POST, server)
-            client.collect()  # over the new connection, in silence
-            with self.assertRaisesRegex(clearmap.ConnectionLost, "paint again, and publish"):
-                client.publish()
-            client.paint(0, 0, 1, 1)
-            self.assertEqual(client.publish(), 1)
-            client.clear(0, 0, 1, 1)
-            other = self.restarted(POST, other)
-            client.paint(1, 1, 2, 2)
-            with self.assertRaisesRegex(clearmap.ConnectionLost, "paint again, and publish"):
-                client.publish()
-            with client.pin() as pinned:
-                self.assertEqual(pinned.version, 0)
-            self.assertEqual(client.publish(), 1)  # asked again, with what was painted since
-            client.paint(3, 3, 4, 4)
-            self.restarted(POST, other)
-            client.revert()  # nothing is left to lose
-            self.assertEqual(client.publish(), 1)
-
-    def test_a_draft_of_another_thread(self):
-        """One thread is told of the loss, and another has painted."""
-        with Served(POST) as server, clearmap.Client(server.port, reconnect=True) as client:
-            pinned = client.pin()
-            painter = threading.Thread(target=client.paint, args=(0, 0, 1, 1))
-            painter.start()
-            painter.join()
-            self.restarted(POST, server)
-            self.assertRaises(clearmap.ConnectionLost, pinned.at, 0, 0)
-            self.assertRaisesRegex(clearmap.ConnectionLost, "paint again", client.publish)
-            self.assertEqual(client.publish(), 1)
-
-    def test_no_server_for_a_while(self):
-        """Whoever painted is told, and paints again."""
-        with Served(POST) as server, clearmap.Client(server.port, reconnect=True) as client:
-            client.paint(0, 0, 1, 1)
-            server.end()
-            self.assertRaisesRegex(clearmap.ConnectionLost, "no server", client.paint, 1, 0, 2, 1)
-            self.restarted(POST, server)
-            client.paint(0, 0, 2, 1)
-            self.assertEqual(client.publish(), 1)
-
-    def test_a_draft_that_is_not_lost(self):
-        """It was published, or reverted, or whoever painted knows of the loss."""
-        with Served(POST) as server, clearmap.Client(server.port, reconnect=True) as client:
-            for finish in (client.publish, client.revert):
-                client.paint(0, 0, 1, 1)
-                finish()
-                server = self.restarted(POST, server)
-                self.assertEqual(client.publish(), 1)
-        painted = (b"OK 1 4\n", b"OK")
-        with Fake(*painted, then=(b"OK 1 5\n", b"OK 2 1\n")) as fake:
-            with clearmap.Client(fake.port, timeout=5, reconnect=True) as client:
-                client.paint(0, 0, 2, 2)
-                self.assertRaises(clearmap.ConnectionLost, client.paint, 2, 2, 3, 3)
-                self.assertEqual((client.paint(0, 0, 3, 3), client.publish()), ((1, 5), 1))
 
     def test_only_where_it_is_wanted(self):
         with Served(POST) as server, clearmap.Client(server.port) as client:
@@ -357,16 +326,17 @@ class Reconnecting(unittest.TestCase):
                 client.publish()
 
     def test_no_command_is_sent_twice(self):
-        with Fake(b"OK", then=(b"OK 9\n",)) as fake:
+        with Fake(*SIZED, b"OK", then=(*CHECKED, b"OK 9\n")) as fake:
             with clearmap.Client(fake.port, timeout=5, reconnect=True) as client:
                 self.assertRaises(clearmap.ConnectionLost, client.publish)
                 self.assertEqual(client.revert(), 9)
-        self.assertEqual(fake.lines, [[b"PUBLISH\n"], [b"REVERT\n"]])
+        commands = [lines[len(asked) :] for asked, lines in zip((SIZED, CHECKED), fake.lines)]
+        self.assertEqual(commands, [[b"PUBLISH\n"], [b"REVERT\n"]])
 
     def test_after_an_interrupt(self):
         """The call that finds out raises, and the next one reconnects."""
-        late = (b"OK 0\n", b"OK 4 0 0\n")
-        with Fake(b"OK 0\n", Ring(), closes=False, then=late) as fake:
+        late = (*CHECKED, b"OK 0\n", b"OK 4 0 0\n")
+        with Fake(*SIZED, b"OK 0\n", Ring(), closes=False, then=late) as fake:
             with clearmap.Client(fake.port, timeout=5, reconnect=True) as client:
                 pinned = client.pin()
                 with self.assertRaises(stress.Alarm), alarms(stress.ring):
@@ -375,11 +345,12 @@ class Reconnecting(unittest.TestCase):
                 self.assertEqual(client.pin().at(7, 7), (4, (0, 0)))
 
     def test_another_map(self):
-        for told in (True, False):
+        for told, asks in ((True, True), (False, True), (False, False)):
             with Served(POST) as server:
                 size = (6, 4) if told else None
                 with clearmap.Client(server.port, size=size, reconnect=True) as client:
-                    self.assertEqual(client.size, (6, 4))
+                    if asks:
+                        self.assertEqual(client.size, (6, 4))
                     other = self.restarted(b"P1\n4 6\n" + b"0" * 24, server)
                     for _ in range(2):
                         with self.assertRaisesRegex(clearmap.WrongMap, "4 by 6 cells, and 6 by 4"):

@@ -3,7 +3,7 @@
 # only, and nothing is left. Each test file and each server has a time limit. Needs python3, and for
 # the client in C++ a compiler, as Debian's g++. What isn't installed is skipped, with a message.
 # With the argument `long` the client in C++ has 10,000 calls interrupted, 10,000 made under signals
-# and 100,000 by eight threads: ten minutes next to other work.
+# and 100,000 by eight threads, and a storm of 20,000 turns: ten minutes next to other work.
 set -u
 long=${1:-}
 cd "$(dirname "$0")/../.." || exit 1
@@ -25,7 +25,8 @@ tried() { # tried PYTHON TEST
     echo "$2: $(sed -n 's/^Ran \([0-9]* tests\).*/\1/p' "$scratch/log"), $(tail -n 1 "$scratch/log")"
 }
 for test in clients/python/test_clearmap.py clients/python/test_in_step.py \
-    clients/python/test_values.py tools/gate/test_clearmap_backup.py; do
+    clients/python/test_drafts.py clients/python/test_waits.py clients/python/test_values.py \
+    tools/gate/test_clearmap_backup.py; do
     tried python3 "$test"
 done
 
@@ -82,7 +83,7 @@ printf 'P1\n6 4\n000000\n001000\n000000\n000000\n' > "$scratch/post"
 
 # The tests of the header, built with these flags: each run has servers of its own.
 build() { # build NAME FLAG ..
-    for test in clearmap in_step; do
+    for test in clearmap in_step drafts; do
         "$compiler" -std=c++17 -Wall -Wextra -Werror -pthread "${@:2}" -o "$scratch/${test}_$1" \
             "clients/cpp/test_$test.cpp" || return 1
     done
@@ -93,7 +94,8 @@ run() { # run NAME
         serve post --blocks 2 --versions 2 --log 3 &&
         timeout 300 "$scratch/clearmap_$1" "$post" "$port" "$walled" &&
         serve wide --log 20 && wide=$port && serve wide --workers 1 &&
-        timeout 900 "$scratch/in_step_$1" "$wide" "$port" $long
+        timeout 900 "$scratch/in_step_$1" "$wide" "$port" $long &&
+        timeout 300 "$scratch/drafts_$1" $long
 }
 
 # What can't be a call doesn't compile, and what is next to it does.

@@ -28,6 +28,7 @@ from served import Served
 WIDTH, HEIGHT = 23, 17
 CELLS = [(x, y) for x in range(WIDTH) for y in range(HEIGHT)]
 THREADS = 8
+LOST = "paint again, and publish"
 PATIENCE = 60  # seconds for a reply, on a busy machine
 LENGTHS = {
     "euclid2": lambda x, y: x * x + y * y,
@@ -319,6 +320,8 @@ KINDS = {
     "dump": lambda client, pin: pin.dump(),
     "renew": lambda client, pin: pin.renew(),
     "paint": lambda client, pin: client.paint(0, 0, 1, 1),
+    "publish": lambda client, pin: client.publish(collect=True),
+    "abort": lambda client, pin: client.abort(),
     "unpin": lambda client, pin: pin.unpin(),
     "close": lambda client, pin: client.close(),
 }
@@ -360,6 +363,61 @@ def each_step(stride, seed=1):
     return cuts, wrong
 
 
+def pins_at_each_step(stride):
+    """Cuts a pin off at every `stride`-th of its steps, and pins again. How many were cut off, and
+    the wrong answers."""
+    cuts, wrong = 0, []
+    with Painter(random.Random(1)) as painter:
+        wanted, step, came = painter.versions[0].at(5, 3, "city"), 1, True
+        client = clearmap.Client(painter.server.port, timeout=PATIENCE, reconnect=True)
+        while came:
+            came = cut_at(lambda client, _: client.pin(), step, client, None)
+            cuts, step = cuts + came, step + stride
+            try:
+                found = client.pin().at(5, 3, "city")
+            except clearmap.ClearmapError as fault:
+                found = wanted if "closed" in str(fault) else fault
+            wrong += [found] if found != wanted else []
+        client.close()
+    return cuts, wrong
+
+
+def drafts_at_each_step(stride):
+    """Cuts a publish off at every `stride`-th of its steps that would say that changes may be lost.
+    How many were cut off, and what was published in silence."""
+    cuts, wrong = 0, []
+    with Painter(random.Random(1)) as painter:
+        step, came = 1, True
+        while came:
+            with clearmap.Client(painter.server.port, reconnect=True, checkpoints=True) as client:
+                client.paint(0, 0, 1, 1)
+                client._connection.close()
+                said, came = told_of_a_loss(client, step)
+                cuts, step = cuts + came, step + stride
+                while not said:
+                    try:
+                        wrong.append(client.publish(collect=True))
+                        break
+                    except clearmap.ConnectionLost as lost:
+                        said = LOST in str(lost)
+    return cuts, wrong
+
+
+def told_of_a_loss(client, step):
+    """Whether a publish that is cut off at a step has told of it, and whether it was cut off."""
+    old = sys.gettrace()
+    sys.settrace(Cutter(step).enter)
+    try:
+        client.publish()
+    except clearmap.ConnectionLost as lost:
+        return LOST in str(lost), False
+    except Alarm as alarm:
+        return LOST in str(alarm.__context__), True
+    finally:
+        sys.settrace(old)
+    return False, False
+
+
 def calls_of_threads(calls, seed=1):
     """Asks this many questions from eight threads. How many answers were right, and the wrong ones.
     """
@@ -381,6 +439,9 @@ def main():
     print(f"{client.interrupts} interrupted calls: {client.right} answers right,", end=" ")
     print(f"{len(client.wrong)} wrong, {client.lost} connections lost", flush=True)
     cuts, after = each_step(told.stride, told.seed)
+    for each in (pins_at_each_step, drafts_at_each_step):
+        more, found = each(told.stride)
+        cuts, after = cuts + more, after + found
     print(f"{cuts} calls cut off at a step: {len(after)} answers wrong", flush=True)
     right, wrong = calls_of_threads(told.calls, told.seed)
     print(f"{told.calls} calls of {THREADS} threads: {right} right, {len(wrong)} wrong")

@@ -3,7 +3,10 @@ import os
 import re
 import select
 import socket
-from typing import List, Optional, Sequence, Tuple, TypeVar, Union
+import threading
+import time
+from contextlib import suppress
+from typing import List, NamedTuple, Optional, Sequence, Tuple, TypeVar, Union
 
 from .errors import DETAILS, ENDING, REFUSALS, ConnectionLost, Refused, TimedOut, WrongAnswer
 from .requests import Request, wrong
@@ -12,6 +15,23 @@ T = TypeVar("T")
 
 LONGEST_REPLY = 128  # bytes of a reply line, with its line feed
 PIECE = 65_536  # bytes that are sent or read at once
+LONGEST_TIMEOUT = 480 * 3600.0  # seconds; a socket takes no more than some years
+ABORTED = "the connection was aborted"
+
+
+class Limits(NamedTuple):
+    """How long to wait for each next byte, and how long a call may take, in seconds."""
+
+    wait: Optional[float]
+    call: Optional[float]
+
+    def checked(self) -> "Limits":
+        """The same, each at most the longest."""
+        for seconds in self:
+            if seconds is not None and not seconds > 0:
+                raise ValueError(f"a time-out of {seconds} s, where more than 0 or None is wanted")
+        most = (None if it is None else min(float(it), LONGEST_TIMEOUT) for it in self)
+        return Limits(*most)
 
 
 def _can_read(stream: socket.socket) -> bool:
@@ -31,19 +51,23 @@ class Connection:
     and the next reply may belong to it.
     """
 
-    def __init__(self, address: Tuple[str, int], timeout: Optional[float]) -> None:
+    def __init__(self, address: Tuple[str, int], limits: Limits) -> None:
         self.busy = False
         self._buffer = bytearray()
-        self._timeout = timeout
+        self._limits = limits
+        self._until: Optional[float] = None  # the end of the call's time
         self._heard = False  # whether a reply has come
+        self._is_aborted = False
         self._process = os.getpid()
+        self._closing = threading.RLock()  # so that `abort` finds no other socket of its number
         self._stream: Optional[socket.socket] = None
         where = f"{address[0]}:{address[1]}"
         try:
-            self._stream = socket.create_connection(address, timeout)
+            self.begun()
+            self._stream = socket.create_connection(address, self._wait())
             self._stream.setsockopt(socket.IPPROTO_TCP, socket.TCP_NODELAY, 1)
         except socket.timeout as fault:
-            raise TimedOut(f"no answer at {where}{self._within()}") from fault
+            raise TimedOut(self._late(f"no answer at {where}")) from fault
         except OSError as fault:
             raise ConnectionLost(f"no server at {where}: {fault}") from fault
 
@@ -61,7 +85,21 @@ class Connection:
         """Closes this process's descriptor. It sends nothing, and may be called again."""
         stream, self._stream = self._stream, None
         if stream is not None:
-            stream.close()
+            with self._closing:
+                stream.close()
+
+    def abort(self) -> None:
+        """Ends it from any thread: whoever waits for it raises."""
+        self._is_aborted = True
+        with self._closing, suppress(OSError):
+            if self._stream is not None:
+                self._stream.shutdown(socket.SHUT_RDWR)
+
+    def begun(self) -> "Connection":
+        """This connection, as the time of a call begins."""
+        if self._limits.call is not None:
+            self._until = time.monotonic() + self._limits.call
+        return self
 
     def has_ended(self) -> bool:
         """Whether it is closed, or the server has ended it. Then it is closed here too."""
@@ -82,7 +120,7 @@ class Connection:
             return
         self.close()
         if not unasked:
-            raise ConnectionLost("the server ended the connection")
+            raise ConnectionLost(self._why_ended())
         text = unasked[:80].decode("ascii", "replace")
         raise ConnectionLost(f"the server sent {text!r} unasked: the connection is closed")
 
@@ -130,43 +168,66 @@ class Connection:
             raise ConnectionLost("the connection is closed")
         return self._stream
 
-    def _send(self, data: bytes) -> None:
+    def _timed(self) -> socket.socket:
+        """The socket, for a wait of at most the time that is left."""
         stream = self._open()
+        if self._until is not None:
+            stream.settimeout(self._wait())
+        return stream
+
+    def _wait(self) -> Optional[float]:
+        """How long to wait for the next bytes."""
+        if self._until is None:
+            return self._limits.wait
+        left = self._until - time.monotonic()
+        if left <= 0:
+            raise socket.timeout
+        return left if self._limits.wait is None else min(left, self._limits.wait)
+
+    def _send(self, data: bytes) -> None:
         try:
             for start in range(0, len(data), PIECE):
-                stream.sendall(data[start : start + PIECE])
+                self._timed().sendall(data[start : start + PIECE])
         except socket.timeout as fault:
-            raise TimedOut(f"the server took no bytes{self._within()}") from fault
+            raise TimedOut(self._late("the server took no bytes")) from fault
         except OSError as fault:
             raise ConnectionLost(self._why_lost(fault)) from fault
 
     def _read_more(self) -> None:
         """Reads what has come, and waits for it."""
         try:
-            data = self._open().recv(PIECE)
+            data = self._timed().recv(PIECE)
         except socket.timeout as fault:
             raise TimedOut(self._why_late()) from fault
         except OSError as fault:
             raise ConnectionLost(self._why_lost(fault)) from fault
         if not data:
-            raise ConnectionLost("the server ended the connection")
+            raise ConnectionLost(self._why_ended())
         self._buffer += data
 
     def _why_lost(self, fault: OSError) -> str:
         """Who closed the connection: it may have been a signal's handler."""
-        closed = "the connection was closed in the middle of a call"
-        return closed if self._stream is None else f"the server went away: {fault}"
+        if self._stream is None:
+            return "the connection was closed in the middle of a call"
+        return ABORTED if self._is_aborted else f"the server went away: {fault}"
+
+    def _why_ended(self) -> str:
+        """Who ended the connection."""
+        return ABORTED if self._is_aborted else "the server ended the connection"
 
     def _why_late(self) -> str:
         """Possible reasons why no reply comes."""
         if self._heard:
-            return f"no reply{self._within()}"
-        late = f"connected, but no worker has answered{self._within()}"
+            return self._late("no reply")
+        late = self._late("connected, but no worker has answered")
         return f"{late}: are all workers of the server taken?"
 
-    def _within(self) -> str:
-        """The time waited; the system has a limit of its own if none is set here."""
-        return "" if self._timeout is None else f" within {self._timeout:g} s"
+    def _late(self, what: str) -> str:
+        """What didn't come in time; the system has a limit of its own if none is set here."""
+        wait, call = self._limits
+        if self._until is not None and time.monotonic() >= self._until:
+            return f"{what} within the call's {call:g} s"
+        return what if wait is None else f"{what} within {wait:g} s"
 
     def _receive(self, request: Request[T]) -> Union[T, Refused]:
         """The next reply line, as its request reads it."""

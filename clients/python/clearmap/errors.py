@@ -101,6 +101,11 @@ class BlocksFull(Refused):
 class VersionsFull(Refused):
     """All slots for versions are in use: collect, once old pins are left."""
 
+    cure = (
+        "collect() frees the versions that no pin holds, and publish(collect=True) does so each "
+        "time"
+    )
+
 
 class LogFull(Refused):
     """No further change is accepted before a checkpoint; pins and queries go on."""
@@ -117,9 +122,13 @@ class NotPinned(Refused):
 class AlreadyPinned(Refused):
     """A second pin on one connection."""
 
+    cure = "unpin the other pin"
+
 
 class BadPath(Refused):
     """A path of no points or over 1000."""
+
+    cure = "a path has 1 to 1000 points"
 
 
 class Crooked(Refused):
@@ -129,6 +138,11 @@ class Crooked(Refused):
     def index(self) -> int:
         """Which point, counted from 0."""
         return int(self.details[0])
+
+    @property
+    def cure(self) -> str:  # type: ignore[override]
+        """Which points aren't in line."""
+        return f"the point {self.index} is in neither the row nor the column of the one before"
 
 
 class BadArguments(Refused):

@@ -45,13 +45,15 @@ class Change(NamedTuple):
 
 class Published(int):
     """An accepted publish: the number of its version, which it is, and its place in the log. The
-    place is that of the last change and 1 more if nobody gave a command in between."""
+    place is that of the last change and 1 more if nobody gave a command in between. `floor` is the
+    least version that is kept, where a collect followed."""
 
     place: int
+    floor: Optional[int]
 
-    def __new__(cls, place: int, version: int) -> "Published":
+    def __new__(cls, place: int, version: int, floor: Optional[int] = None) -> "Published":
         made = super().__new__(cls, version)
-        made.place = place
+        made.place, made.floor = place, floor
         return made
 
     @property
@@ -59,11 +61,12 @@ class Published(int):
         """The number, as an int alone."""
         return int(self)
 
-    def __getnewargs__(self) -> Tuple[int, int]:  # type: ignore[override]
-        return self.place, self.version
+    def __getnewargs__(self) -> Tuple[int, int, Optional[int]]:  # type: ignore[override]
+        return self.place, self.version, self.floor
 
     def __repr__(self) -> str:
-        return f"Published(place={self.place}, version={self.version})"
+        kept = "" if self.floor is None else f", floor={self.floor}"
+        return f"Published(place={self.place}, version={self.version}{kept})"
 
     def __str__(self) -> str:
         return str(self.version)
