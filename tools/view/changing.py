@@ -38,9 +38,10 @@ def commands(draft: Draft) -> Dict[str, Command]:
     """The commands without a rectangle. Each passes its place to the draft."""
 
     def publish(client: clearmap.Client) -> str:
-        version = client.publish()
-        draft.published(version)
-        return f"Published as version {version}."
+        done = client.publish()
+        between = draft.published(done.version, done.place)
+        others = f" {counted(between, 'command')} of others came just before." if between else ""
+        return f"Published as version {done.version}.{others}"
 
     def revert(client: clearmap.Client) -> str:
         place = client.revert()

@@ -109,14 +109,17 @@ class Draft:
             self._take(place)
             self._begin()
 
-    def published(self, version: int) -> None:
-        """A publish was accepted: the draft is that version. Its place isn't told; it is the next
-        one at the earliest."""
+    def published(self, version: int, place: int) -> int:
+        """A publish was accepted: the draft is that version. How many commands of others are known
+        to have come since the last place of our own."""
         with self._lock:
-            self._check(self._version is not None and version <= self._version)
-            self._version, self._last, self._before = version, self._last + 1, 0
+            is_seen = self._version is not None and version <= self._version
+            self._check(is_seen or place <= max(self._last, self._before))
+            between = place - self._last - 1 if self._last else 0
+            self._version, self._last, self._before = version, place, 0
             self._sent, self._found = {version: self._drawn}, ""
             self._begin()
+        return between
 
     def unanswered(self, command: str) -> None:
         """A command had no reply in time: whether it was accepted isn't known."""

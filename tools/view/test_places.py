@@ -18,12 +18,15 @@ class Places(unittest.TestCase):
             ((drew(1), drew(2), ("passed", 3)), False),
             ((drew(1), drew(3)), True),
             ((drew(1), drew(3), ("reverted", 4)), False),
-            ((drew(7), ("published", 1)), False),
-            ((drew(7), ("published", 1), drew(9)), False),
-            ((drew(7), ("published", 1), drew(10)), True),
-            ((drew(7), ("published", 1), ("saw", 1)), False),
-            ((drew(7), ("published", 1), ("saw", 2)), True),
-            ((("published", 1), ("saw", 1), drew(3)), True),
+            ((drew(7), ("published", 1, 8)), False),
+            ((drew(7), ("published", 1, 8), drew(9)), False),
+            ((drew(7), ("published", 1, 8), drew(10)), True),
+            ((drew(7), ("published", 1, 10), drew(11)), False),
+            ((drew(7), ("published", 1, 10), drew(12)), True),
+            ((drew(7), ("published", 1, 8), ("saw", 1)), False),
+            ((drew(7), ("published", 1, 8), ("saw", 2)), True),
+            ((("published", 1, 1), ("saw", 1), drew(3)), True),
+            ((drew(7), ("published", 1, 5), drew(6)), False),  # another server's
             ((("reverted", 5), ("saw", 4), ("saw", 3)), True),  # another server
             ((("reverted", 5), drew(1)), False),  # another server, and nobody before
             ((("reverted", 5), drew(2)), True),
@@ -34,6 +37,19 @@ class Places(unittest.TestCase):
             for name, *words in events:
                 getattr(draft, name)(*words)
             self.assertEqual(draft.asks, asks, events)
+
+    def test_others_just_before_a_publish(self):
+        """They came after the last place that was looked at, and are in the version."""
+        for events, place, between in (
+            ((("passed", 7),), 8, 0),
+            ((("passed", 7),), 10, 2),
+            ((), 10, 0),  # nothing is known of the places before
+            ((("passed", 7), ("lost",)), 10, 0),
+        ):
+            draft = Draft()
+            for name, *words in events:
+                getattr(draft, name)(*words)
+            self.assertEqual(draft.published(1, place), between, events)
 
     def test_another_server(self):
         """Rectangles of an earlier server aren't told."""
@@ -56,7 +72,8 @@ class Places(unittest.TestCase):
             ((("lost",), ("passed", 5)), unknown, False),
             ((("lost",), ("passed", 4)), gone, True),  # its places count again
             ((("lost",), ("saw", 2)), gone, True),
-            ((("lost",), ("published", 3)), gone, True),
+            ((("lost",), ("published", 3, 5)), gone, True),
+            ((("lost",), ("published", 4, 4)), gone, True),  # its places count again
             ((("lost", True), ("saw", 3)), gone, True),  # of the same version, and another
             ((("lost", True), ("drew", "clear", (0, 0, 1, 1), 9), ("saw", 3)), gone, True),
             ((("passed", 2),), gone, True),
