@@ -2,6 +2,7 @@
 """Tests of bin/clearmap-backup against the built server, which CLEARMAP names, and against servers
 whose dump isn't whole, or none."""
 import contextlib
+import itertools
 import os
 import pathlib
 import resource
@@ -10,6 +11,7 @@ import subprocess
 import sys
 import tempfile
 import threading
+import time
 import unittest
 
 sys.path.append(str(pathlib.Path(__file__).resolve().parent.parent))  # served.py
@@ -30,15 +32,19 @@ class Backups(unittest.TestCase):
         streams = {"stdout": subprocess.PIPE, "stderr": subprocess.PIPE, **streams}
         return subprocess.run([SCRIPT, *words], env=self.environment, stdin=subprocess.DEVNULL, timeout=30, **streams)
 
-    def said_by(self, text, *words, stops=False):
+    def said_by(self, text, *words, stops=False, trickles=b""):
         """A backup from a server of one connection that says this at once, and ends when its client
-        does; one that stops doesn't say that this was all."""
+        does; one that stops doesn't say that this was all, and one that trickles says more and more
+        of it."""
         listener = socket.create_server(("127.0.0.1", 0))
 
         def serve():
             stream, _ = listener.accept()
-            with stream:
+            with stream, contextlib.suppress(ConnectionError):
                 stream.sendall(text)
+                while trickles:
+                    stream.sendall(trickles)
+                    time.sleep(0.05)
                 if not stops:
                     stream.shutdown(socket.SHUT_WR)
                 while stream.recv(4096):
@@ -77,18 +83,55 @@ class Backups(unittest.TestCase):
         self.assertEqual((run.returncode, run.stdout), (0, b"P1\n2 2\n01\n10"))
 
     def test_a_full_disk(self):
-        """No byte, a request's and a part of the answer's can be kept: nothing is written."""
-        for most in (0, 14, 20):
+        """No byte, or a part of the answer, or all but its last byte can be kept: nothing is
+        written. A file may grow no more, by a signal too."""
+        for most, ignores in itertools.product((0, 14, 20, 30, 49), (True, False)):
             with Served(POST) as server, tempfile.TemporaryFile() as written:
                 run = self.run_script(
-                    "--port", str(server.port), stdout=written, restore_signals=False,
+                    "--port", str(server.port), stdout=written, restore_signals=not ignores,
                     preexec_fn=lambda: resource.setrlimit(resource.RLIMIT_FSIZE, (most, most)),
                 )
                 self.assertEqual((run.returncode, written.tell()), (1, 0))
-            said = run.stderr.decode().splitlines()[-1]
-            self.assertTrue(said.startswith("clearmap-backup: "), said)
-            if most == 0:
-                self.assertIn("is the disk full?", said)
+            lines = run.stderr.decode().splitlines()
+            said = "clearmap-backup: the map can't be kept in the folder "
+            self.assertEqual((len(lines), lines[-1][: len(said)]), (1, said), (most, lines))
+            self.assertTrue(lines[-1].endswith(": is the disk full?"))
+
+    def test_a_folder_that_is_none(self):
+        with Served(POST) as server:
+            self.environment["TMPDIR"] = "/proc/none"
+            run = self.run_script("--port", str(server.port))
+        self.assertEqual((run.returncode, run.stdout), (1, b""))
+        last = run.stderr.splitlines()[-1]
+        self.assertEqual(last, b"clearmap-backup: no folder can be made in /proc/none")
+
+    def test_room(self):
+        """The folder has the map once, while it is written to whoever takes its time."""
+        with Served(b"P4\n2000 2000\n" + bytes(250 * 2000)) as server:
+            with tempfile.TemporaryDirectory() as folder:
+                self.environment["TMPDIR"] = folder
+                words = [SCRIPT, "--port", str(server.port)]
+                run = subprocess.Popen(words, env=self.environment, stdout=subprocess.PIPE)
+                with run:
+                    first = run.stdout.read(1)  # then all of it is kept
+                    kept = sum(it.stat().st_size for it in pathlib.Path(folder).glob("*/*"))
+                    size = len(first + run.stdout.read())
+                self.assertEqual((run.returncode, size), (0, 2000 * 2029 + 13))
+                self.assertLess(kept, size + 1000)
+                self.assertEqual(os.listdir(folder), [])
+
+    def test_an_output_that_is_full(self):
+        """The map is whole, and a part of it could be written."""
+        with Served(POST) as server, tempfile.NamedTemporaryFile() as written:
+            words = f"exec {SCRIPT} --port {server.port} >> {written.name}"
+            written.write(bytes(480))
+            written.flush()
+            limit = lambda: resource.setrlimit(resource.RLIMIT_FSIZE, (512, 512))
+            run = subprocess.run(
+                ["sh", "-c", words], env=self.environment, preexec_fn=limit, capture_output=True
+            )
+        said = b"clearmap-backup: the map couldn't be written\n"
+        self.assertEqual((run.returncode, run.stderr), (1, said))
 
     def test_what_is_given_twice(self):
         run = self.run_script("--port", "1", "--timeout", "2", "--port", "2")
@@ -108,6 +151,16 @@ class Backups(unittest.TestCase):
             (b"OK 0\nOK 35\n" + POST + b"ERR 5 Memory\n", b"isn't whole"),
             (b"OK 0\nOK 35 1\n" + POST + b"BYE\n", b"no map"),
             (b"HTTP/1.1 400 Bad Request\r\n\r\n", b"no map"),
+            (b"OK 0\nOK 8\nP4\n8 1\n\xffBYE\n", b"its head isn't that of a plain PBM image"),
+            (b"OK 0\nOK 12\nP1\n4 1 0000\nBYE\n", b"its head isn't that of a plain PBM image"),
+            (b"OK 0\nOK 12\nP1\n4097 1\n0\nBYE\n", b"its head isn't that of a plain PBM image"),
+            (b"OK 0\nOK 11\nP1\n04 1\n000BYE\n", b"its head isn't that of a plain PBM image"),
+            (b"OK 0\nOK 11\nP1\n4 1\n000\nBYE\n", b"it has 4x1 cells, and 3 pixels"),
+            (b"OK 0\nOK 13\nP1\n4 1\n00000\nBYE\n", b"it has 4x1 cells, and 5 pixels"),
+            (b"OK 0\nOK 13\nP1\n4 1\n0000x\nBYE\n", b"4 pixels with 1 other bytes"),
+            (b"OK 0\nOK 12\nP1\n2 1\n01\0\0\nBYE\n", b"2 pixels with 2 other bytes"),
+            (b"OK 0\nOK 99999999\nP1\n4 1\n0000\nBYE\n", b"FAULT net"),
+            (b"OK 0\nOK 012\nP1\n4 1\n0000\nBYE\n", b"no map"),
         )
         for text, why in rows:
             with self.subTest(text=text):
@@ -153,6 +206,20 @@ class Backups(unittest.TestCase):
         run = self.said_by(b"OK 0\nOK 35\nP1\n", "--timeout", "3", stops=True)
         wanted = (1, b"", b"clearmap-backup: no reply within 3 s\n")
         self.assertEqual((run.returncode, run.stdout, run.stderr), wanted)
+
+    def test_bytes_that_trickle(self):
+        """They come all the time, and the reply doesn't end."""
+        no_reply = b"clearmap-backup: no reply within 1 s\n"
+        for text, wanted in (
+            (b"", b"clearmap-backup: connected, but no worker has answered within 1 s"),
+            (b"OK 0\n", no_reply),
+            (b"OK 0\nOK 16838669\nP1\n4096 4096\n", no_reply),
+        ):
+            begun = time.monotonic()
+            run = self.said_by(text, "--timeout", "1", trickles=b"0" * 100)
+            self.assertEqual((run.returncode, run.stdout), (1, b""))
+            self.assertTrue(run.stderr.startswith(wanted), run.stderr)
+            self.assertLess(time.monotonic() - begun, 8)
 
 
 if __name__ == "__main__":
