@@ -8,6 +8,9 @@
 //     if (map.is_valid(3, 4, cells)) ..                          // as OMPL's isValid(state, dist)
 //     double tightest = map.clearance({{0, 0}, {30, 0}, {30, 9}});
 //
+//     client.paint(10, 10, 20, 12);  // a painter: columns 10 to 19 of rows 10 and 11
+//     client.publish(clearmap::OldVersions::collected);
+//
 // Columns x and rows y count from 0 at the upper left. A distance is in cells: euclid2 is the
 // square of the Euclidean one, city and chess count steps. The server listens only on the loopback
 // interface.
@@ -1103,8 +1106,10 @@ private:
 
 // ---- the client
 
-/// A connection to a server on this machine. It can be moved; calls of a client that was moved from
-/// throw ConnectionLost. At its end the connection goes to its pin, and ends with that.
+/// A connection to a server on this machine. The draft is everybody's: `publish` publishes what all
+/// painters have changed by then, and `revert` drops it. So paint an obstacle's new place before
+/// you clear its old one, or send one stamp of both. A client can be moved; calls of one that was
+/// moved from throw ConnectionLost. At its end the connection goes to its pin, and ends with that.
 class Client {
 public:
     Client(Client&&) noexcept = default;

@@ -323,15 +323,16 @@ static void aborts() {
 
 /// While the client connects anew and its map is checked.
 static void aborts_of_what_reconnects() {
-    for (int turn = 0; turn < 20; ++turn) {
+    for (int turn = 0; turn < 10; ++turn) {
         Painter one;
         one.server.cut();
         let_arrive();
-        one.server.pause = 300 * turn;
+        one.server.pause = 600 * turn;
         std::thread calling([&] { swallow([&] { one.client.pin(); }); });
-        std::this_thread::sleep_for(std::chrono::microseconds(100 * turn));
+        std::this_thread::sleep_for(std::chrono::microseconds(200 * turn));
         one.client.abort();
         calling.join();
+        let_arrive();  // at a server that accepts late
         const int connections = one.server.connections;
         CHECK(throws<ConnectionLost>([&] { one.client.pin(); }, "closed"));
         CHECK(one.server.connections == connections);

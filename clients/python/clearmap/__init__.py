@@ -9,7 +9,7 @@ all.
 
     with clearmap.Client(7400) as painter:
         painter.paint(10, 10, 20, 12)               # columns 10 to 19 of rows 10 and 11
-        painter.publish()
+        painter.publish(collect=True)               # and frees older versions that nobody pins
 
     with clearmap.Client(7400, size=(40, 20)) as planner, planner.pin() as pinned:
         near = pinned.at(3, 4)                      # None if the map has no obstacle

@@ -21,6 +21,10 @@ class Client(Session):
     bytes; None waits forever. `call_timeout` is for a whole call, from its turn to its last byte,
     with the connection that it makes; None sets no end.
 
+    **The draft is everybody's.** `publish` publishes what all painters have changed by then, and
+    `revert` drops it. So paint an obstacle's new place before you clear its old one, or send one
+    stamp of both: a painter that ends in between leaves it in two places, and not in none.
+
     **Threads.** Calls of several threads, also of pins, run one after another: each waits for the
     whole of the one before, and gets its own answer. A forked process is refused, and makes a
     client of its own; a client can't be copied or pickled.
