@@ -84,9 +84,13 @@ class Connection:
     def close(self) -> None:
         """Closes this process's descriptor. It sends nothing, and may be called again."""
         stream, self._stream = self._stream, None
-        if stream is not None:
-            with self._closing:
-                stream.close()
+        if stream is None:
+            return
+        if not self.is_of_this_process():  # where the lock may never come back
+            stream.close()
+            return
+        with self._closing:
+            stream.close()
 
     def abort(self) -> None:
         """Ends it from any thread: whoever waits for it raises."""
