@@ -54,8 +54,10 @@ class TimeOuts(unittest.TestCase):
 
     def test_a_client(self):
         with Fake(b"OK 0\n") as fake:
-            with clearmap.Client(fake.port, timeout=np.float16(5)) as client:
+            seconds = {"timeout": np.float16(5), "call_timeout": np.float16(9)}
+            with clearmap.Client(fake.port, **seconds) as client:
                 self.assertIs(type(client._connection._timeout), float)
+                self.assertIs(type(client._connection._call_timeout), float)
                 self.assertEqual(client.pin().version, 0)
 
     def test_a_follower(self):

@@ -54,7 +54,7 @@ class Connection:
     def __init__(self, address: Tuple[str, int], limits: Limits) -> None:
         self.busy = False
         self._buffer = bytearray()
-        self._limits = limits
+        self._timeout, self._call_timeout = limits
         self._until: Optional[float] = None  # the end of the call's time
         self._heard = False  # whether a reply has come
         self._is_aborted = False
@@ -101,8 +101,8 @@ class Connection:
 
     def begun(self) -> "Connection":
         """This connection, as the time of a call begins."""
-        if self._limits.call is not None:
-            self._until = time.monotonic() + self._limits.call
+        if self._call_timeout is not None:
+            self._until = time.monotonic() + self._call_timeout
         return self
 
     def has_ended(self) -> bool:
@@ -182,11 +182,11 @@ class Connection:
     def _wait(self) -> Optional[float]:
         """How long to wait for the next bytes."""
         if self._until is None:
-            return self._limits.wait
+            return self._timeout
         left = self._until - time.monotonic()
         if left <= 0:
             raise socket.timeout
-        return left if self._limits.wait is None else min(left, self._limits.wait)
+        return left if self._timeout is None else min(left, self._timeout)
 
     def _send(self, data: bytes) -> None:
         try:
@@ -228,10 +228,9 @@ class Connection:
 
     def _late(self, what: str) -> str:
         """What didn't come in time; the system has a limit of its own if none is set here."""
-        wait, call = self._limits
         if self._until is not None and time.monotonic() >= self._until:
-            return f"{what} within the call's {call:g} s"
-        return what if wait is None else f"{what} within {wait:g} s"
+            return f"{what} within the call's {self._call_timeout:g} s"
+        return what if self._timeout is None else f"{what} within {self._timeout:g} s"
 
     def _receive(self, request: Request[T]) -> Union[T, Refused]:
         """The next reply line, as its request reads it."""
