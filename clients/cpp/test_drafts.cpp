@@ -285,13 +285,16 @@ static void cures() {
 template <class Call, class Meanwhile>
 std::string thrown(Call call, Meanwhile meanwhile) {
     std::string said;
+    std::atomic<bool> begun{false};
     std::thread calling([&] {
+        begun = true;
         try {
             call();
         } catch (const ConnectionLost& lost) {
             said = lost.what();
         }
     });
+    await([&] { return begun.load(); });
     let_arrive();
     meanwhile();
     calling.join();
@@ -310,8 +313,8 @@ static void aborts() {
     client.close();
     Listener full;  // nobody takes its bytes
     Client sending(full.port, endless);
-    CHECK(thrown([&] { sending.stamp({0, 0}, std::string(17000000, ' ')); },
-                 [&] { sending.abort(); }) == aborted);
+    const std::string image(17000000, ' ');
+    CHECK(thrown([&] { sending.stamp({0, 0}, image); }, [&] { sending.abort(); }) == aborted);
     Painter one;  // between two calls, and no call reconnects
     one.client.abort();
     CHECK(throws<ConnectionLost>([&] { one.client.publish(); }, "the connection is closed"));
@@ -342,7 +345,7 @@ static void aborts_of_what_reconnects() {
 static void call_timeouts() {
     using std::chrono::milliseconds;
     Options brief = anew;
-    brief.expected.reset(), brief.reconnect = false, brief.call_timeout = milliseconds(500);
+    brief.expected.reset(), brief.reconnect = false, brief.call_timeout = milliseconds(1500);
     for (milliseconds wait : {milliseconds(0), milliseconds(10000)}) {
         brief.timeout = wait;
         Telling slow;
@@ -351,15 +354,15 @@ static void call_timeouts() {
         Pinned pinned = client.pin();
         const auto begun = std::chrono::steady_clock::now();
         CHECK(throws<TimedOut>([&] { pinned.clearances(std::vector<Cell>(100)); },
-                               "no reply within the call's 500 ms"));
-        CHECK(std::chrono::steady_clock::now() - begun < std::chrono::seconds(3));
+                               "no reply within the call's 1500 ms"));
+        CHECK(std::chrono::steady_clock::now() - begun < std::chrono::seconds(6));
         CHECK(throws<ConnectionLost>([&] { client.pin(); }, "the connection is closed"));
     }
     Telling good;
     Client client(good.port, brief);
     for (int turn = 0; turn < 2; ++turn) {  // each call has its own time
         CHECK(client.pin().at({1, 1})->distance == 4097);
-        std::this_thread::sleep_for(milliseconds(400));
+        std::this_thread::sleep_for(milliseconds(1000));
     }
     brief.call_timeout = milliseconds(-1);
     CHECK(throws<std::invalid_argument>([&] { Client(good.port, brief); }));

@@ -42,14 +42,13 @@ class Trickling:
         self.thread.join()
 
 
-class Waiting:
+class Calling:
     """A call of another thread, and what it raised."""
 
     def __init__(self, call):
         self.raised = None
         self.thread = threading.Thread(target=self.run, args=(call,))
         self.thread.start()
-        time.sleep(0.2)
 
     def run(self, call):
         try:
@@ -66,10 +65,13 @@ class Waiting:
 class Aborts(unittest.TestCase):
     def is_aborted(self, client, call):
         """Another thread's call ends at once, and no later call is sent."""
-        waiting = Waiting(call)
-        self.assertTrue(waiting.thread.is_alive())
+        calling, until = Calling(call), time.monotonic() + 10
+        while not client._connection.busy and time.monotonic() < until:
+            time.sleep(0.01)
+        time.sleep(0.1)
+        self.assertTrue(calling.thread.is_alive())
         client.abort()
-        self.assertEqual(str(waiting.ended()), "the connection was aborted")
+        self.assertEqual(str(calling.ended()), "the connection was aborted")
         for later in (client.publish, client.pin):
             self.assertRaises(clearmap.ConnectionLost, later)
         client.abort()
@@ -95,6 +97,7 @@ class Aborts(unittest.TestCase):
         with Fake(*SIZED, b"OK", then=CHECKED[:2]) as fake:
             client = clearmap.Client(fake.port, timeout=None, reconnect=True)
             self.assertRaises(clearmap.ConnectionLost, client.publish)
+            client._connection.busy = False  # of the call that was lost
             self.is_aborted(client, client.publish)
 
     def test_no_call_that_waits(self):
@@ -136,19 +139,18 @@ class Aborts(unittest.TestCase):
         with Served(POST) as server:
             for turn in range(60):
                 client = clearmap.Client(server.port, reconnect=True)
-                waiting = Waiting.__new__(Waiting)
-                waiting.raised = None
+                found = set()
 
                 def asks():
                     while True:
                         with client.pin() as pinned:
-                            assert pinned.at(0, 0).distance == 5
+                            found.add(pinned.at(0, 0).distance)
 
-                waiting.thread = threading.Thread(target=waiting.run, args=(asks,))
-                waiting.thread.start()
+                calling = Calling(asks)
                 time.sleep(turn * 1e-4)
                 client.abort()
-                self.assertIsInstance(waiting.ended(), clearmap.ConnectionLost)
+                self.assertIsInstance(calling.ended(), clearmap.ConnectionLost)
+                self.assertLessEqual(found, {5})
 
 
 class CallTimeouts(unittest.TestCase):
@@ -189,11 +191,11 @@ class CallTimeouts(unittest.TestCase):
 
     def test_each_call_anew(self):
         with Served(POST) as server:
-            with clearmap.Client(server.port, timeout=60, call_timeout=1) as client:
+            with clearmap.Client(server.port, timeout=60, call_timeout=3) as client:
                 for _ in range(2):
                     with client.pin() as pinned:
                         self.assertEqual(pinned.at(0, 0).distance, 5)
-                        time.sleep(0.7)
+                        time.sleep(1.6)
 
     def test_no_time(self):
         for seconds in (0, -1, float("nan")):
