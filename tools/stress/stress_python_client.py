@@ -319,7 +319,7 @@ KINDS = {
     "ask": lambda client, pin: pin.ask(clearmap.Queries().at(0, 0).at(1, 1)),
     "dump": lambda client, pin: pin.dump(),
     "renew": lambda client, pin: pin.renew(),
-    "paint": lambda client, pin: client.paint(0, 0, 1, 1),
+    "paint": lambda client, pin: client.paint(22, 16, 23, 17),
     "publish": lambda client, pin: client.publish(collect=True),
     "abort": lambda client, pin: client.abort(),
     "unpin": lambda client, pin: pin.unpin(),
@@ -360,6 +360,7 @@ def each_step(stride, seed=1):
                         is_lost = isinstance(lost, clearmap.ConnectionLost)
                         found = wanted if is_left or is_lost else lost
                     wrong += [found] if found != wanted else []
+                painter.client.collect()
     return cuts, wrong
 
 
