@@ -439,7 +439,7 @@ public:
     /// Marks that the draft was published, or reverted.
     void published() { draft_ = Draft::published; }
 
-    /// The same for calls of a pin, which no new connection has.
+    /// As `ready`, for calls of a pin, which no new connection has.
     void ready_for(std::uint64_t pin) {
         begin();
         if (!is_open() || pin < first_pin_)
@@ -782,7 +782,7 @@ private:
     pid_t owner_;
     std::mutex socket_guard_;  // of its writes, and of the reads of `abort`
     int socket_ = -1;
-    Clock::time_point until_{};  // the end of the call's time
+    Clock::time_point until_{};    // the end of the call's time
     std::string buffer_;           // received and not yet taken
     std::size_t owed_ = 0;         // replies still to come
     bool busy_ = false;            // a call has begun
