@@ -234,7 +234,8 @@ class Refusals(unittest.TestCase):
                     client.pin().unpin()  # no pin was left
         with Fake(b"ERR 1 OutOfRange\n", b"ERR 5 Memory\n", *[b"ERR 6 NotPinned\n"] * 126, closes=False) as fake:
             with clearmap.Client(fake.port, timeout=5) as client:
-                self.assertRaisesRegex(clearmap.OutOfRange, "'\\)$", client.paint, 0, 0, 7, 1)
+                unknown = "Client.size has the map's columns and rows$"
+                self.assertRaisesRegex(clearmap.OutOfRange, unknown, client.paint, 0, 0, 7, 1)
 
     def test_cures(self):
         """What a refusal says that its own words don't."""

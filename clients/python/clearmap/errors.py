@@ -78,6 +78,8 @@ class Refused(ClearmapError):
 class OutOfRange(Refused):
     """A cell, a rectangle or a stamp isn't wholly on the map."""
 
+    cure = "Client.size has the map's columns and rows"
+
 
 def extent(size: Size) -> str:
     """Which cells a map of this size has."""
