@@ -1,8 +1,8 @@
 /*
  * libclearmap: exact distances to the nearest obstacle of a map, over the caller's own memory.
  *
- * What each call does is proved (docs/use/LIBRARY.md, docs/trust/PROOFS.md); this header and the
- * three functions over malloc in clearmap.c are not.
+ * What each call does is proved (docs/use/LIBRARY.md, docs/trust/PROOFS.md); this header, its
+ * clearmap_clear_distance and the three functions over malloc in clearmap.c are not.
  *
  * A map has 1 to 4096 columns and 1 to 4096 rows. Cell (x, y) lies in column x, counted from the
  * left, and row y, counted from the top, both from 0.
@@ -12,7 +12,7 @@
  *     uint32_t status = clearmap_bytes_at(cells, sizeof cells, &map, CLEARMAP_EUCLID2,
  *                                         CLEARMAP_OPEN, x, y, &near);
  *     if (status == CLEARMAP_DONE && near.dist != CLEARMAP_NO_OBSTACLE)
- *         metres = sqrt(near.dist) * metres_per_cell;
+ *         metres = sqrt(near.dist) * metres_per_cell; // from middle to middle
  *
  * Status. Each call returns CLEARMAP_DONE (0), or what is wrong with it. A call with another status
  * has written nothing. Of several faults, the status is the first in the order in which statuses
@@ -42,6 +42,7 @@
 
 #include <stddef.h>
 #include <stdint.h>
+#include <string.h>
 
 #ifdef __cplusplus
 extern "C" {
@@ -94,21 +95,28 @@ const char *clearmap_status_text(uint32_t status);
 /* ---- Metrics, edges, answers ----------------------------------------------------------------- */
 
 /*
- * The unit of all distances. For a round robot of radius r, in cells, ask clear_of by euclid2 for
- * d = ceil((r + sqrt(2))^2): if the path is clear, no part of the robot enters an obstacle's cell,
- * wherever in the path's cells its middle is. The smaller d = ceil(r^2) counts from cell middle to
- * cell middle, as costmaps inflate: the robot may come nearer than r, by up to sqrt(2) cells.
+ * The unit of all distances, from the middle of a cell to the middle of an obstacle's. From any
+ * point of the one to any point of the other it may be less, by up to sqrt(2) cells.
  */
-enum {
+enum clearmap_metrics {
     CLEARMAP_EUCLID2 = 0, /* dx * dx + dy * dy: the square of the Euclidean distance */
     CLEARMAP_CITY = 1,    /* dx + dy: steps to the four neighbours */
     CLEARMAP_CHESS = 2    /* max(dx, dy): steps to the eight neighbours */
 };
 
-enum {
+enum clearmap_edges {
     CLEARMAP_OPEN = 0, /* nothing lies around the map */
     CLEARMAP_WALL = 1  /* each cell of the frame around the map is an obstacle too */
 };
+
+/* Numbers of 32 bits. C's compilers warn (-Wenum-conversion) where one stands for the other. */
+#ifdef __cplusplus
+typedef uint32_t clearmap_metric;
+typedef uint32_t clearmap_edge;
+#else
+typedef enum clearmap_metrics clearmap_metric;
+typedef enum clearmap_edges clearmap_edge;
+#endif
 
 /* The distance that means no obstacle at all. No obstacle is that far away. */
 #define CLEARMAP_NO_OBSTACLE UINT32_MAX
@@ -195,6 +203,8 @@ uint32_t clearmap_pack(const uint8_t *bytes, size_t bytes_length, const clearmap
  * and sets map->tiles and map->blank_bands. The map's cells stay as they are, and so do all other
  * words. `tiles` is (height - 1) * stride + (width + 63) / 64 or more, and words_length is at least
  * tiles + (height + 63) / 64.
+ * IT BELIEVES THE MARKS THAT THE MAP HAS: what they say is blank stays so. To mark a map anew after
+ * you set bits, set tiles and blank_bands to 0 first.
  * Status: SIZE, STRIDE, LENGTH, TILES.
  */
 CLEARMAP_CHECKED
@@ -219,26 +229,25 @@ uint32_t clearmap_unpack(const uint64_t *words, size_t words_length, const clear
  */
 CLEARMAP_CHECKED
 uint32_t clearmap_bytes_distances(const uint8_t *bytes, size_t bytes_length,
-                                  const clearmap_bytes *map, uint32_t metric, uint32_t edge,
-                                  uint32_t y0, uint32_t y1, uint32_t *distances,
+                                  const clearmap_bytes *map, clearmap_metric metric,
+                                  clearmap_edge edge, uint32_t y0, uint32_t y1, uint32_t *distances,
                                   size_t distances_length);
 CLEARMAP_CHECKED
 uint32_t clearmap_bits_distances(const uint64_t *words, size_t words_length,
-                                 const clearmap_bits *map, uint32_t metric, uint32_t edge,
-                                 uint32_t y0, uint32_t y1, uint32_t *distances,
+                                 const clearmap_bits *map, clearmap_metric metric,
+                                 clearmap_edge edge, uint32_t y0, uint32_t y1, uint32_t *distances,
                                  size_t distances_length);
 
 /* The same, with the nearest obstacle of each cell. */
 CLEARMAP_CHECKED
 uint32_t clearmap_bytes_nearest(const uint8_t *bytes, size_t bytes_length,
-                                const clearmap_bytes *map, uint32_t metric, uint32_t edge,
-                                uint32_t y0, uint32_t y1, clearmap_near *nears,
+                                const clearmap_bytes *map, clearmap_metric metric,
+                                clearmap_edge edge, uint32_t y0, uint32_t y1, clearmap_near *nears,
                                 size_t nears_length);
 CLEARMAP_CHECKED
-uint32_t clearmap_bits_nearest(const uint64_t *words, size_t words_length,
-                               const clearmap_bits *map, uint32_t metric, uint32_t edge,
-                               uint32_t y0, uint32_t y1, clearmap_near *nears,
-                               size_t nears_length);
+uint32_t clearmap_bits_nearest(const uint64_t *words, size_t words_length, const clearmap_bits *map,
+                               clearmap_metric metric, clearmap_edge edge, uint32_t y0, uint32_t y1,
+                               clearmap_near *nears, size_t nears_length);
 
 /* ---- Queries --------------------------------------------------------------------------------- */
 /* They search outwards from the cells of the query, in place. They are faster over bits. */
@@ -249,11 +258,11 @@ uint32_t clearmap_bits_nearest(const uint64_t *words, size_t words_length,
  */
 CLEARMAP_CHECKED
 uint32_t clearmap_bytes_at(const uint8_t *bytes, size_t bytes_length, const clearmap_bytes *map,
-                           uint32_t metric, uint32_t edge, uint32_t x, uint32_t y,
+                           clearmap_metric metric, clearmap_edge edge, uint32_t x, uint32_t y,
                            clearmap_near *near);
 CLEARMAP_CHECKED
 uint32_t clearmap_bits_at(const uint64_t *words, size_t words_length, const clearmap_bits *map,
-                          uint32_t metric, uint32_t edge, uint32_t x, uint32_t y,
+                          clearmap_metric metric, clearmap_edge edge, uint32_t x, uint32_t y,
                           clearmap_near *near);
 
 /*
@@ -263,12 +272,12 @@ uint32_t clearmap_bits_at(const uint64_t *words, size_t words_length, const clea
  */
 CLEARMAP_CHECKED
 uint32_t clearmap_bytes_rect(const uint8_t *bytes, size_t bytes_length, const clearmap_bytes *map,
-                             uint32_t metric, uint32_t edge, uint32_t x0, uint32_t y0, uint32_t x1,
-                             uint32_t y1, clearmap_found *found);
+                             clearmap_metric metric, clearmap_edge edge, uint32_t x0, uint32_t y0,
+                             uint32_t x1, uint32_t y1, clearmap_found *found);
 CLEARMAP_CHECKED
 uint32_t clearmap_bits_rect(const uint64_t *words, size_t words_length, const clearmap_bits *map,
-                            uint32_t metric, uint32_t edge, uint32_t x0, uint32_t y0, uint32_t x1,
-                            uint32_t y1, clearmap_found *found);
+                            clearmap_metric metric, clearmap_edge edge, uint32_t x0, uint32_t y0,
+                            uint32_t x1, uint32_t y1, clearmap_found *found);
 
 /*
  * Writes the first cell with the least distance along a path, and its nearest obstacle; none if the
@@ -278,16 +287,17 @@ uint32_t clearmap_bits_rect(const uint64_t *words, size_t words_length, const cl
  */
 CLEARMAP_CHECKED
 uint32_t clearmap_bytes_path(const uint8_t *bytes, size_t bytes_length, const clearmap_bytes *map,
-                             uint32_t metric, uint32_t edge, const clearmap_cell *points,
-                             size_t points_length, clearmap_found *found);
+                             clearmap_metric metric, clearmap_edge edge,
+                             const clearmap_cell *points, size_t points_length,
+                             clearmap_found *found);
 CLEARMAP_CHECKED
 uint32_t clearmap_bits_path(const uint64_t *words, size_t words_length, const clearmap_bits *map,
-                            uint32_t metric, uint32_t edge, const clearmap_cell *points,
+                            clearmap_metric metric, clearmap_edge edge, const clearmap_cell *points,
                             size_t points_length, clearmap_found *found);
 
 /*
  * Writes the first cell along a path whose distance is below d, in the unit of the metric, and its
- * nearest obstacle; none if the path is clear.
+ * nearest obstacle; none if the path is clear. 0 is clear everywhere, through obstacles too.
  *
  *     status = clearmap_bits_clear_of(words, length, &map, CLEARMAP_EUCLID2, CLEARMAP_OPEN, points,
  *                                     count, d, &found);
@@ -297,14 +307,40 @@ uint32_t clearmap_bits_path(const uint64_t *words, size_t words_length, const cl
  */
 CLEARMAP_CHECKED
 uint32_t clearmap_bytes_clear_of(const uint8_t *bytes, size_t bytes_length,
-                                 const clearmap_bytes *map, uint32_t metric, uint32_t edge,
-                                 const clearmap_cell *points, size_t points_length, uint32_t d,
-                                 clearmap_found *found);
+                                 const clearmap_bytes *map, clearmap_metric metric,
+                                 clearmap_edge edge, const clearmap_cell *points,
+                                 size_t points_length, uint32_t d, clearmap_found *found);
 CLEARMAP_CHECKED
 uint32_t clearmap_bits_clear_of(const uint64_t *words, size_t words_length,
-                                const clearmap_bits *map, uint32_t metric, uint32_t edge,
-                                const clearmap_cell *points, size_t points_length, uint32_t d,
-                                clearmap_found *found);
+                                const clearmap_bits *map, clearmap_metric metric,
+                                clearmap_edge edge, const clearmap_cell *points,
+                                size_t points_length, uint32_t d, clearmap_found *found);
+
+/*
+ * The d of clear_of by euclid2 for a round robot of this radius, both in metres (or both in another
+ * unit): ceil((r + sqrt(2))^2), where r is the radius in cells. If the path is clear, no part of
+ * the robot enters an obstacle's cell, wherever in the path's cells its middle is. The smaller
+ * ceil(r^2) counts from middle to middle, as costmaps inflate: the robot may come nearer than r, by
+ * up to sqrt(2) cells.
+ *
+ * It is 2 or more. UINT32_MAX, which no path is clear of but on a map without obstacles, for a
+ * radius below 0 or of 65000 cells or more, a resolution that isn't above 0, and for either if it
+ * is NaN or infinite, also under -ffast-math: by the bits of a double, whose order from 0 on is
+ * that of the numbers.
+ */
+static inline uint32_t clearmap_clear_distance(double radius, double resolution) {
+    const uint64_t sign = 1ull << 63, least = 1ull << 52, infinite = 0x7ffull << 52;
+    uint64_t radius_bits, resolution_bits;
+    memcpy(&radius_bits, &radius, sizeof radius_bits);
+    memcpy(&resolution_bits, &resolution, sizeof resolution_bits);
+    if (radius_bits >= infinite && radius_bits != sign) return UINT32_MAX;
+    if (resolution_bits < least || resolution_bits >= infinite) return UINT32_MAX;
+    const double cells = radius / resolution;
+    if (!(cells < 65000)) return UINT32_MAX;
+    const double square = 2 + (cells + 2.8284271247461903) * cells * (1 + 1e-12); /* rounded up */
+    const uint32_t d = (uint32_t)square;
+    return d < square ? d + 1 : d;
+}
 
 #ifdef __cplusplus
 }

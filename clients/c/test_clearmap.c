@@ -356,6 +356,57 @@ static void try_tiles(const struct map *m) {
     free(again);
 }
 
+/* What is set in a marked tile stays hidden, however often the map is marked, unless its marks and
+ * its bands are left out. */
+static void try_marks_anew(void) {
+    static const struct {
+        bool leaves_tiles, leaves_bands;
+        uint32_t dist;
+    } rows[] = {
+        {false, false, CLEARMAP_NO_OBSTACLE},
+        {true, false, CLEARMAP_NO_OBSTACLE},
+        {false, true, CLEARMAP_NO_OBSTACLE},
+        {true, true, 25},
+    };
+    for (size_t k = 0; k < sizeof rows / sizeof *rows; k++) {
+        uint64_t map[132] = {0};
+        clearmap_bits bits = {.width = 65, .height = 65, .stride = 2};
+        clearmap_near near;
+        CHECK(!clearmap_mark(map, 132, &bits, 130) && bits.tiles == 130);
+        map[2 * 3] |= 1u << 4;
+        if (rows[k].leaves_tiles) bits.tiles = 0;
+        if (rows[k].leaves_bands) bits.blank_bands = 0;
+        CHECK(!clearmap_mark(map, 132, &bits, 130) && bits.tiles == 130);
+        CHECK(!clearmap_bits_at(map, 132, &bits, CLEARMAP_EUCLID2, CLEARMAP_OPEN, 8, 0, &near));
+        CHECK(near.dist == rows[k].dist);
+    }
+}
+
+/* The d of a radius: never too small, 2 or more, and what no path is clear of where there is no
+ * radius, as by a double whose bits are those of no number. */
+static void try_radii(void) {
+    const double none = strtod("nan", NULL), infinite = strtod("inf", NULL);
+    const struct {
+        double radius, resolution;
+        uint32_t d;
+    } rows[] = {
+        {0, 0.05, 2}, {-0.0, 0.05, 2}, {0.1, 0.05, 12}, {0.22, 0.05, 34}, {2, 1, 12},
+        {1e-300, 1, 2}, {1e-9, 1, 3}, {0.41421356, 1, 4}, {0.41421357, 1, 4}, {0.8, 1, 5},
+        {4095, 1, 16780610}, {64999, 1, 4225053848u}, {65000, 1, UINT32_MAX},
+        {1e308, 1e-300, UINT32_MAX}, {none, 0.05, UINT32_MAX}, {-none, 0.05, UINT32_MAX},
+        {infinite, 0.05, UINT32_MAX}, {-infinite, 0.05, UINT32_MAX}, {-0.001, 0.05, UINT32_MAX},
+        {-1e-320, 1, UINT32_MAX}, {0.2, 0, UINT32_MAX}, {0.2, -0.0, UINT32_MAX},
+        {0.2, -0.05, UINT32_MAX}, {0.2, none, UINT32_MAX}, {0, infinite, UINT32_MAX},
+        {0, 0, UINT32_MAX}, {infinite, infinite, UINT32_MAX}, {none, none, UINT32_MAX},
+        {0, 1e-320, UINT32_MAX},
+    };
+    for (size_t k = 0; k < sizeof rows / sizeof *rows; k++) {
+        uint32_t d = clearmap_clear_distance(rows[k].radius, rows[k].resolution);
+        if (d != rows[k].d) printf("row %zu: %u, not %u\n", k, (unsigned)d, (unsigned)rows[k].d);
+        CHECK(d == rows[k].d);
+    }
+}
+
 static void try_maps(int maps) {
     static const uint32_t shares[] = {0, 2, 50, 600, 1000};
     for (int t = 0; t < maps; t++) {
@@ -727,6 +778,8 @@ int main(int argc, char **argv) {
     try_tile_statuses();
     try_pack_statuses();
     try_alignments();
+    try_marks_anew();
+    try_radii();
     long refused = try_memory();
     try_threads();
     try_maps(maps);

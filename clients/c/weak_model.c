@@ -413,38 +413,40 @@ uint32_t clearmap_unpack(const uint64_t *words, size_t words_length, const clear
 /* The calls over one kind of map: ITEMS and LENGTH as the header names them. */
 #define CALLS(kind, item)                                                                         \
     uint32_t clearmap_##kind##_distances(const item *items, size_t length,                        \
-                                         const clearmap_##kind *map, uint32_t metric,             \
-                                         uint32_t edge, uint32_t y0, uint32_t y1,                 \
+                                         const clearmap_##kind *map, clearmap_metric metric,      \
+                                         clearmap_edge edge, uint32_t y0, uint32_t y1,            \
                                          uint32_t *distances, size_t room) {                      \
         return table(over_##kind(items, length, map, metric, edge), y0, y1, NULL, distances,      \
                      room);                                                                       \
     }                                                                                             \
     uint32_t clearmap_##kind##_nearest(const item *items, size_t length,                          \
-                                       const clearmap_##kind *map, uint32_t metric,               \
-                                       uint32_t edge, uint32_t y0, uint32_t y1,                   \
+                                       const clearmap_##kind *map, clearmap_metric metric,        \
+                                       clearmap_edge edge, uint32_t y0, uint32_t y1,              \
                                        clearmap_near *nears, size_t room) {                       \
         given(nears, room, sizeof *nears, _Alignof(clearmap_near));                               \
         return table(over_##kind(items, length, map, metric, edge), y0, y1, nears, NULL, room);   \
     }                                                                                             \
     uint32_t clearmap_##kind##_at(const item *items, size_t length, const clearmap_##kind *map,   \
-                                  uint32_t metric, uint32_t edge, uint32_t x, uint32_t y,         \
-                                  clearmap_near *near) {                                          \
+                                  clearmap_metric metric, clearmap_edge edge, uint32_t x,         \
+                                  uint32_t y, clearmap_near *near) {                              \
         return at(over_##kind(items, length, map, metric, edge), x, y, near);                     \
     }                                                                                             \
     uint32_t clearmap_##kind##_rect(const item *items, size_t length, const clearmap_##kind *map, \
-                                    uint32_t metric, uint32_t edge, uint32_t x0, uint32_t y0,     \
-                                    uint32_t x1, uint32_t y1, clearmap_found *found) {            \
+                                    clearmap_metric metric, clearmap_edge edge, uint32_t x0,      \
+                                    uint32_t y0, uint32_t x1, uint32_t y1,                        \
+                                    clearmap_found *found) {                                      \
         return rect(over_##kind(items, length, map, metric, edge), x0, y0, x1, y1, found);        \
     }                                                                                             \
     uint32_t clearmap_##kind##_path(const item *items, size_t length, const clearmap_##kind *map, \
-                                    uint32_t metric, uint32_t edge, const clearmap_cell *points,  \
-                                    size_t points_length, clearmap_found *found) {                \
+                                    clearmap_metric metric, clearmap_edge edge,                   \
+                                    const clearmap_cell *points, size_t points_length,            \
+                                    clearmap_found *found) {                                      \
         return path(over_##kind(items, length, map, metric, edge), points, points_length,         \
                     CLEARMAP_NO_OBSTACLE, false, found);                                          \
     }                                                                                             \
     uint32_t clearmap_##kind##_clear_of(const item *items, size_t length,                         \
-                                        const clearmap_##kind *map, uint32_t metric,              \
-                                        uint32_t edge, const clearmap_cell *points,               \
+                                        const clearmap_##kind *map, clearmap_metric metric,       \
+                                        clearmap_edge edge, const clearmap_cell *points,          \
                                         size_t points_length, uint32_t d,                         \
                                         clearmap_found *found) {                                  \
         return path(over_##kind(items, length, map, metric, edge), points, points_length, d,      \

@@ -53,8 +53,8 @@ heap gcc "$scratch/heap.o"
 
 # The shared library shows the calls of the header, has its own name, and needs the C library alone.
 nm -D --defined-only "$library/libclearmap.so.1" | sed 's/.* //' | sort > "$scratch/shown"
-grep -oE '\*?clearmap_[a-z_]+\(' clients/c/clearmap.h | grep -oE 'clearmap_[a-z_]+' | sort -u \
-    > "$scratch/told"
+sed '/^static inline/d' clients/c/clearmap.h | grep -oE '\*?clearmap_[a-z_]+\(' \
+    | grep -oE 'clearmap_[a-z_]+' | sort -u > "$scratch/told"
 try 'shown names' diff "$scratch/told" "$scratch/shown"
 readelf -d "$library/libclearmap.so.1" > "$scratch/dynamic"
 grep -q 'SONAME.*\[libclearmap.so.1\]' "$scratch/dynamic" \
@@ -71,6 +71,14 @@ if gcc $flags -O2 $test "$scratch/heap.o" "$library/libclearmap.a" -Wl,--wrap=ma
 else
     failed=1
 fi
+
+# Where compilers take it that no number is NaN.
+for compiler in gcc clang; do
+    wants "$compiler" "-ffast-math by $compiler" || continue
+    "$compiler" $flags -O3 -ffast-math $test "$scratch/heap.o" "$library/libclearmap.a" \
+        -Wl,--wrap=malloc -lpthread -o "$scratch/fast" || failed=1
+    try "test by $compiler -ffast-math" "$scratch/fast" 1
+done
 
 # The C side's threads; the library's own code isn't compiled for the sanitizer.
 if gcc $flags -O1 -fsanitize=thread $test "$scratch/heap.o" "$library/libclearmap.a" \

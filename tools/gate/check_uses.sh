@@ -1,7 +1,7 @@
 #!/bin/sh
 # Tries which uses of the library's headers compile, and which are refused with a message: bytes of
-# another size, cells and distances that aren't integers, and statuses and answers that nobody looks
-# at. All by each compiler that is installed, with warnings as errors.
+# another size, cells and distances that aren't integers, a metric in place of an edge, and statuses
+# and answers that nobody looks at. All by each compiler that is installed, with warnings as errors.
 set -u
 cd "$(dirname "$0")/../.." || exit 1
 scratch=$(mktemp -d)
@@ -56,6 +56,16 @@ check() { # check: all uses, by the compilers $cc and $cxx
     taken c "return $at"
     taken c "if ($at != CLEARMAP_DONE) return 1"
     refused c 'unused-result' "$at"
+    taken c 'const uint32_t metric = 1, edge = 1;
+        return clearmap_bits_at(words, 1, map, metric, edge, 0, 0, near)'
+    taken c 'return clearmap_bits_at(words, 1, map, 2, 1, 0, 0, near)'
+    taken c 'uint32_t (*call)(const uint64_t *, size_t, const clearmap_bits *, uint32_t, uint32_t,
+        uint32_t, uint32_t, clearmap_near *) = clearmap_bits_at; return call != NULL'
+    for swapped in 'CLEARMAP_OPEN, CLEARMAP_WALL' 'CLEARMAP_OPEN, CLEARMAP_CITY' \
+        '1, CLEARMAP_CITY'; do
+        refused c 'enum-conversion' "return clearmap_bits_at(words, 1, map, $swapped, 0, 0, near)"
+    done
+    taken c 'return clearmap_clear_distance(0.2, 0.05)'
 
     taken cpp 'Map::of_bytes(bytes, 12, 4, {4, 3}, {1, 1})'
     taken cpp 'Map::of_bytes(std::vector<signed char>(12), {4, 3}, {1, 1})'

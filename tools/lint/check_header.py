@@ -59,11 +59,13 @@ def exported(text):
 
 
 def declared(header):
-    """The calls that the header declares, but for those of clearmap.c."""
+    """The calls that the header declares, but for those of clearmap.c. A metric and an edge have
+    names in C for numbers of 32 bits."""
     pattern = r"^(\w+) (clearmap_\w+)\(([^)]*)\);"
+    numbers = re.sub(r"\bclearmap_(metric|edge) \1\b", r"uint32_t \1", header)
     return {
         name: ([" ".join(given.split()) for given in arguments.split(",")], result)
-        for result, name, arguments in re.findall(pattern, header, re.M)
+        for result, name, arguments in re.findall(pattern, numbers, re.M)
     }
 
 

@@ -15,7 +15,9 @@ use crate::marks::{blank_bands, blank_tiles, write_marks};
 use crate::status::DONE;
 
 /// Marks a map's blank tiles by one word per band, from index `tiles` of its words on, and writes
-/// to `map` where they are and which bands are blank. Its cells stay as they are.
+/// to `map` where they are and which bands are blank. Its cells stay as they are: it believes the
+/// marks and the bands that `map` has, so that what was set in a marked tile since stays blank. To
+/// mark a map anew, set both to 0 first.
 #[unsafe(no_mangle)]
 pub extern "C" fn clearmap_mark(words: &mut [u64], map: &mut ClearmapBits, tiles: usize) -> u32
     ensures same { result ≡ DONE → cells_of_bits map.new words.new
