@@ -44,6 +44,7 @@
 #include <chrono>
 #include <cmath>
 #include <cstdint>
+#include <cstring>
 #include <iterator>
 #include <limits>
 #include <map>
@@ -966,7 +967,8 @@ public:
     }
 
     /// None if each cell of the path has at least this distance, otherwise the first that hasn't:
-    /// whether the path is clear says `is_clear`. With euclid2 the distance is a square.
+    /// whether the path is clear says `is_clear`. With euclid2 the distance is a square. 0 is clear
+    /// everywhere, through obstacles too.
     [[nodiscard]] std::optional<Tightest> clear_of(std::uint32_t distance, const Path& p,
                                                    Metric m = Metric::euclid2) {
         return one(Queries().clear_of(distance, p, m));
@@ -1257,6 +1259,49 @@ private:
 
 // ---- metres and cells
 
+#ifdef __has_builtin
+#if __has_builtin(__builtin_bit_cast)
+#define CLEARMAP_CONSTEXPR constexpr
+#endif
+#endif
+
+namespace detail {
+
+/// The bits of a double. From 0 on they are in the order of the numbers; those of negative numbers,
+/// infinity and NaN are greater than those of all finite ones. So ranges are tested by them: with
+/// -ffast-math compilers take it that no number is NaN, and turn `!(x >= 0)` into `x < 0`.
+#ifdef CLEARMAP_CONSTEXPR
+constexpr std::uint64_t bits(double number) noexcept {
+    return __builtin_bit_cast(std::uint64_t, number);
+}
+#else  // older compilers
+#define CLEARMAP_CONSTEXPR inline
+inline std::uint64_t bits(double number) noexcept {
+    std::uint64_t found = 0;
+    std::memcpy(&found, &number, sizeof found);
+    return found;
+}
+#endif
+
+inline constexpr std::uint64_t sign_bit = std::uint64_t{1} << 63;
+inline constexpr std::uint64_t infinite_bits = std::uint64_t{0x7ff} << 52;
+
+CLEARMAP_CONSTEXPR bool is_finite(double number) noexcept {
+    return (bits(number) & ~sign_bit) < infinite_bits;
+}
+
+/// Whether a number is above 0, and finite.
+CLEARMAP_CONSTEXPR bool is_positive(double number) noexcept {
+    return bits(number) != 0 && bits(number) < infinite_bits;
+}
+
+/// Whether a number is from 0 on, and below an end.
+CLEARMAP_CONSTEXPR bool is_below(double number, double end) noexcept {
+    return end > 0 && (bits(number) < bits(end) || bits(number) == sign_bit);
+}
+
+}  // namespace detail
+
 /// A point in metres, y upwards.
 struct Point {
     double x, y;
@@ -1269,16 +1314,19 @@ struct Frame {
     double resolution, origin_x, origin_y;
 
     Frame() = default;
-    /// Throws std::invalid_argument for a resolution that isn't above 0, or infinite.
-    constexpr Frame(detail::Whole width, detail::Whole height, double resolution,
-                    double origin_x = 0, double origin_y = 0)
+    /// Throws std::invalid_argument for a resolution that isn't above 0, or for one or an origin
+    /// that isn't finite.
+    CLEARMAP_CONSTEXPR Frame(detail::Whole width, detail::Whole height, double resolution,
+                             double origin_x = 0, double origin_y = 0)
         : width(width),
           height(height),
           resolution(resolution),
           origin_x(origin_x),
           origin_y(origin_y) {
-        if (!(resolution > 0 && resolution <= std::numeric_limits<double>::max()))
+        if (!detail::is_positive(resolution))
             throw std::invalid_argument("a resolution is above 0, and finite");
+        if (!detail::is_finite(origin_x) || !detail::is_finite(origin_y))
+            throw std::invalid_argument("an origin is finite");
     }
 
     /// The size that a client of the map can expect.
@@ -1287,8 +1335,9 @@ struct Frame {
     /// The cell of a point in metres; none outside the map. A point within a billionth of a cell of
     /// an edge counts as on it.
     std::optional<Cell> cell(double x, double y) const {
+        if (!detail::is_finite(x) || !detail::is_finite(y)) return std::nullopt;
         double u = std::floor(across(x)), t = std::floor(up(y));
-        if (!(0 <= u && u < width && 0 <= t && t < height)) return std::nullopt;
+        if (!detail::is_below(u, width) || !detail::is_below(t, height)) return std::nullopt;
         return Cell{static_cast<int>(u), height - 1 - static_cast<int>(t)};
     }
 
@@ -1309,14 +1358,25 @@ struct Frame {
         return corners(path);
     }
 
-    /// A length in cells, as `clearance` answers it, in metres.
+    /// A length in cells, as `clearance` answers it, in metres: from the middle of a cell to the
+    /// middle of its obstacle's. Their points may be nearer: see `free_metres`.
     double metres(double cells) const { return cells * resolution; }
 
+    /// Never more than the distance of any point of a cell from any point of its obstacle's, in
+    /// metres, by its `clearance` in cells, which is Euclidean: less by sqrt(2) cells, and rounded
+    /// down. 0 below that, and infinite if there is no obstacle.
+    double free_metres(double cells) const {
+        if (detail::bits(cells) == detail::infinite_bits) return cells;
+        if (!detail::is_below(cells, std::numeric_limits<double>::max())) return 0;
+        constexpr double root_two = 1.4142135623730952, down = 1 - 1e-15;
+        return std::max((cells * down - root_two) * resolution * down, 0.0);
+    }
+
     /// The `d` of `clear_of` by euclid2 for a round robot of this radius in metres, which may be
-    /// anywhere in its cell: enough for it to touch no obstacle's cell.
+    /// anywhere in its cell: enough for it to touch no obstacle's cell, and 2 or more.
     std::uint32_t clear_distance(double radius) const {
-        double cells = radius / resolution;
-        if (!(cells >= 0 && cells < 10000))
+        const double cells = detail::is_finite(radius) ? radius / resolution : -1;
+        if (!detail::is_below(cells, 10000))
             throw std::invalid_argument("a radius is 0 or more, and not larger than any map");
         return static_cast<std::uint32_t>(
             std::ceil(2 + (cells + 2 * std::sqrt(2.0)) * cells *

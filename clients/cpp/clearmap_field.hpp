@@ -29,7 +29,8 @@ public:
     }
 
     /// The map that the field answers for.
-    const Map& map() const noexcept { return map_; }
+    const Map& map() const& noexcept { return map_; }
+    const Map& map() const&& = delete;  // it would end with the field
     Size size() const noexcept { return map_.size(); }
     Metric metric() const noexcept { return table_.metric(); }
 
@@ -55,13 +56,25 @@ public:
         return detail::direction(obstacle(c), c);
     }
 
-    /// The distance in cells, the Euclidean one for euclid2; infinite if the map has no obstacle.
+    /// The distance in cells from middle to middle, the Euclidean one for euclid2; infinite if the
+    /// map has no obstacle.
     double clearance(Cell c) const noexcept { return detail::in_cells(distance(c), metric()); }
 
-    /// The same in metres for a point in metres: 0 for one outside. Throws std::invalid_argument if
-    /// the frame's size differs from the field's.
+    /// Never more than the Euclidean distance of a point in metres from any obstacle's cell, in
+    /// metres: that of all points of its cell, as Frame::free_metres tells it, by any metric. 0 for
+    /// a point outside. Throws std::invalid_argument if the frame's size differs from the map's,
+    /// and for a map whose row 0 is the lowest.
+    double free_metres(const Frame& frame, double x, double y) const {
+        detail::check_frame(frame, map_);
+        auto cell = frame.cell(x, y);
+        return cell ? frame.free_metres(detail::least_in_cells(distance(*cell), metric())) : 0;
+    }
+
+    /// The clearance of a point's cell in metres, from the middle of the cell to the middle of the
+    /// obstacle's. The point itself may be nearer, by up to sqrt(2) cells: see `free_metres`, which
+    /// throws the same. 0 for a point outside.
     double metres(const Frame& frame, double x, double y) const {
-        detail::check_size(frame, size());
+        detail::check_frame(frame, map_);
         auto cell = frame.cell(x, y);
         return cell ? frame.metres(clearance(*cell)) : 0;
     }
@@ -91,7 +104,8 @@ public:
     /// with many changes. Throws std::invalid_argument for a map that was moved from.
     void update(const Map& map) {
         if (!(checked(map.size()) == size())) return remake(map);
-        if (map.edge() != map_.edge()) return refill(map);
+        if (map.edge() != map_.edge() || map.is_upside_down() != map_.is_upside_down())
+            return refill(map);
         const std::size_t most = table_.cells() / cells_a_change;
         const detail::Changes changes(map_, map, most);
         if (changes.count() > most) return refill(map);

@@ -50,11 +50,12 @@ public:
 
     /// At a pose in metres, y upwards and turned from x towards it, on a map or a field. Throws
     /// std::invalid_argument if the frame's size differs from the map's, or its resolution from the
-    /// points'.
+    /// points', and for a map whose row 0 is the lowest.
     template <class Area>
     [[nodiscard]] bool hits(const Area& area, const Frame& frame, double x, double y,
                             double theta) const {
-        detail::check_size(frame, area.size());
+        detail::check_frame(frame, map_of(area));
+        check_pose({x, y, theta, -1});
         if (resolution_ && *resolution_ != frame.resolution)
             throw std::invalid_argument("the frame has another resolution than the footprint");
         return asked(area, {(x - frame.origin_x) / frame.resolution,
@@ -76,6 +77,15 @@ private:
         int down;
     };
 
+    static const Map& map_of(const Map& map) noexcept { return map; }
+    static const Map& map_of(const Field& field) noexcept { return field.map(); }
+
+    static void check_pose(const Pose& pose) {
+        if (!detail::is_finite(pose.x) || !detail::is_finite(pose.y) ||
+            !detail::is_finite(pose.theta))
+            throw std::invalid_argument("a pose isn't finite");
+    }
+
     static constexpr double slack = 1.0 / 8192;  // more than rounding moves any corner, in cells
     static constexpr double root_half = 0.70710678118654757;
 
@@ -91,15 +101,15 @@ private:
     }
 
     static std::vector<Corner> in_steps(const std::vector<Point>& points, double cell) {
-        if (!(0 < cell && cell < std::numeric_limits<double>::infinity()))
+        if (!detail::is_positive(cell))
             detail::bad_footprint("a cell has a size above 0 in metres");
         if (points.size() < 3 || points.size() > detail::most_corners)
             detail::bad_footprint("a footprint has 3 to 128 points");
         std::vector<Corner> corners;
         for (Point point : points) {
-            const double x = point.x / cell, y = point.y / cell;
-            if (!std::isfinite(x) || !std::isfinite(y))
+            if (!detail::is_finite(point.x) || !detail::is_finite(point.y))
                 detail::bad_footprint("a point of a footprint isn't finite");
+            const double x = point.x / cell, y = point.y / cell;
             if (std::hypot(x, y) > detail::largest_reach)
                 detail::bad_footprint("a footprint reaches 4096 cells from its centre at most");
             corners.push_back(
@@ -140,8 +150,7 @@ private:
     bool is_far(const Map& map, const Pose& pose) const {
         const Size size = map.size();
         if (size.width == 0) detail::check(CLEARMAP_SIZE);
-        if (!std::isfinite(pose.x) || !std::isfinite(pose.y) || !std::isfinite(pose.theta))
-            throw std::invalid_argument("a pose isn't finite");
+        check_pose(pose);
         const double far = outer_ + 1;
         return !(-far <= pose.x && pose.x <= size.width + far && -far <= pose.y &&
                  pose.y <= size.height + far);

@@ -4,16 +4,19 @@
 // includes, are not (test_map.cpp and test_field.cpp try them). Robots of any convex shape are in
 // clearmap_footprint.hpp, and signed distances in clearmap_signed.hpp.
 //
-//     auto map = clearmap::Map::of_bytes(costmap, {640, 480}, {253, 254});  // unknown: to 255
-//     double cells;
-//     if (map.is_valid(3, 4, cells)) ..                // as OMPL's isValid(state, dist)
-//     if (map.is_clear(9, {{0, 0}, {30, 0}})) ..       // each cell keeps 3 cells or more
+//     clearmap::Frame frame{640, 480, 0.05, -8, -5.5};  // of ROS: 0.05 m a cell, and the origin
+//     auto map = clearmap::Map::of_costmap(costmap, frame, {253, 254});  // unknown: to 255
+//     auto path = frame.staircase({{0.5, 0.5}, {4.2, 1.2}});             // metres; none: it leaves
+//     if (map.is_clear(frame.clear_distance(0.3), *path)) ..   // room for a radius of 0.3 m
 //     clearmap::Field field(map);                      // all distances, made by several threads
-//     double nearest = field.clearance({3, 4});        // a look-up
+//     double free = field.free_metres(frame, 2, 2);    // a look-up, never more than there is
 //     field.paint(8, 0, 16, 8);                        // the field's own map, and its distances
+//     double cells;
+//     if (map.is_valid(3, 4, cells)) ..                // as OMPL's isValid(state, dist), in cells
 //
-// Columns x and rows y count from 0. A distance is in cells: euclid2 is the square of the Euclidean
-// one, city and chess count steps.
+// Columns x and rows y count from 0, and row 0 is the top one. A distance is in cells, from the
+// middle of one to the middle of another: euclid2 is the square of the Euclidean one, city and
+// chess count steps.
 //
 // Threads. Any threads may query one map or field at the same time, without a lock. While a thread
 // paints, clears, updates, assigns to, moves or destroys one, no other may use it.
@@ -58,9 +61,11 @@ private:
     }
 };
 
-/// The order of a map's rows in memory: the top one first, or, as in ROS's occupancy grids and
-/// costmaps, the lowest first. In a Map row 0 is the top one, as in a Frame.
-enum class Rows { downwards, upwards };
+/// The order of a map's rows in memory: the top one first, as in images, or, as in ROS's occupancy
+/// grids and costmaps, the lowest first. In a Map row 0 is the top one, as in a Frame. But with
+/// `upwards_kept` the lowest, which is first in memory, is row 0 of the Map too: its cells are the
+/// costmap's own, and no call takes it with a Frame.
+enum class Rows { downwards, upwards, upwards_kept };
 
 /// A vector in the plane, by columns and by rows.
 struct Direction {
@@ -106,12 +111,6 @@ static_assert(numbered(Metric::euclid2) == CLEARMAP_EUCLID2 &&
 template <class Type>
 inline constexpr bool is_byte = sizeof(std::conditional_t<std::is_void_v<Type>, int, Type>) == 1;
 
-/// Throws unless a frame has the size of a map.
-inline void check_size(const Frame& frame, Size size) {
-    if (!(frame.size() == size))
-        throw std::invalid_argument("the frame has another size than the map");
-}
-
 inline std::optional<Near> answer(const clearmap_near& near) {
     if (near.dist == CLEARMAP_NO_OBSTACLE) return std::nullopt;
     return Near{near.dist, {near.x, near.y}};
@@ -126,6 +125,12 @@ inline std::optional<Tightest> answer(const clearmap_found& found) {
 inline double in_cells(std::uint32_t distance, Metric metric) noexcept {
     if (distance == CLEARMAP_NO_OBSTACLE) return std::numeric_limits<double>::infinity();
     return metric == Metric::euclid2 ? std::sqrt(static_cast<double>(distance)) : distance;
+}
+
+/// The least Euclidean distance in cells that a distance by a metric can be.
+inline double least_in_cells(std::uint32_t distance, Metric metric) noexcept {
+    const double cells = in_cells(distance, metric);
+    return metric == Metric::city && bits(cells) != infinite_bits ? cells / std::sqrt(2.0) : cells;
 }
 
 /// The bits x0 to x1 - 1 of a word of columns 0 to 63; at least one.
@@ -289,11 +294,30 @@ public:
         mark();
     }
 
+    /// A costmap or an occupancy grid of ROS at its place in the world, in a vector, an array or a
+    /// span: its rows one after another, the lowest first, exactly as many bytes as the frame has
+    /// cells. Row 0 of the map is the top one, as the frame has it.
+    template <class Bytes, class Element = decltype(*std::data(std::declval<const Bytes&>()))>
+    static Map of_costmap(const Bytes& cells, const Frame& frame, Range obstacles,
+                          Edge edge = Edge::open) {
+        return of_bytes(cells, frame.size(), obstacles, Rows::upwards, edge);
+    }
+
+    /// The same from a pointer, as of costmap_2d's `getCharMap()`: `length` bytes.
+    template <class Byte>
+    static Map of_costmap(const Byte* cells, std::size_t length, const Frame& frame,
+                          Range obstacles, Edge edge = Edge::open) {
+        if (length != detail::numbered(frame.width) * std::size_t{detail::numbered(frame.height)})
+            throw std::invalid_argument("the costmap has another number of cells than the frame");
+        return of_bytes(cells, length, detail::numbered(frame.width), frame.size(), obstacles,
+                        Rows::upwards, edge);
+    }
+
     /// A map in bytes, in a vector, an array or a span: its rows one after another, exactly width
     /// times height bytes.
     template <class Bytes, class Element = decltype(*std::data(std::declval<const Bytes&>()))>
-    static Map of_bytes(const Bytes& cells, Size size, Range obstacles, Edge edge = Edge::open,
-                        Rows rows = Rows::downwards) {
+    static Map of_bytes(const Bytes& cells, Size size, Range obstacles, Rows rows,
+                        Edge edge = Edge::open) {
         static_assert(detail::is_byte<std::remove_reference_t<Element>>,
                       "a map is bytes: its elements have the size 1");
         Map map(size, edge);
@@ -308,7 +332,7 @@ public:
     /// `cells` to the end of the array.
     template <class Byte>
     static Map of_bytes(const Byte* cells, std::size_t length, std::size_t stride, Size size,
-                        Range obstacles, Edge edge = Edge::open, Rows rows = Rows::downwards) {
+                        Range obstacles, Rows rows, Edge edge = Edge::open) {
         static_assert(detail::is_byte<Byte>, "a map is bytes: its elements have the size 1");
         Map map(size, edge);
         map.pack(cells, length, stride, obstacles, rows);
@@ -328,10 +352,13 @@ public:
 
     Size size() const noexcept { return words_.empty() ? Size{0, 0} : size_; }
     Edge edge() const noexcept { return edge_; }
+    /// Whether row 0 is the lowest, by Rows::upwards_kept: no call takes the map with a Frame.
+    bool is_upside_down() const noexcept { return is_upside_down_; }
 
     /// The bits, as the calls of clearmap.h take them with `bits()`, and the marks of blank tiles
     /// after the last row: the bits after a row's last column are 0.
-    const std::vector<std::uint64_t>& words() const noexcept { return words_; }
+    const std::vector<std::uint64_t>& words() const& noexcept { return words_; }
+    const std::vector<std::uint64_t>& words() const&& = delete;  // they would end with the map
     /// The layout without the marks of tiles, which fit these words as a whole alone.
     clearmap_bits bits() const noexcept {
         return {detail::numbered(size().width), detail::numbered(size().height), stride(),
@@ -344,9 +371,10 @@ public:
         return bits;
     }
 
-    /// Whether the sizes, the edges and the obstacles are the same.
+    /// Whether the sizes, the edges, the obstacles and the order of the rows are the same.
     friend bool operator==(const Map& a, const Map& b) {
-        return a.size() == b.size() && a.edge_ == b.edge_ && a.words_ == b.words_;
+        return a.size() == b.size() && a.edge_ == b.edge_ && a.words_ == b.words_ &&
+               a.is_upside_down_ == b.is_upside_down_;
     }
     friend bool operator!=(const Map& a, const Map& b) { return !(a == b); }
 
@@ -376,7 +404,8 @@ public:
     }
 
     /// None if each cell of the path has at least this distance, otherwise the first that hasn't:
-    /// whether the path is clear says `is_clear`. With euclid2 the distance is a square.
+    /// whether the path is clear says `is_clear`. With euclid2 the distance is a square. 0 is clear
+    /// everywhere, through obstacles too.
     [[nodiscard]] std::optional<Tightest> clear_of(std::uint32_t distance, const Path& p,
                                                    Metric m = Metric::euclid2) const {
         const detail::Points points(p.data(), p.size());
@@ -444,6 +473,7 @@ public:
     /// The map whose obstacles are this one's free cells. Its edge is open.
     Map inverse() const {
         Map map(size());
+        map.is_upside_down_ = is_upside_down_;
         const std::uint64_t last = ~std::uint64_t{0} >> (63 - (width() - 1) % 64);
         for (std::size_t k = 0; k < tiles(); ++k)
             map.words_[k] = ~words_[k] & ((k + 1) % stride() == 0 ? last : ~std::uint64_t{0});
@@ -506,6 +536,7 @@ private:
         detail::check(clearmap_pack(length == 0 ? &none : static_cast<const std::uint8_t*>(cells),
                                     length, &from, words_.data(), tiles(), &to));
         if (rows == Rows::upwards) flip();
+        is_upside_down_ = rows == Rows::upwards_kept;
         mark();
     }
 
@@ -568,9 +599,24 @@ private:
 
     Size size_;
     Edge edge_;
+    bool is_upside_down_ = false;
     std::uint64_t blank_bands_ = ~std::uint64_t{0};
     std::vector<std::uint64_t> words_;
 };
+
+namespace detail {
+
+/// Throws unless a map can lie in a frame: it has its size, and row 0 at the top.
+inline void check_frame(const Frame& frame, const Map& map) {
+    if (!(frame.size() == map.size()))
+        throw std::invalid_argument("the frame has another size than the map");
+    if (map.is_upside_down())
+        throw std::invalid_argument(
+            "row 0 of the map is the lowest, and that of a frame the top one: make the map by "
+            "Rows::upwards, or by of_costmap");
+}
+
+}  // namespace detail
 
 /// A pinned version, by one DUMP. A server's answer doesn't say its edge: give the one that it was
 /// started with (`serve --edge`), or the distances differ from its own.

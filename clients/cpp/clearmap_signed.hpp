@@ -22,7 +22,8 @@ public:
         : free_(map, metric, threads), blocked_(map.inverse(), metric, threads) {}
 
     /// The map that the field answers for.
-    const Map& map() const noexcept { return free_.map(); }
+    const Map& map() const& noexcept { return free_.map(); }
+    const Map& map() const&& = delete;  // it would end with the field
     Size size() const noexcept { return free_.size(); }
     Metric metric() const noexcept { return free_.metric(); }
 
@@ -36,10 +37,11 @@ public:
         return free > 0 ? free : -blocked_.clearance(c);
     }
 
-    /// The same in metres for a point in metres: 0 for one outside. Throws std::invalid_argument if
-    /// the frame's size differs from the field's.
+    /// The same in metres, from middle to middle, for a point in metres, which may be nearer by up
+    /// to sqrt(2) cells: 0 for one outside. Throws std::invalid_argument if the frame's size differs
+    /// from the map's, and for a map whose row 0 is the lowest.
     double metres(const Frame& frame, double x, double y) const {
-        detail::check_size(frame, size());
+        detail::check_frame(frame, map());
         auto cell = frame.cell(x, y);
         return cell ? frame.metres(clearance(*cell)) : 0;
     }

@@ -196,8 +196,8 @@ static void cases(const char* name) {
             Size size{};
             std::string edge, cells;
             words >> size.width >> size.height >> edge >> cells;
-            field.emplace(
-                Map::of_bytes(cells, size, {'1', '1'}, edge == "wall" ? Edge::wall : Edge::open));
+            field.emplace(Map::of_bytes(cells, size, {'1', '1'}, Rows::downwards,
+                                        edge == "wall" ? Edge::wall : Edge::open));
             other.emplace(field->map(), Metric::chess);
         } else if (kind == "footprint") {
             const double resolution = number();

@@ -50,6 +50,21 @@ static_assert(noexcept(Cell{1, 2}) && noexcept(Cell{std::int16_t{1}, std::uint16
               noexcept(std::declval<const Field&>().distance({1, 2})));
 static_assert(Cell{3L, 4u}.x == 3 && Size{5ul, 6ll}.height == 6);
 
+/// Whether a reference into a map, or into a field, can be asked for: of a temporary it would
+/// dangle.
+template <class Owner, class = void>
+constexpr bool lends_words = false;
+template <class Owner>
+constexpr bool lends_words<Owner, std::void_t<decltype(std::declval<Owner>().words())>> = true;
+template <class Owner, class = void>
+constexpr bool lends_map = false;
+template <class Owner>
+constexpr bool lends_map<Owner, std::void_t<decltype(std::declval<Owner>().map())>> = true;
+static_assert(lends_words<Map&> && lends_words<const Map&> && lends_map<const Field&> &&
+              lends_map<Field&> && lends_map<const SignedField&>);
+static_assert(!lends_words<Map> && !lends_words<const Map> && !lends_map<Field> &&
+              !lends_map<const Field> && !lends_map<SignedField>);
+
 // ---- numbers that no int holds
 
 /// Calls visit(number) for numbers whose last 32 bits are those of cell 3, or whose sign is lost.
@@ -81,20 +96,20 @@ static void cells() {
     refuses([](auto n) { (void)Frame{n, 3, 0.05}; });
     refuses([](auto n) { (void)Frame{3, n, 0.05, 1, 2}; });
     const std::vector<std::uint8_t> bytes(9);
-    refuses([&](auto n) { (void)Map::of_bytes(bytes, {n, 3}, {1, 1}); });
+    refuses([&](auto n) { (void)Map::of_bytes(bytes, {n, 3}, {1, 1}, Rows::downwards); });
 }
 
 /// The bytes of a range, too.
 static void ranges() {
     const std::vector<std::uint8_t> bytes(9, 44);
-    refuses([&](auto n) { (void)Map::of_bytes(bytes, {3, 3}, {n, 255}); });
+    refuses([&](auto n) { (void)Map::of_bytes(bytes, {3, 3}, {n, 255}, Rows::downwards); });
     for (int wrong : {-1, 256, 300}) {
         const std::string said = "a byte is 0 to 255, and not " + std::to_string(wrong);
         CHECK(throws<std::invalid_argument>([&] { (void)Range{wrong, 255}; }, said));
         CHECK(throws<std::invalid_argument>([&] { (void)Range{0, wrong}; }, said));
     }
     const int low = 44;
-    CHECK(Map::of_bytes(bytes, {3, 3}, {low, 255u}).is_obstacle({2, 2}));
+    CHECK(Map::of_bytes(bytes, {3, 3}, {low, 255u}, Rows::upwards).is_obstacle({2, 2}));
 }
 
 /// The queries of a map and of a field.
@@ -157,6 +172,71 @@ static void client() {
         CHECK(throws<std::invalid_argument>([&] { Client other(port); }, "a port is 0 to 65535"));
 }
 
+// ---- what is no number, also where the compiler takes it that there is none (-ffast-math)
+
+/// NaN, which the compiler doesn't know, of both signs and with other bits, and infinity.
+static std::vector<double> no_numbers() {
+    std::vector<double> found;
+    for (const char* word : {"nan", "-nan", "nan(1)", "nan(0x7ffffffffffff)", "inf", "-inf"})
+        found.push_back(std::strtod(word, nullptr));
+    return found;
+}
+
+template <class Call>
+static bool is_invalid(Call call) {
+    return throws<std::invalid_argument>(call);
+}
+
+static void frames_of_no_numbers() {
+    const Frame frame{8, 6, 0.5, -1, -1};
+    for (double wrong : no_numbers()) {
+        CHECK(is_invalid([&] { (void)Frame{8, 6, wrong}; }));
+        CHECK(is_invalid([&] { (void)Frame{8, 6, 0.5, wrong, 0}; }));
+        CHECK(is_invalid([&] { (void)Frame{8, 6, 0.5, 0, wrong}; }));
+        CHECK(is_invalid([&] { (void)frame.clear_distance(wrong); }));
+        CHECK(!frame.cell(wrong, 0) && !frame.cell(0, wrong) && !frame.cell(wrong, wrong));
+        CHECK(!frame.staircase({{wrong, 0}}) && !frame.staircase({{0, 0}, {0, wrong}}));
+        CHECK(detail::bits(wrong) == detail::infinite_bits || frame.free_metres(wrong) == 0);
+    }
+    for (double wrong : {0.0, -0.0, -0.05}) CHECK(is_invalid([&] { (void)Frame{8, 6, wrong}; }));
+    CHECK(is_invalid([&] { (void)frame.clear_distance(-0.001); }));
+    CHECK(is_invalid([&] { (void)frame.clear_distance(1e300); }));
+    CHECK(frame.clear_distance(-0.0) == 2 && frame.clear_distance(0) == 2);
+    CHECK(frame.cell(-1, -1) == Cell(0, 5) && frame.cell(-1 - 1e-12, -1) == Cell(0, 5));
+    CHECK(!frame.cell(-1.001, 0) && !frame.cell(0, 2) && frame.cell(2.99, 1.99) == Cell(7, 0));
+    CHECK(!frame.cell(1e300, 0) && !frame.cell(0, -1e308));
+    const double infinite = std::numeric_limits<double>::infinity();
+    CHECK(detail::bits(frame.free_metres(infinite)) == detail::infinite_bits);
+    CHECK(frame.free_metres(-infinite) == 0);
+}
+
+/// A pose or a point that is no number is no free one.
+static void places_of_no_numbers() {
+    Map map({8, 6});
+    map.paint(3, 3, 4, 4);
+    const Frame frame{8, 6, 0.5, -1, -1};
+    const Field field(map);
+    const SignedField both(map);
+    const Footprint robot({{-0.5, -0.5}, {0.5, -0.5}, {0, 0.5}}, 0.5);
+    for (double wrong : no_numbers()) {
+        CHECK(field.metres(frame, wrong, 0) == 0 && field.metres(frame, 0, wrong) == 0);
+        CHECK(field.free_metres(frame, wrong, 0) == 0 && field.free_metres(frame, 0, wrong) == 0);
+        CHECK(both.metres(frame, wrong, wrong) == 0);
+        for (int k = 0; k < 3; ++k) {
+            double pose[3] = {0, 0, 0};
+            pose[k] = wrong;
+            CHECK(is_invalid([&] { (void)robot.hits(map, pose[0], pose[1], pose[2]); }));
+            CHECK(is_invalid([&] { (void)robot.is_clear(field, pose[0], pose[1], pose[2]); }));
+            CHECK(is_invalid([&] { (void)robot.hits(map, frame, pose[0], pose[1], pose[2]); }));
+        }
+        CHECK(is_invalid([&] { Footprint other({{wrong, 0}, {1, 0}, {0, 1}}); }));
+        CHECK(is_invalid([&] { Footprint other({{0, 0}, {1, wrong}, {0, 1}}, 0.5); }));
+        CHECK(is_invalid([&] { Footprint other({{0, 0}, {1, 0}, {0, 1}}, wrong); }));
+    }
+    CHECK(field.metres(frame, 0.75, 0.25) == 0 && field.metres(frame, -0.75, 0.25) == 1.5);
+    CHECK(robot.hits(map, frame, 0.75, 0.25, 0) && robot.is_clear(map, frame, 2.5, 1.5, 3));
+}
+
 /// Numbers of other types that an int holds are the same cells.
 static void other_types() {
     enum Side { width = 8, height = 6 };
@@ -180,5 +260,7 @@ int main() {
     drawings();
     client();
     other_types();
+    frames_of_no_numbers();
+    places_of_no_numbers();
     std::printf("limits: %d checks\n", tried.load());
 }

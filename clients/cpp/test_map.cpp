@@ -2,7 +2,8 @@
 // also the largest map, and more by threads), and the ports of two servers of a blank map of 64 by
 // 48 cells, the border of the second a wall. Answers are compared with a search of all obstacles,
 // and with the servers' own.
-#include "clearmap_map.hpp"
+#include "clearmap_footprint.hpp"
+#include "clearmap_signed.hpp"
 #include "testing.hpp"
 
 #include <array>
@@ -101,7 +102,7 @@ struct Model {
         return found;
     }
 
-    Map map() const { return Map::of_bytes(cells, size, {1, 1}, edge); }
+    Map map() const { return Map::of_bytes(cells, size, {1, 1}, Rows::downwards, edge); }
 
     std::string plain(const char* between_pixels = "") const {
         std::string text = "P1\n# a comment\n" + std::to_string(size.width) + " # another\n" +
@@ -269,7 +270,7 @@ static void made(int maps) {
                 larger[static_cast<std::size_t>(size.height - 1 - y) * stride +
                        static_cast<std::size_t>(x)] = model.obstacle(x, y) ? -1 : 64;
         Map turned = Map::of_bytes(larger.data(), larger.size(), stride, size, {65, 255},
-                                   model.edge, Rows::upwards);
+                                   Rows::upwards, model.edge);
         CHECK(turned == map && turned.bits().blank_bands == map.bits().blank_bands);
 
         Map painted(size, model.edge);
@@ -278,10 +279,11 @@ static void made(int maps) {
                 if (model.obstacle(x, y)) CHECK(painted.paint(x, y, x + 1, y + 1) == 1);
         CHECK(painted == map && painted.bits().blank_bands == map.bits().blank_bands);
         model.edge = model.edge == Edge::open ? Edge::wall : Edge::open;
-        CHECK(map != model.map() && map.words() == model.map().words());
+        const Map other = model.map();
+        CHECK(map != other && map.words() == other.words());
     }
     const std::uint8_t grid[6] = {0, 65, 100, 101, 64, 255};
-    Map bounds = Map::of_bytes(grid, {3, 2}, {65, 100});
+    Map bounds = Map::of_bytes(grid, {3, 2}, {65, 100}, Rows::downwards);
     for (Cell c : cells_of(0, 0, 3, 2))
         CHECK(bounds.is_obstacle(c) == (c == Cell{1, 0} || c == Cell{2, 0}));
 }
@@ -429,28 +431,30 @@ static void invalid_queries() {
     CHECK(map == before);
 }
 
+static Map of_cells(const std::vector<char>& cells, Size size, Range obstacles) {
+    return Map::of_bytes(cells, size, obstacles, Rows::downwards);
+}
+
 static void invalid_maps() {
     using Invalid = std::invalid_argument;
     std::vector<char> cells(12);
     for (Size size : {Size{0, 1}, Size{1, 0}, Size{-1, 1}, Size{4097, 1}, Size{1, 4097}}) {
         CHECK(refused_as<Invalid>(CLEARMAP_SIZE, [&] { Map map(size); }));
-        CHECK(refused_as<Invalid>(CLEARMAP_SIZE, [&] { Map::of_bytes(cells, size, {1, 1}); }));
+        CHECK(refused_as<Invalid>(CLEARMAP_SIZE, [&] { of_cells(cells, size, {1, 1}); }));
     }
     CHECK(refused_as<Invalid>(CLEARMAP_EDGE, [] { Map map({1, 1}, static_cast<Edge>(2)); }));
-    CHECK(refused_as<Invalid>(CLEARMAP_LENGTH, [&] { Map::of_bytes(cells, {4, 4}, {1, 1}); }));
-    CHECK(refused_as<Invalid>(CLEARMAP_LENGTH, [] {
-        Map::of_bytes(std::vector<char>(), {4, 4}, {1, 1});
-    }));
-    CHECK(throws<Invalid>([&] { Map::of_bytes(cells, {4, 2}, {1, 1}); }, "goes on after its last"));
-    CHECK(refused_as<Invalid>(CLEARMAP_RANGE, [&] { Map::of_bytes(cells, {4, 3}, {2, 1}); }));
+    CHECK(refused_as<Invalid>(CLEARMAP_LENGTH, [&] { of_cells(cells, {4, 4}, {1, 1}); }));
+    CHECK(refused_as<Invalid>(CLEARMAP_LENGTH, [] { of_cells({}, {4, 4}, {1, 1}); }));
+    CHECK(throws<Invalid>([&] { of_cells(cells, {4, 2}, {1, 1}); }, "goes on after its last"));
+    CHECK(refused_as<Invalid>(CLEARMAP_RANGE, [&] { of_cells(cells, {4, 3}, {2, 1}); }));
     Range left_out{};
     left_out.low = 1;
-    CHECK(refused_as<Invalid>(CLEARMAP_RANGE, [&] { Map::of_bytes(cells, {4, 3}, left_out); }));
+    CHECK(refused_as<Invalid>(CLEARMAP_RANGE, [&] { of_cells(cells, {4, 3}, left_out); }));
     CHECK(refused_as<Invalid>(CLEARMAP_STRIDE, [&] {
-        Map::of_bytes(cells.data(), 12, 3, {4, 3}, {1, 1});
+        Map::of_bytes(cells.data(), 12, 3, {4, 3}, {1, 1}, Rows::downwards);
     }));
     CHECK(refused_as<Invalid>(CLEARMAP_LENGTH, [&] {
-        Map::of_bytes(cells.data(), 12, 5, {4, 3}, {1, 1});
+        Map::of_bytes(cells.data(), 12, 5, {4, 3}, {1, 1}, Rows::downwards);
     }));
 }
 
@@ -477,6 +481,122 @@ static void moved() {
         CHECK(throws<std::invalid_argument>([&] { other.metres(wrong, 0, 0); }, "another size"));
 }
 
+// ---- in metres
+
+/// A costmap as ROS has it: row 0 of its bytes is the lowest in the world.
+static void costmaps(int maps) {
+    for (int i = 0; i < maps; ++i) {
+        const Model model = random_model(40, 30);
+        const Frame frame{model.size.width, model.size.height, 0.5, -3, 2};
+        const Map map = Map::of_costmap(model.cells, frame, {1, 1}, model.edge);
+        const std::uint8_t* bytes = model.cells.data();
+        CHECK(map == Map::of_costmap(bytes, model.cells.size(), frame, {1, 1}, model.edge));
+        CHECK(map == Map::of_bytes(model.cells, model.size, {1, 1}, Rows::upwards, model.edge));
+        for (Cell c : cells_of(0, 0, model.size.width, model.size.height)) {
+            const double x = -3 + 0.5 * (c.x + 0.5), y = 2 + 0.5 * (c.y + 0.5);
+            CHECK(map.is_obstacle(*frame.cell(x, y)) == model.obstacle(c.x, c.y));
+        }
+        for (std::size_t wrong : {model.cells.size() - 1, model.cells.size() + 1})
+            CHECK(throws<std::invalid_argument>(
+                [&] { Map::of_costmap(bytes, wrong, frame, {1, 1}); }, "number of cells"));
+    }
+    const std::vector<signed char> grid = {0, 100, 0, 0, -1, 0};
+    const Frame frame{2, 3, 1};
+    CHECK(Map::of_costmap(grid, frame, {65, 255}).is_obstacle({1, 2}));
+    CHECK(Map::of_costmap(grid, frame, {65, 255}).is_obstacle({0, 0}));
+    CHECK(throws<std::invalid_argument>(
+        [&] { Map::of_costmap(grid, Frame{2, 2, 1}, {65, 255}); }, "goes on after its last"));
+}
+
+/// Whether each call that takes a frame refuses a map for its rows.
+static bool is_refused(const Map& map, const Frame& frame) {
+    const std::string words = "row 0 of the map is the lowest";
+    auto is = [&](auto call) { return throws<std::invalid_argument>(call, words); };
+    const Footprint robot({{-1, -1}, {1, -1}, {0, 1}}, frame.resolution);
+    const Field field(map), city(map, Metric::city);
+    const SignedField both(map);
+    return is([&] { field.metres(frame, 1, 1); }) && is([&] { field.free_metres(frame, 1, 1); }) &&
+           is([&] { city.metres(frame, 1, 1); }) && is([&] { both.metres(frame, 1, 1); }) &&
+           is([&] { (void)robot.hits(map, frame, 1, 1, 0); }) &&
+           is([&] { (void)robot.is_clear(field, frame, 1, 1, 0); });
+}
+
+/// A map whose rows stay as ROS has them is that of its cells, but of no frame.
+static void upside_down() {
+    Model model{{4, 6}, Edge::open, std::vector<std::uint8_t>(24)};
+    model.cell(1, 0) = 1;  // at the lower left of the world
+    const Frame frame{4, 6, 1};
+    const Map kept = Map::of_bytes(model.cells, model.size, {1, 1}, Rows::upwards_kept);
+    CHECK(kept.is_obstacle({1, 0}) && kept.is_upside_down() && is_refused(kept, frame));
+    const Map top_first = model.map();
+    CHECK(kept != top_first && kept.words() == top_first.words());
+    CHECK(is_refused(Map(kept), frame) && is_refused(kept.inverse(), frame));
+    Map turned = Map::of_costmap(model.cells, frame, {1, 1});
+    CHECK(!turned.is_upside_down() && Field(turned).metres(frame, 1.5, 0.5) == 0);
+    for (const Map& next : {kept, kept.inverse()}) {  // few cells change, and most
+        Field field(turned);
+        field.update(next);
+        CHECK(field.map().is_upside_down() && throws<std::invalid_argument>([&] {
+                  field.metres(frame, 1, 1);
+              }, "the lowest"));
+        field.update(turned);
+        CHECK(field.free_metres(frame, 3.5, 4.5) > 0);
+    }
+    turned = kept;
+    CHECK(is_refused(turned, frame));
+}
+
+/// The distance in cells of a point, in cells from the upper left, from the nearest obstacle.
+static double true_distance(const std::vector<Cell>& obstacles, double x, double y) {
+    double least = std::numeric_limits<double>::infinity();
+    for (Cell c : obstacles) {
+        const double dx = std::max({c.x - x, x - c.x - 1, 0.0});
+        const double dy = std::max({c.y - y, y - c.y - 1, 0.0});
+        least = std::min(least, std::sqrt(dx * dx + dy * dy));
+    }
+    return least;
+}
+
+/// No point is nearer to an obstacle than `free_metres` says, by any metric, where `metres` is more
+/// for most; and some point of the cells can be about as near.
+static void free_metres(int maps) {
+    long above = 0, points = 0;
+    for (int i = 0; i < maps; ++i) {
+        const Model model = random_model(40, 30);
+        const double scale = std::array<double, 3>{0.05, 1, 0.1}[static_cast<std::size_t>(i % 3)];
+        const Frame frame{model.size.width, model.size.height, scale, -1.3, 0.7};
+        const std::vector<Cell> obstacles = model.obstacles();
+        const Field field(model.map(), metrics[static_cast<std::size_t>(below(3))]);
+        for (int k = 0; k < 50; ++k) {
+            const double u = below(40000) / 1000.0, v = below(30000) / 1000.0;
+            const double x = -1.3 + scale * u, y = 0.7 + scale * v;
+            const double free = field.free_metres(frame, x, y);
+            const auto cell = frame.cell(x, y);
+            if (!cell) {
+                CHECK(free == 0 && field.metres(frame, x, y) == 0);
+                continue;
+            }
+            const double real = scale * true_distance(obstacles, u, model.size.height - v);
+            CHECK(free <= real + 1e-9 || real == free);
+            above += field.metres(frame, x, y) > real + 1e-9;
+            ++points;
+            if (field.metric() != Metric::euclid2 || obstacles.empty()) continue;
+            const double least = scale * (field.clearance(*cell) - std::sqrt(2.0));
+            CHECK(free <= std::max(least, 0.0) && free >= least - 1e-10);
+        }
+    }
+    CHECK(maps < 20 || 2 * above > points);
+    const Frame frame{5000, 5000, 0.05};
+    CHECK(frame.free_metres(0) == 0 && frame.free_metres(1) == 0 && frame.free_metres(-3) == 0);
+    CHECK(frame.free_metres(std::sqrt(2.0)) == 0 && frame.free_metres(1.5) > 0);
+    for (int square = 3; square < 5000; ++square) {  // against 64 bits of mantissa
+        const long double wanted = (std::sqrt(static_cast<long double>(square)) -
+                                    std::sqrt(2.0L)) / 20;
+        const double told = frame.free_metres(std::sqrt(static_cast<double>(square)));
+        CHECK(told <= wanted && told > wanted - 1e-14L);
+    }
+}
+
 /// A distance of another integer isn't cut to 32 bits: 2^32 would be 0, by which each path is
 /// clear, and -1 more than any distance.
 static void distances_of_64_bits() {
@@ -499,7 +619,7 @@ static void distances_of_64_bits() {
 /// Queries ask for no memory, and whatever else finds none throws; a thread that can't be started
 /// does its rows on the caller's.
 static void without_memory() {
-    const Map map = Map::of_bytes(std::vector<char>(20000, 1), {200, 100}, {0, 0});
+    const Map map = of_cells(std::vector<char>(20000, 1), {200, 100}, {0, 0});
     const Path path = {{0, 0}, {199, 0}, {199, 99}};
     CHECK(done_with(0, [&] {
         map.at({0, 0});
@@ -665,6 +785,9 @@ int main(int count, char** words) {
     invalid_queries();
     invalid_maps();
     moved();
+    costmaps(maps);
+    upside_down();
+    free_metres(10 * maps);
     distances_of_64_bits();
     without_memory();
     if (maps >= 5) largest();

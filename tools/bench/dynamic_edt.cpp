@@ -165,7 +165,9 @@ static void redraw(const Grid& grid, int rounds) {
     std::mt19937 random(4);
     std::bernoulli_distribution changes(0.2);
     const clearmap::Size size{grid.side, grid.side};
-    auto map = [&] { return clearmap::Map::of_bytes(now.cells, size, {1, 255}); };
+    auto map = [&] {
+        return clearmap::Map::of_bytes(now.cells, size, {1, 255}, clearmap::Rows::downwards);
+    };
     clearmap::Field field(map(), clearmap::Metric::euclid2, 1);
     std::optional<DynamicEDT3D> theirs;
     grid.build(theirs);
@@ -193,7 +195,8 @@ int main(int count, char** words) {
     double build_theirs = least(std::min(rounds, 5), [&] { grid.build(theirs); });
     std::optional<clearmap::Field> field;
     double build_ours = least(std::min(rounds, 5), [&] {
-        field.emplace(clearmap::Map::of_bytes(grid.cells, {side, side}, {1, 255}),
+        field.emplace(clearmap::Map::of_bytes(grid.cells, {side, side}, {1, 255},
+                                              clearmap::Rows::downwards),
                       clearmap::Metric::euclid2, 1);
     });
     compare(*theirs, *field, side);

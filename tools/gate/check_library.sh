@@ -165,6 +165,9 @@ for name in map field footprint signed limits; do
         header_test "$name" 5 "$compiler" -O1 -fsanitize=thread
     done
 done
+for compiler in g++ clang++; do # which take it here that no number is NaN
+    header_test limits 5 "$compiler" -O3 -ffast-math -DNDEBUG
+done
 
 # Installed into an empty prefix: the page's programs by pkg-config and by CMake.
 prefix=$scratch/usr

@@ -1,7 +1,8 @@
 #!/bin/sh
 # Tries which uses of the library's headers compile, and which are refused with a message: bytes of
-# another size, cells and distances that aren't integers, a metric in place of an edge, and statuses
-# and answers that nobody looks at. All by each compiler that is installed, with warnings as errors.
+# another size, or whose order of rows nobody says, cells and distances that aren't integers, a metric
+# in place of an edge, parts of a temporary, and statuses and answers that nobody looks at. All by
+# each compiler that is installed, with warnings as errors.
 set -u
 cd "$(dirname "$0")/../.." || exit 1
 scratch=$(mktemp -d)
@@ -20,11 +21,13 @@ cpp_program() { # cpp_program STATEMENT
     echo '#include "clearmap_footprint.hpp"'
     echo 'using namespace clearmap;'
     echo 'void use(Map& map, const Path& path, const int* ints, const float* floats,'
-    echo '         const std::byte* bytes, const void* nothing, const Footprint& robot);'
+    echo '         const std::byte* bytes, const void* nothing, const Footprint& robot,'
+    echo '         const Frame& frame);'
     echo 'void use(Map& map, const Path& path, const int* ints, const float* floats,'
-    echo '         const std::byte* bytes, const void* nothing, const Footprint& robot) {'
+    echo '         const std::byte* bytes, const void* nothing, const Footprint& robot,'
+    echo '         const Frame& frame) {'
     echo "(void)map, (void)path, (void)ints, (void)floats, (void)bytes, (void)nothing;"
-    echo "(void)robot; $1; }"
+    echo "(void)robot, (void)frame; $1; }"
 }
 
 compiles() { # compiles LANGUAGE STATEMENT
@@ -67,12 +70,27 @@ check() { # check: all uses, by the compilers $cc and $cxx
     done
     taken c 'return clearmap_clear_distance(0.2, 0.05)'
 
-    taken cpp 'Map::of_bytes(bytes, 12, 4, {4, 3}, {1, 1})'
-    taken cpp 'Map::of_bytes(std::vector<signed char>(12), {4, 3}, {1, 1})'
+    taken cpp 'Map::of_bytes(bytes, 12, 4, {4, 3}, {1, 1}, Rows::downwards)'
+    taken cpp 'Map::of_bytes(std::vector<signed char>(12), {4, 3}, {1, 1}, Rows::upwards, Edge::wall)'
+    taken cpp 'Map::of_costmap(bytes, 12, frame, {1, 1}, Edge::wall)'
+    taken cpp 'Map::of_costmap(std::vector<signed char>(12), frame, {65, 255})'
     for cells in ints floats nothing; do
-        refused cpp 'its elements have the size 1' "Map::of_bytes($cells, 12, 4, {4, 3}, {1, 1})"
+        refused cpp 'its elements have the size 1' \
+            "Map::of_bytes($cells, 12, 4, {4, 3}, {1, 1}, Rows::upwards)"
     done
-    refused cpp 'its elements have the size 1' 'Map::of_bytes(std::vector<int>(12), {4, 3}, {1, 1})'
+    refused cpp 'its elements have the size 1' 'Map::of_costmap(ints, 12, frame, {1, 1})'
+    refused cpp 'its elements have the size 1' \
+        'Map::of_bytes(std::vector<int>(12), {4, 3}, {1, 1}, Rows::upwards)'
+    refused cpp 'its elements have the size 1' 'Map::of_costmap(std::vector<int>(12), frame, {1, 1})'
+    # No order of the rows is right for every caller, so that none is assumed.
+    refused cpp 'no match' 'Map::of_bytes(bytes, 12, 4, {4, 3}, {1, 1})'
+    for rest in '' ', Edge::wall, Rows::upwards'; do
+        refused cpp 'no match' "Map::of_bytes(std::vector<char>(12), {4, 3}, {1, 1}$rest)"
+    done
+    # What a temporary lends would end with it.
+    taken cpp 'const Field field(map); (void)field.map().words()'
+    refused cpp 'deleted' '(void)Map({4, 3}).words()'
+    refused cpp 'deleted' '(void)Field(map).map()'
 
     taken cpp 'if (map.is_clear(9, path) && map.is_clear(std::uint64_t{9}, path)) map.clear(0, 0, 1, 1)'
     taken cpp 'if (auto near = map.clear_of(9, path)) map.paint(0, 0, near->cell.x, 1)'
