@@ -27,6 +27,9 @@ g++ -std=c++17 -O1 -I clients/cpp $(pkg-config --cflags-only-I ompl) -o "$scratc
 sed -n '1s/,.*//p; $!{h;d}; x; s/,.*//p' "$scratch/plan.txt"
 tail -n 1 "$scratch/plan.txt" | awk '{ print ($4 >= 0.15 ? "it keeps 0.15 m or more" : "it keeps " $4 " m"), $6, $7, $8 }'
 
+# A word is a number as a whole, or none.
+"$scratch/ompl_plan" "$port" 60 40 0.05 0 0 0,1 0.5 0.5 2.5 0.5 2>&1 || true
+
 # On the version in which somebody has closed the door there is none.
 printf 'PAINT 29 4 31 16\nPUBLISH\nQUIT\n' | clearmap ask --port "$port" | sed -n 2p
 "$scratch/ompl_plan" "$port" 60 40 0.05 0 0 0.1 0.5 0.5 2.5 0.5 2>&1 || true

@@ -31,6 +31,9 @@ sed -n '1s/,.*//p; $!{h;d}; x; s/,.*//p' "$scratch/plan.txt"
 tail -n 1 "$scratch/plan.txt" |
     awk '{ print ($4 >= 0.15 ? "it keeps 0.15 m or more" : "it keeps " $4 " m") }'
 
+# A word is a number as a whole, or none.
+"$scratch/plan" "$scratch/map.pbm" 1/20 0 0 0.1 0.5 0.5 2.5 0.5 2>&1 || true
+
 # Where the door is closed there is none.
 sed '7,18s/./1/31' "$scratch/map.pbm" > "$scratch/closed.pbm"
 "$scratch/plan" "$scratch/closed.pbm" 0.05 0 0 0.1 0.5 0.5 2.5 0.5 2>&1 || true

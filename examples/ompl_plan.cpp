@@ -1,8 +1,8 @@
 // A plan by OMPL's RRT* over a served map: ompl_plan PORT WIDTH HEIGHT RESOLUTION ORIGIN_X ORIGIN_Y
 // RADIUS FROM_X FROM_Y TO_X TO_Y, all but the size in metres. A state and a motion are valid where
-// a pinned CLEAROF says that a round robot has room, and the plan's clearance is what is made
-// large. It prints each point of the plan with its clearance, and then that of the whole plan as
-// PATH answers it.
+// a pinned CLEAROF says that a round robot has room, and what is made large is what the plan has
+// free in any case: never more than its distance from an obstacle. It prints that of each point of
+// the plan, and then of the whole plan by PATH.
 // Build: g++ -std=c++17 -I clients/cpp $(pkg-config --cflags ompl) -o ompl_plan
 //     examples/ompl_plan.cpp -lompl
 #include <clearmap.hpp>
@@ -13,9 +13,23 @@
 #include <ompl/util/RandomNumbers.h>
 
 #include <iostream>
+#include <sstream>
 
 namespace ob = ompl::base;
 namespace og = ompl::geometric;
+
+/// The number that a word is as a whole: "1/20" and "0,05" are none.
+template <class Number>
+Number read(const std::string& word) {
+    std::istringstream text(word);
+    Number found{};
+    if (!(text >> std::noskipws >> found) || text.peek() != EOF)
+        throw clearmap::Error("'" + word + "' is no number");
+    return found;
+}
+
+/// Metres, rounded down: what is told is there.
+double down(double metres) { return std::floor(metres * 1e6) / 1e6; }
 
 /// The pinned map as a planner asks it, in metres.
 struct Map {
@@ -34,7 +48,7 @@ struct Map {
     }
     double clearance(const ob::State* from, const ob::State* to) const {
         auto path = cells(from, to);
-        return path ? frame.metres(pinned.clearance(*path)) : 0;
+        return path ? frame.free_metres(pinned.clearance(*path)) : 0;
     }
 };
 
@@ -69,10 +83,14 @@ struct Clearance : ob::MinimaxObjective {
 };
 
 int plan(char** words) {
-    clearmap::Frame frame{std::stoi(words[2]), std::stoi(words[3]), std::stod(words[4]), std::stod(words[5]), std::stod(words[6])};
-    clearmap::Client client(std::stoi(words[1]), {frame.size()});
+    clearmap::Frame frame{read<int>(words[2]), read<int>(words[3]), read<double>(words[4]),
+                          read<double>(words[5]), read<double>(words[6])};
+    const std::uint32_t needed = frame.clear_distance(read<double>(words[7]));
+    const clearmap::Point start{read<double>(words[8]), read<double>(words[9])};
+    const clearmap::Point goal{read<double>(words[10]), read<double>(words[11])};
+    clearmap::Client client(read<int>(words[1]), {frame.size()});
     clearmap::Pinned pinned = client.pin();
-    Map map{pinned, frame, frame.clear_distance(std::stod(words[7]))};
+    Map map{pinned, frame, needed};
 
     auto space = std::make_shared<ob::RealVectorStateSpace>(2);
     ob::RealVectorBounds bounds(2);
@@ -88,7 +106,7 @@ int plan(char** words) {
     setup.setOptimizationObjective(std::make_shared<Clearance>(about, map));
     setup.setPlanner(std::make_shared<og::RRTstar>(about));
     ob::ScopedState<> from(space), to(space);
-    for (int i = 0; i < 2; ++i) from[i] = std::stod(words[8 + i]), to[i] = std::stod(words[10 + i]);
+    from[0] = start.x, from[1] = start.y, to[0] = goal.x, to[1] = goal.y;
     setup.setStartAndGoalStates(from, to);
 
     unsigned long turns = 0;
@@ -100,8 +118,12 @@ int plan(char** words) {
         cells.push_back(*frame.cell(points.back().x, points.back().y));
     }
     std::vector<double> near = pinned.clearances(cells);  // all in one write
-    for (std::size_t i = 0; i < points.size(); ++i) std::cout << points[i].x << ' ' << points[i].y << ", " << frame.metres(near[i]) << " m from the nearest\n";
-    std::cout << "the plan keeps " << frame.metres(pinned.clearance(*frame.staircase(points))) << " m, on version " << pinned.version() << '\n';
+    for (std::size_t i = 0; i < points.size(); ++i)
+        std::cout << points[i].x << ' ' << points[i].y << ", " << down(frame.free_metres(near[i]))
+                  << " m free in any case\n";
+    const double tightest = pinned.clearance(*frame.staircase(points));
+    std::cout << "the plan keeps " << down(frame.free_metres(tightest)) << " m, on version "
+              << pinned.version() << '\n';
     return 0;
 }
 

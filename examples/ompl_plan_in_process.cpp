@@ -1,8 +1,8 @@
 // Plans by four of OMPL's RRT* at a time over one map in process: ompl_plan_in_process MAP.pbm
 // RESOLUTION ORIGIN_X ORIGIN_Y RADIUS FROM_X FROM_Y TO_X TO_Y, all in metres. The planners, each in
 // a thread of its own, share the map, its table of distances and the checkers that ask them: no
-// lock, and no server. It prints each point of the plan with its clearance, and then that of the
-// whole plan.
+// lock, and no server. It prints what each point of the plan has free in any case, which is never
+// more than its distance from an obstacle, and then the same of the whole plan.
 // Build: g++ -std=c++17 -I clients/c -I clients/cpp $(pkg-config --cflags ompl) -pthread
 //     -o ompl_plan_in_process examples/ompl_plan_in_process.cpp -lclearmap -lompl
 #include <clearmap_map.hpp>
@@ -20,6 +20,19 @@
 
 namespace ob = ompl::base;
 namespace og = ompl::geometric;
+
+/// The number that a word is as a whole: "1/20" and "0,05" are none.
+template <class Number>
+Number read(const std::string& word) {
+    std::istringstream text(word);
+    Number found{};
+    if (!(text >> std::noskipws >> found) || text.peek() != EOF)
+        throw clearmap::Error("'" + word + "' is no number");
+    return found;
+}
+
+/// Metres, rounded down: what is told is there.
+double down(double metres) { return std::floor(metres * 1e6) / 1e6; }
 
 /// What the planners share, in metres.
 struct World {
@@ -52,11 +65,11 @@ struct World {
         return path && path->size() <= 1000 && map.is_clear(needed, *path);
     }
     double clearance(const ob::State* state) const {
-        return field.metres(frame, point(state).x, point(state).y);
+        return field.free_metres(frame, point(state).x, point(state).y);
     }
     double clearance(const ob::State* from, const ob::State* to) const {
         auto path = cells(from, to);
-        return path ? frame.metres(map.clearance(*path)) : 0;
+        return path ? frame.free_metres(map.clearance(*path)) : 0;
     }
 };
 
@@ -144,15 +157,16 @@ int run(char** words) {
     std::ifstream file(words[1], std::ios::binary);
     std::stringstream image;
     image << file.rdbuf();
-    auto number = [&](int i) { return std::stod(words[i]); };
+    auto number = [&](int i) { return read<double>(words[i]); };
     const World world(clearmap::Map::of_pbm(image.str()), number(2), {number(3), number(4)},
                       number(5));
     auto points = plan(world, {number(6), number(7)}, {number(8), number(9)});
     for (clearmap::Point p : points)
-        std::cout << p.x << ' ' << p.y << ", " << world.field.metres(world.frame, p.x, p.y)
-                  << " m from the nearest\n";
+        std::cout << p.x << ' ' << p.y << ", "
+                  << down(world.field.free_metres(world.frame, p.x, p.y))
+                  << " m free in any case\n";
     double least = world.map.clearance(*world.frame.staircase(points));
-    std::cout << "the plan keeps " << world.frame.metres(least) << " m\n";
+    std::cout << "the plan keeps " << down(world.frame.free_metres(least)) << " m\n";
     return 0;
 }
 

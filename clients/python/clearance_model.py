@@ -10,6 +10,7 @@ import numpy as np
 import clearmap
 from footprint_model import CELL, axes_of, corners_at, draw_case, nearest
 
+FINE = 1 << 40  # parts of a cell, so many that rounding to them is none
 FEW = 60  # obstacles of a map that the model goes through
 
 
@@ -57,6 +58,15 @@ def corners_of(robot, points, resolution, pose):
     return corners_at(kept, resolution, pose)
 
 
+def true_corners(points, resolution, pose):
+    """The corners of a footprint at a pose in parts of a cell, of which there are FINE."""
+    x, y, theta = pose
+    cosine, sine = math.cos(theta), math.sin(theta)
+    cells = [(a / resolution, b / resolution) for a, b in points]
+    turned = [(x + a * cosine - b * sine, y + a * sine + b * cosine) for a, b in cells]
+    return [(round(a * FINE), round(b * FINE)) for a, b in turned]
+
+
 def cell_box(x, y, cell):
     return [(x * cell, y * cell), ((x + 1) * cell, y * cell),
             ((x + 1) * cell, (y + 1) * cell), (x * cell, (y + 1) * cell)]  # fmt: skip
@@ -73,11 +83,22 @@ def model_square(grid, edge, corners, cell=CELL):
     return min(found) / (cell * cell) if found else None
 
 
-def is_root(found, square):
-    """Whether a float is the greatest that isn't above the root."""
+def is_root(found, square, less=Fraction(0)):
+    """Whether a float is the greatest that isn't above the root less a number; 0 if that is below.
+    """
     (bits,) = struct.unpack("<q", struct.pack("<d", found))
     (after,) = struct.unpack("<d", struct.pack("<q", bits + 1))
-    return Fraction(found) ** 2 <= square < Fraction(after) ** 2
+    is_below = (Fraction(found) + less) ** 2 <= square
+    return (is_below or found == 0) and square < (Fraction(after) + less) ** 2
+
+
+def moved(points, resolution, pose):
+    """How far rounding moves a corner at most, in cells: not at all where all is on steps."""
+    scale = Fraction(str(resolution))
+    lengths = [Fraction(str(float(length))) / scale for point in points for length in point]
+    steps = [length * CELL for length in (*lengths, *map(Fraction, pose[:2]))]
+    is_exact = pose[2] == 0 and all(step.denominator == 1 for step in steps)
+    return Fraction(0) if is_exact else Fraction(1, 16384)
 
 
 def cases(chance, count):

@@ -33,6 +33,10 @@ WAYS = (
 )
 
 
+class Named(clearmap.Map):
+    """A map that keeps more."""
+
+
 def random_grid(numbers, chance):
     """A map whose last word is full, or has some columns."""
     shape = chance.choice((1, 3, 64, 65, 130)), chance.choice((1, 63, 64, 65, 128, 200))
@@ -68,6 +72,32 @@ class Copies(unittest.TestCase):
         self.assertEqual(other, area)
         other.paint(1, 0, 2, 1)
         self.assertNotEqual(other, area)
+
+    def test_a_subclass(self):
+        """What its maps keep besides goes with them: of a deep copy and a pickle copies."""
+        area = Named(np.eye(70, dtype=bool), "wall")
+        area.name, area.marks = "hall", [[3, 4]]
+        for way in WAYS[1:]:
+            other = way(area)
+            self.assertIs(type(other), Named)
+            self.assertEqual((other, other.name, other.marks), (area, "hall", [[3, 4]]))
+            other.paint(0, 1, 1, 2)
+            self.assertNotEqual(other, area)
+        self.assertIs(copy.copy(area).marks, area.marks)
+        self.assertIsNot(copy.deepcopy(area).marks[0], area.marks[0])
+        area.itself = area
+        other = copy.deepcopy(area)
+        self.assertIs(other.itself, other)
+        self.assertIs(type(area.copy()), clearmap.Map)
+
+    def test_the_row_on_top(self):
+        """Copies of a map whose row 0 is the lowest are such maps."""
+        area = clearmap.Map.of_occupancy([0, 100], width=1, height=2, upwards=False)
+        for way in WAYS:
+            self.assertTrue(way(area).is_upside_down)
+            self.assertEqual(way(area), area)
+        self.assertFalse(clearmap.Map(area.grid()).is_upside_down)
+        self.assertNotEqual(clearmap.Map(area.grid()), area)
 
     def test_what_is_equal(self):
         numbers = np.random.default_rng(21)

@@ -14,7 +14,8 @@ import numpy as np
 
 import clearmap
 from clearance_model import (
-    between, cases, cell_box, corners_of, is_root, model_square, sampled_way,
+    FINE, between, cases, cell_box, corners_of, is_root, model_square, moved, sampled_way,
+    true_corners,
 )  # fmt: skip
 from clearmap import gaps
 
@@ -33,8 +34,10 @@ class Poses(unittest.TestCase):
                 if square is None:
                     self.assertEqual(found, math.inf)
                     continue
-                metres = square * Fraction(str(resolution)) ** 2
-                self.assertTrue(is_root(found, metres), (edge, points, pose, found, float(square)))
+                scale = Fraction(str(resolution))
+                less = moved(points, resolution, pose) * scale
+                what = edge, points, pose, found, float(square)
+                self.assertTrue(is_root(found, square * scale**2, less), what)
                 if robot.hits(area, *pose):
                     self.assertEqual(found, 0)
                 told.append(found)
@@ -55,7 +58,28 @@ class Poses(unittest.TestCase):
             for _ in range(4):
                 pose = chance.uniform(0, width), chance.uniform(0, height), chance.uniform(-4, 4)
                 square = model_square(grid, "open", corners_of(robot, points, 1, pose))
-                self.assertTrue(is_root(robot.clearance(area, *pose), square), pose)
+                found, less = robot.clearance(area, *pose), moved(points, 1, pose)
+                self.assertTrue(is_root(found, square, less), pose)
+
+    def test_never_too_much(self):
+        """No clearance is more than that of the polygon as it is given, which isn't on steps, nor
+        is one of a way; and none is less by more than 1/8192 of a cell."""
+        tight = 0
+        for grid, edge, resolution, points, asked in cases(random.Random(8), ARRAYS):
+            area, robot = clearmap.Map(grid, edge), clearmap.Footprint(points, resolution)
+            for pose in asked[:3]:
+                corners = true_corners(points, resolution, pose)
+                square = model_square(grid, edge, corners, FINE)
+                if square is None:
+                    continue
+                true = math.sqrt(square)
+                found = robot.clearance(area, *pose) / resolution
+                self.assertLessEqual(found, true + 1e-10, (edge, points, pose))
+                self.assertGreaterEqual(found, true - 1 / 8192 - 1e-10, (edge, points, pose))
+                along = robot.clearance_along(area, [pose]).clearance / resolution
+                self.assertLessEqual(along, true + 1e-10, (edge, points, pose))
+                tight += found > 0
+        self.assertGreater(tight, ARRAYS // 2)
 
     def test_by_hand(self):
         grid = np.zeros((20, 30), bool)
@@ -63,9 +87,12 @@ class Poses(unittest.TestCase):
         area, square = clearmap.Map(grid), clearmap.Footprint(SQUARE)
         for pose, wanted in (
             ((12, 5.5, 0), 3), ((9, 5.5, 0), 0), ((8.5, 5.5, 0), 0), ((7.5, 10, 0), 3),
-            ((12, 11, 0), 5), ((-3, 5.5, 0), 9), ((12 + math.sqrt(2) - 1, 5.5, math.pi / 4), 3),
+            ((12, 11, 0), 5), ((-3, 5.5, 0), 9), ((12, 5.5, math.pi), 3 - 2**-14),
+            ((12.1, 5.5, 0), 3.1 - 2**-14), ((9 + 2**-16, 5.5, 1e-300), 0),
+            ((12 + math.sqrt(2) - 1, 5.5, math.pi / 4), 3 - 2**-14),
         ):  # fmt: skip
             self.assertAlmostEqual(square.clearance(area, *pose), wanted, 4, pose)
+            self.assertLessEqual(square.clearance(area, *pose), wanted + 2**-16, pose)
         small = clearmap.Footprint([(x / 20, y / 20) for x, y in SQUARE], 0.05)
         self.assertEqual(small.clearance(area, 12, 5.5, 0), 0.15)
 

@@ -141,14 +141,16 @@ class OccupancyGrids(unittest.TestCase):
         cells = [*range(-1, 101)]
         for kind in self.KINDS:
             for width, height in ((102, 1), (1, 102), (51, 2)):
-                made = clearmap.Map.of_occupancy(kind(cells), width=width, height=height)
+                made = clearmap.Map.of_occupancy(
+                    kind(cells), width=width, height=height, upwards=False
+                )
                 wanted = [cell == -1 or cell >= 65 for cell in cells]
                 self.assertEqual((made.size, made.edge), ((width, height), "open"))
                 self.assertEqual(made.grid().ravel().tolist(), wanted)
                 for least in (1, 50, 100):
                     made = clearmap.Map.of_occupancy(
-                        kind(cells), width=width, height=height, edge="wall", occupied=least,
-                        unknown_is_free=True,
+                        kind(cells), width=width, height=height, upwards=False, edge="wall",
+                        occupied=least, unknown_is_free=True,
                     )  # fmt: skip
                     self.assertEqual(made.edge, "wall")
                     self.assertEqual(
@@ -156,9 +158,12 @@ class OccupancyGrids(unittest.TestCase):
                     )
 
     def test_rows_as_they_lie(self):
-        made = clearmap.Map.of_occupancy([0, 0, 0, 0, 0, 100], width=3, height=2)
+        cells = [0, 0, 0, 0, 0, 100]
+        made = clearmap.Map.of_occupancy(cells, width=3, height=2, upwards=False)
         self.assertEqual(made.at(0, 0), (5, (2, 1)))
-        self.assertEqual(made, clearmap.Map([[0, 0, 0], [0, 0, 100]], low=65))
+        wanted = clearmap.Map([[0, 0, 0], [0, 0, 100]], low=65)
+        self.assertEqual(made.grid().tolist(), wanted.grid().tolist())
+        self.assertNotEqual(made, wanted)  # whose row 0 is the top one
 
     def test_rows_turned_round(self):
         """Row 0 is then the highest in the world, as a frame has it."""
@@ -172,14 +177,15 @@ class OccupancyGrids(unittest.TestCase):
 
     def test_cells_that_change_later(self):
         cells = np.zeros(6, np.int8)
-        made = clearmap.Map.of_occupancy(cells, width=3, height=2)
+        made = clearmap.Map.of_occupancy(cells, width=3, height=2, upwards=True)
         cells[:] = 100
         self.assertIsNone(made.at(0, 0))
 
-    def refused(self, kind, words, data=(0, 0, 0, 0, 0, 0), width=3, height=2, **others):
+    def refused(self, kind, words, data=(0, 0, 0, 0, 0, 0), **others):
         """A call with these arguments is refused so."""
+        others = {"width": 3, "height": 2, "upwards": True, **others}
         with self.assertRaisesRegex(kind, words):
-            clearmap.Map.of_occupancy(data, width=width, height=height, **others)
+            clearmap.Map.of_occupancy(data, **others)
 
     def test_refused(self):
         for count in (0, 5, 7):

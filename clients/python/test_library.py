@@ -306,6 +306,12 @@ class ScipysCalls(unittest.TestCase):
         np.testing.assert_array_equal(clearmap.distance_transform_edt(array, [2, 2]), both[0] * 2)
         for sampling in ((1, 2), 0, -1, (1, 1, 1), (1,), float("nan"), float("inf")):
             self.assertRaises(ValueError, clearmap.distance_transform_edt, array, sampling)
+        for sampling in ("1", b"1", ["1", "1"], True, 1j, [None, None]):
+            with self.assertRaisesRegex(TypeError, "sampling is .*, where a number or two"):
+                clearmap.distance_transform_edt(array, sampling)
+        for sampling in (np.float32(2), np.int64(2), [2, 2], (np.uint8(2), 2.0)):
+            told = clearmap.distance_transform_edt(array, sampling)
+            np.testing.assert_array_equal(told, both[0] * 2)
         with self.assertRaisesRegex(ValueError, "at least one of"):
             clearmap.distance_transform_edt(array, None, False, False)
         for threads in (1, 2):
@@ -505,6 +511,8 @@ class Finding(unittest.TestCase):
             "uint32_t": ctypes.c_uint32,
             "uint8_t": ctypes.c_uint8,
             "size_t": ctypes.c_size_t,
+            "clearmap_metric": ctypes.c_uint32,
+            "clearmap_edge": ctypes.c_uint32,
             "clearmap_bytes *": ctypes.POINTER(library.Bytes),
             "clearmap_bits *": ctypes.POINTER(library.Bits),
         }

@@ -78,6 +78,9 @@ class Outside(unittest.TestCase):
                 asked()
             again = pickle.loads(pickle.dumps(it.exception))
             self.assertEqual((str(again), again.cure), (str(it.exception), it.exception.cure))
+        for distance in (-1, 2**32, 2**64):  # which isn't the map's fault
+            with self.assertRaisesRegex(clearmap.BadArguments, "a distance is 0 to 4294967295$"):
+                area.is_clear(distance, [(0, 0)])
 
 
 class Maps(unittest.TestCase):

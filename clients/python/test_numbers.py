@@ -145,7 +145,7 @@ class Limits(unittest.TestCase):
                 self.refused("a limit is NaN", dtype, low=nan)
                 self.refused("a limit is NaN", dtype, low=0, high=nan)
                 if dtype != bool:
-                    self.refused("a limit is NaN", dtype, low=0, unknown=nan)
+                    self.refused("unknown is NaN.*nan_to_num", dtype, low=0, unknown=nan)
         self.refused("low is 3, above high, which is 2", "uint8", low=np.uint8(3), high=2)
         self.refused("low is 300, above high, which is 5", "int16", low=300, high=np.uint8(5))
         self.refused("which no float can hold", "float64", low=10**400)

@@ -93,14 +93,14 @@ class Places(unittest.TestCase):
             frame = clearmap.Frame(30, 20, scale, left, low)
             x, y, yaw = (chance.uniform(0.1, 0.9) for _ in range(3))
             x, y = float(left + x * 30 * scale), float(low + y * 20 * scale)
-            robot, pose = frame.footprint(points), frame.pose(x, y, 8 * yaw - 4)
+            robot, pose = frame.footprint(points), frame.pose_in_cells(x, y, 8 * yaw - 4)
             cosine, sine = math.cos(8 * yaw - 4), math.sin(8 * yaw - 4)
             wanted = {
                 ((x + a * cosine - b * sine - float(left)) / float(scale),
                  20 - (y + a * sine + b * cosine - float(low)) / float(scale))
                 for a, b in points
             }  # fmt: skip
-            corners = polygons.placed(robot._outline, *pose)
+            corners = polygons.placed(robot.in_cells._outline, *pose)
             for across, down in wanted:
                 off = min(math.dist((a / CELL, b / CELL), (across, down)) for a, b in corners)
                 self.assertLess(off, 1 / 8192)
@@ -108,7 +108,8 @@ class Places(unittest.TestCase):
 
     def test_a_pose_off_the_map(self):
         frame = clearmap.Frame(30, 20, *map(Fraction, ("0.05", "-1", "-2")))
-        self.assertRaisesRegex(clearmap.RosError, "isn't on the map", frame.pose, 9, 0, 0)
+        with self.assertRaisesRegex(clearmap.RosError, "isn't on the map"):
+            frame.pose_in_cells(9, 0, 0)
         found = frame.point(frame.place(("0.1", "-1.7")))
         self.assertEqual(found, (Fraction(1, 10), Fraction(-17, 10)))
 

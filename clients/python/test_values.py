@@ -190,8 +190,8 @@ class Package(unittest.TestCase):
         if mypy is None:
             self.skipTest("there is no mypy")
         with tempfile.TemporaryDirectory() as folder:
-            words = [mypy, "--strict", "--cache-dir", folder, str(HERE / "clearmap")]
-            run = subprocess.run(words, capture_output=True, text=True, timeout=200)
+            words = [mypy, "--strict", "--cache-dir", folder, "clearmap", "typed_uses.py"]
+            run = subprocess.run(words, cwd=HERE, capture_output=True, text=True, timeout=200)
         self.assertEqual(run.returncode, 0, run.stdout)
 
 

@@ -38,7 +38,8 @@ if [ -n "$arrays" ] && [ -e "$library" ]; then
         clients/python/test_tiles.py clients/python/test_footprints.py \
         clients/python/test_clearances.py clients/python/test_plans.py \
         clients/python/test_signed.py clients/python/test_carried.py \
-        clients/python/test_images.py clients/python/test_transforms.py; do
+        clients/python/test_images.py clients/python/test_transforms.py \
+        clients/python/test_metres.py clients/python/test_gray.py; do
         tried "$arrays" "$test"
     done
     for rules in legacy weak; do # numpy's on numbers of few bits: those of numpy 1 and of 2
@@ -52,7 +53,8 @@ else
 fi
 if command -v mypy > /dev/null && [ -n "$arrays" ]; then
     (cd clients/python && timeout 300 mypy --strict --cache-dir "$scratch/mypy" \
-        --python-executable "$(command -v "$arrays")" clearmap) > "$scratch/log" 2>&1 ||
+        --python-executable "$(command -v "$arrays")" clearmap typed_uses.py) \
+        > "$scratch/log" 2>&1 ||
         { failed=1; cat "$scratch/log"; }
     echo "mypy --strict clients/python/clearmap: $(tail -n 1 "$scratch/log")"
 else
@@ -157,11 +159,16 @@ runs() { # runs FLAG ..
     } | "$compiler" "$@" -x c++ -o "$scratch/none" - 2> /dev/null && "$scratch/none" 2> /dev/null
 }
 
-# The example refuses another map than its frame's.
+# The example refuses another map than its frame's, and words that are no numbers as a whole.
 check_example() {
     serve wide || return 1
     "$compiler" -std=c++17 -I clients/cpp -o "$scratch/plan" examples/plan.cpp || return 1
     echo '0 0' | "$scratch/plan" "$port" 64 48 0.05 -1 -0.5 > "$scratch/log" 2>&1 || return 1
+    for wrong in 1/20 0,05 0x1p-4 0.05m '' ' ' nan inf 1e999; do
+        echo '0 0' | "$scratch/plan" "$port" 64 48 "$wrong" -1 -0.5 > "$scratch/log" 2>&1 && return 1
+        [ "$(cat "$scratch/log")" = "'$wrong' is no number" ] || return 1
+    done
+    echo '0 0' | "$scratch/plan" "$port" 64.5 48 0.05 -1 -0.5 > "$scratch/log" 2>&1 && return 1
     echo '0 0' | "$scratch/plan" "$port" 40 20 0.05 -1 -0.5 > "$scratch/log" 2>&1 && return 1
     [ "$(cat "$scratch/log")" = \
         'the served map has 64 by 48 cells, where 40 by 20 are expected' ]

@@ -48,7 +48,7 @@ printf '%s\n' 'image: map.pgm' 'resolution: 0.05' 'origin: [-1.0, -2.0, 0.0]' 'n
     'occupied_thresh: 0.65' 'free_thresh: 0.196' > "$scratch/map.yaml"
 metres='import clearmap; at = clearmap.read_map("map.yaml"); robot = at.frame.footprint(
     [(0.0125, 0.0125), (-0.0125, 0.0125), (-0.0125, -0.0125), (0.0125, -0.0125)]); print(at.frame.size,
-    robot.clearance(at.map(), *at.frame.pose("-0.975", "-1.975", 0)),
+    robot.clearance(at.map(), "-0.975", "-1.975", 0),
     clearmap.clear_distance("0.22", at.frame.resolution))'
 metres_says='(4, 3) 0.0625 34'
 

@@ -78,7 +78,9 @@ python_test() { # python_test NAME: its tests, with few arrays
         CLEARMAP_LIBRARY="$scratch/libclearmap.so.1" "$arrays" "clients/python/test_$1.py"
 }
 if [ -n "$arrays" ]; then
-    for name in library tiles footprints clearances plans signed carried numbers; do python_test "$name"; done
+    for name in library tiles footprints clearances plans metres signed carried numbers; do
+        python_test "$name"
+    done
     [ ! -x "$program" ] || python_test maps
 else
     echo 'the tests in Python over the weak model left out: there is no python3 with numpy'

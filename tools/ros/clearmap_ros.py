@@ -85,12 +85,11 @@ def clearance(options: argparse.Namespace) -> Iterator[str]:
         robot = frame.footprint(outline(options.footprint))
     except ValueError as fault:
         raise RosError(str(fault)) from None
-    poses = [frame.pose(*pose) for pose in read_poses(sys.stdin or ())]
+    poses = read_poses(sys.stdin or ())
     if not poses:
         raise RosError("the plan has no pose")
-    free, (across, up, turn) = robot.clearance_along(area, poses)
-    x, y = (float(number) for number in frame.point((across, up)))
-    yield f"{down(free)} m free at (%.6f, %.6f), turned by %.6f" % (x, y, 0 - turn)
+    free, pose = robot.clearance_along(area, poses)
+    yield f"{down(free)} m free at (%.6f, %.6f), turned by %.6f" % pose
 
 
 def answer(options: argparse.Namespace) -> Iterator[str]:

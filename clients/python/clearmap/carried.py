@@ -1,7 +1,8 @@
-"""What pickles and compares maps: their bits, without what lies past the last column."""
+"""What copies, pickles and compares maps: their bits, without what lies past the last column, and
+what their objects keep besides."""
 from __future__ import annotations
 
-from typing import TYPE_CHECKING, Any, Tuple, Type
+from typing import TYPE_CHECKING, Any, Dict, Tuple, Type
 
 from .grids import Memory, byte_map
 from .library import Bits, numpy
@@ -11,6 +12,7 @@ if TYPE_CHECKING:
     from .maps import Map
 
 ALL = 2**64 - 1  # bits of a word
+BEGUN = ("_edge", "_turn", "_held", "_size")  # what a new map of the same cells has of its own
 
 
 def rebuilt(kind: Type[Map], words: Any, size: Size, edge: str) -> Map:
@@ -31,10 +33,15 @@ def parts(area: Map) -> Tuple[Any, ...]:
     return type(area), area._held.memory.cells, area.size, area.edge
 
 
+def others(area: Map) -> Dict[str, Any]:
+    """The other attributes of a map, as those of a subclass."""
+    return {name: value for name, value in vars(area).items() if name not in BEGUN}
+
+
 def are_same(one: Map, other: Map) -> bool:
-    """Whether sizes, edges and obstacles are the same."""
+    """Whether sizes, edges and obstacles are the same, and the row on top."""
     np = numpy()
-    if (one.size, one.edge) != (other.size, other.edge):
+    if (one.size, one.edge, one.is_upside_down) != (other.size, other.edge, other.is_upside_down):
         return False
     cells, others = one._held.memory.cells, other._held.memory.cells
     last = ALL >> -one.width % 64  # the columns of the last word

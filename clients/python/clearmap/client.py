@@ -7,7 +7,7 @@ from .connection import Connection, Limits
 from .errors import AlreadyPinned, BadImage, ConnectionLost, LogFull, Refused, Size, raised
 from .faults import place_of
 from .pinned import Pinned
-from .requests import Change, Collected, Published, Request, T
+from .requests import Change, Collected, Published, Request, T, Whole
 from .session import Session
 
 DRAFT_LOST = (
@@ -74,7 +74,7 @@ class Client(Session):
 
     # ---- painters
 
-    def paint(self, x0: int, y0: int, x1: int, y1: int) -> Change:
+    def paint(self, x0: Whole, y0: Whole, x1: Whole, y1: Whole) -> Change:
         """Makes columns x0 to x1 - 1 of rows y0 to y1 - 1 of the draft obstacles.
 
         They are at least 1 cell, else BadArguments, and are on the map, else OutOfRange. LogFull
@@ -82,11 +82,11 @@ class Client(Session):
         """
         return self._change(requests.draw("PAINT", x0, y0, x1, y1))
 
-    def clear(self, x0: int, y0: int, x1: int, y1: int) -> Change:
+    def clear(self, x0: Whole, y0: Whole, x1: Whole, y1: Whole) -> Change:
         """Makes them free; refused as `paint` is."""
         return self._change(requests.draw("CLEAR", x0, y0, x1, y1))
 
-    def stamp(self, x: int, y: int, image: object) -> Change:
+    def stamp(self, x: Whole, y: Whole, image: object) -> Change:
         """Sets the cells from (x, y) on to the values of a PBM image, plain or raw; black is an
         obstacle. The image is anything with the buffer protocol, as `bytes`, by its bytes: at most
         17,100,000. BadImage if they aren't an image; else refused as `paint` is."""

@@ -5,11 +5,11 @@ import math
 import re
 import struct
 from fractions import Fraction
-from typing import Union
+from typing import SupportsFloat, SupportsIndex, Union
 
 from .errors import RosError
 
-Number = Union[int, float, str, Fraction]
+Number = Union[SupportsFloat, SupportsIndex, str]  # a Fraction and numbers of numpy too
 LONGEST_NUMBER = 400  # characters; what a float is written as is below it
 HUGE = re.compile(r"[eE][+-]?0*[1-9]\d{3}")  # an exponent that takes forever
 

@@ -7,6 +7,7 @@ from .errors import BadVersion
 from .library import numpy
 from .maps import Map
 from .records import Record, Tile, cells_of, tiles_of, words_of
+from .requests import Whole
 from .words import copied, marked, rows_for
 
 FIXED = "the map of a version isn't changed: paint on a copy, as version.map.copy()"
@@ -15,7 +16,7 @@ FIXED = "the map of a version isn't changed: paint on a copy, as version.map.cop
 class FixedMap(Map):
     """A map that can't be painted or cleared. Queries are those of a `Map`."""
 
-    def _draw(self, name: str, *corners: int) -> NoReturn:
+    def _draw(self, name: str, *corners: Whole) -> NoReturn:
         raise TypeError(FIXED)
 
 

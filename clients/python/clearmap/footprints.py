@@ -5,7 +5,7 @@ import ctypes
 import math
 from array import array
 from fractions import Fraction
-from typing import TYPE_CHECKING, Iterable, Optional, Tuple
+from typing import TYPE_CHECKING, Iterable, Optional, SupportsFloat, Tuple
 
 from . import poses
 from .decimals import exact, float_below, root_float_below
@@ -21,9 +21,11 @@ if TYPE_CHECKING:
     import numpy as np
     from numpy.typing import ArrayLike, NDArray
 
+Real = SupportsFloat  # a float, an int, or a number of numpy
 WALLED = EDGES.index(WALL)
 HALF_DIAGONAL = math.sqrt(0.5)
 SLACK = 2.0**-13  # cells: more than rounding moves any corner, or a root is off
+MOVED = Fraction(1, 16384)  # cells: as far as rounding moves a corner at most
 LONE_POSES = 1000  # cells of a map that take as much work as one pose
 FARTHEST = 1 << 20  # cells: how far off the map clearances are told
 
@@ -43,24 +45,28 @@ class Footprint:
 
     The answer is exact for the polygon whose corners lie on whole steps of 1/65536 of a cell: the
     points, the pose and the turned corners are rounded to these, and the cosine and the sine to
-    2**-30. No corner moves by more than 1/16384 of a cell, and none moves at right angles.
+    2**-30. No corner moves by more than 1/16384 of a cell, and none moves at right angles. A
+    clearance is less by that much, unless nothing was rounded.
 
     ValueError for anything but such a polygon or pose. Any threads may use one footprint.
     """
 
-    __slots__ = ("_outline", "_inner", "_outer", "_cell")
+    __slots__ = ("_outline", "_inner", "_outer", "_cell", "_is_exact")
 
-    def __init__(self, points: Iterable[Iterable[float]], resolution: float = 1.0) -> None:
-        self._outline = outline_of(points, resolution)
+    def __init__(self, points: Iterable[Iterable[Real]], resolution: Real = 1.0) -> None:
+        given = [tuple(point) for point in points]
+        self._outline = outline_of(given, resolution)
         inner, outer = _circles(self._outline)
         self._inner, self._outer = inner - SLACK, outer + SLACK
         self._cell = exact(float(resolution))
+        lengths = (exact(float(length)) for point in given for length in point)
+        self._is_exact = all((length / self._cell * STEPS).denominator == 1 for length in lengths)
 
-    def hits(self, area: Map, x: float, y: float, theta: float) -> bool:
+    def hits(self, area: Map, x: Real, y: Real, theta: Real) -> bool:
         """Whether the robot is on an obstacle of a map at this pose."""
         return self._hits(held_of(area), *_pose(x, y, theta))
 
-    def is_clear(self, area: Map, x: float, y: float, theta: float) -> bool:
+    def is_clear(self, area: Map, x: Real, y: Real, theta: Real) -> bool:
         """Whether it is on none."""
         return not self.hits(area, x, y, theta)
 
@@ -87,30 +93,32 @@ class Footprint:
 
     # ---- clearances
 
-    def clearance(self, area: Map, x: float, y: float, theta: float) -> float:
+    def clearance(self, area: Map, x: Real, y: Real, theta: Real) -> float:
         """How far the robot is from the nearest obstacle at this pose, in the unit of its points:
-        cells, or metres by `resolution`. 0 if it hits or touches one; infinite where the map has no
-        obstacle, and its edge is `open`.
+        cells, or metres by `resolution`. Never more than that: 0 if it hits or touches one;
+        infinite where the map has no obstacle, and its edge is `open`.
 
         It is the distance between the polygon of `hits` and the square of the nearest obstacle
-        cell, or with the edge `wall` the map's border: the greatest float that isn't above it.
-        ValueError for a pose more than 1048576 cells from the map's first corner.
+        cell, or with the edge `wall` the map's border, less 1/16384 of a cell if something of the
+        polygon was rounded: the greatest float that isn't above it. ValueError for a pose more than
+        1048576 cells from the map's first corner.
         """
-        square = self._square(held_of(area), _pose(x, y, theta))
+        pose = _pose(x, y, theta)
+        square = self._square(held_of(area), pose)
         if square is None:
             return math.inf
-        return root_float_below(square * self._cell * self._cell)
+        return root_float_below(square * self._cell * self._cell, self._moved(pose) * self._cell)
 
     def clearance_along(
-        self, area: Map, way: Iterable[Iterable[float]], within: float = 0.125
+        self, area: Map, way: Iterable[Iterable[Real]], within: float = 0.125
     ) -> TightestPose:
         """The least clearance on the way through poses (x, y, theta), and the pose where it was
         found. From one to the next the centre goes straight, and the robot turns evenly, the
         shorter way: obstacles between two poses count.
 
-        The clearance is never more than the least of these, and less by at most `within`, which is
-        in cells: 1/512 or more. The smaller it is, the longer it takes. All poses are answered for
-        the cells as they are when the call starts.
+        The clearance is never more than the least of these, and less by at most `within` and 1/8192
+        of a cell; `within` is in cells, 1/512 or more. The smaller it is, the longer it takes. All
+        poses are answered for the cells as they are when the call starts.
         """
         if not within >= 1 / 512:
             raise ValueError(f"within is {within}, where 1/512 of a cell or more is wanted")
@@ -118,7 +126,7 @@ class Footprint:
 
         def cells(pose: Pose) -> float:
             square = self._square(held, _pose(*pose))
-            return math.inf if square is None else root_float_below(square)
+            return math.inf if square is None else root_float_below(square, self._moved(pose))
 
         found, at = tightest_pose(cells, checked(way), self._outer, within)
         return TightestPose(found if found in (0, math.inf) else self._metres(found), at)
@@ -126,6 +134,11 @@ class Footprint:
     def _metres(self, cells: float) -> float:
         """A clearance in the unit of the points, rounded down."""
         return float_below(Fraction(cells) * self._cell)
+
+    def _moved(self, pose: Pose) -> Fraction:
+        """How far rounding moves a corner at most at this pose, in cells."""
+        is_whole = all((number * STEPS).is_integer() for number in pose[:2])
+        return Fraction(0) if self._is_exact and is_whole and pose[2] == 0 else MOVED
 
     def _square(self, held: Held, pose: Pose) -> Optional[Fraction]:
         """The square of the clearance in cells; None if there is no obstacle."""
@@ -176,7 +189,7 @@ class Footprint:
         return False
 
 
-def _pose(*pose: float) -> Pose:
+def _pose(*pose: Real) -> Pose:
     """A pose of finite numbers."""
     numbers = tuple(map(_number, ("x", "y", "theta"), pose))
     if not all(map(math.isfinite, numbers)):
@@ -185,7 +198,7 @@ def _pose(*pose: float) -> Pose:
     return x, y, theta
 
 
-def _number(name: str, given: float) -> float:
+def _number(name: str, given: Real) -> float:
     """A number of a pose."""
     try:
         return float(given)

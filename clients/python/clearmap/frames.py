@@ -13,20 +13,21 @@ from typing import Iterable, Iterator, List, Sequence, Tuple
 
 from .decimals import Number, exact, float_below, root_below
 from .errors import RosError
-from .footprints import Footprint
+from .framed import FramedFootprint
 from .library import NO_OBSTACLE
-from .requests import CHESS, CITY, EUCLID2, LONGEST_PATH, Cell, whole
+from .requests import CHESS, CITY, EUCLID2, LONGEST_PATH, Cell, Whole, whole
 from .ways import Pose
 
 Point = Tuple[Number, Number]
 
 
-@dataclass(frozen=True)
+@dataclass(frozen=True, init=False)
 class Frame:
     """Where a map lies: its size in cells, metres per cell, and the lower left corner in metres.
 
     Metres are any numbers, taken for the decimals that they are written as. **Row 0 of the cells is
-    the top one**, as in an image; a message of ROS has the lowest row first.
+    the top one**, as in an image; a message of ROS has the lowest row first, and
+    `Map.of_occupancy(data, frame)` turns its rows round.
     """
 
     width: int
@@ -35,11 +36,19 @@ class Frame:
     origin_x: Fraction
     origin_y: Fraction
 
-    def __post_init__(self) -> None:
-        for name in ("width", "height"):
-            object.__setattr__(self, name, whole(getattr(self, name)))
-        for name in ("resolution", "origin_x", "origin_y"):
-            object.__setattr__(self, name, exact(getattr(self, name)))
+    def __init__(
+        self,
+        width: Whole,
+        height: Whole,
+        resolution: Number,
+        origin_x: Number,
+        origin_y: Number,
+    ) -> None:
+        for name, side in (("width", width), ("height", height)):
+            object.__setattr__(self, name, whole(side))
+        metres = ("resolution", resolution), ("origin_x", origin_x), ("origin_y", origin_y)
+        for name, number in metres:
+            object.__setattr__(self, name, exact(number))
         if self.resolution <= 0:
             raise RosError(f"the resolution is {self.resolution}, which isn't above 0")
         if self.width < 1 or self.height < 1:
@@ -50,16 +59,14 @@ class Frame:
         """Columns and rows, as a client takes the size of the map that it expects."""
         return self.width, self.height
 
-    def footprint(self, points: Iterable[Point]) -> Footprint:
+    def footprint(self, points: Iterable[Point]) -> FramedFootprint:
         """A robot's outline as ROS has it: points in metres around its centre, x forward and y to
-        the left. Its poses are those of `pose`, and its clearances are in metres."""
-        return Footprint(
-            ((float(exact(x)), -float(exact(y))) for x, y in points), float(self.resolution)
-        )
+        the left. Its poses and its clearances are in metres too."""
+        return FramedFootprint(self, points)
 
-    def pose(self, x: Number, y: Number, theta: Number) -> Pose:
-        """A robot's pose in metres on the map, its yaw counterclockwise, as a footprint takes it:
-        in cells, y downwards."""
+    def pose_in_cells(self, x: Number, y: Number, theta: Number) -> Pose:
+        """A robot's pose in metres on the map, its yaw counterclockwise, as a `Footprint` takes it:
+        in cells, y downwards. A footprint of this frame wants it in metres."""
         across, down = self.place((x, y))
         return float(across), float(down), -float(exact(theta))
 
@@ -86,33 +93,34 @@ class Frame:
         u, t = self._upwards(point)
         return math.floor(u), self.height - 1 - math.floor(t)
 
-    def centre(self, cell: Cell) -> Tuple[float, float]:
+    def centre(self, cell: Tuple[Whole, Whole]) -> Tuple[float, float]:
         """The centre of a cell, in metres."""
-        x, y = cell
+        x, y = map(whole, cell)
         if not (0 <= x < self.width and 0 <= y < self.height):
             raise RosError(f"the cell ({x}, {y}) isn't on the map")
-        return self.middle(cell)
+        return self.middle((x, y))
 
-    def middle(self, cell: Cell) -> Tuple[float, float]:
+    def middle(self, cell: Tuple[Whole, Whole]) -> Tuple[float, float]:
         """The centre of a cell, in metres, also of one that lies around the map: an obstacle if the
         edge is a wall."""
-        x, y = cell
+        x, y = map(whole, cell)
         half = Fraction(1, 2)
         right = self.origin_x + (x + half) * self.resolution
         up = self.origin_y + (self.height - 1 - y + half) * self.resolution
         return float(right), float(up)
 
-    def metres(self, square: int) -> float:
-        """A `euclid2` distance, which is a square in cells, in metres from centre to centre;
-        rounded down. Infinite for `NO_OBSTACLE`."""
+    def metres(self, square: Whole) -> float:
+        """A `euclid2` distance, which is a square in cells, in metres from middle to middle, rounded
+        down; infinite for `NO_OBSTACLE`. A point of the cell may be nearer: see `free_metres`."""
         return self._length(square, Fraction(0))
 
-    def free_metres(self, square: int) -> float:
-        """The least distance of any point of the queried cell from any point of an obstacle, in
-        metres, given its `euclid2` distance; rounded down. Infinite for `NO_OBSTACLE`."""
+    def free_metres(self, square: Whole) -> float:
+        """Never more than the distance of any point of the queried cell from any point of an
+        obstacle, in metres, given its `euclid2` distance: that less sqrt 2 cells, rounded down, and
+        0 below it. Infinite for `NO_OBSTACLE`."""
         return self._length(square, Fraction(math.isqrt(2 * 10**18) + 1, 10**9))
 
-    def _length(self, square: int, less: Fraction) -> float:
+    def _length(self, square: Whole, less: Fraction) -> float:
         """The root of a `euclid2` distance, less some cells, in metres."""
         number = whole(square)  # an int: numpy's integers overflow
         if number < 0:
@@ -196,15 +204,17 @@ def clear_distance(
     With `whole_cells`, which is the safe reading, the robot's centre may be anywhere in its cell
     and the obstacle anywhere in its own. Without it both are in the middle of their cells, as
     costmaps inflate, and a robot may come nearer than its radius by up to sqrt 2 cells.
+
+    It is 1 at least, for a radius of 0 too: 0 is clear everywhere, through obstacles.
     """
     r, s = exact(radius), exact(resolution)
     if r < 0 or s <= 0:
         raise RosError("a radius is 0 or more, and a resolution above 0")
     n = r / s
     if metric == EUCLID2:  # the square of n, or of n + sqrt 2
-        return least_whole(n * n + 2, 2 * n) if whole_cells else math.ceil(n * n)
+        return least_whole(n * n + 2, 2 * n) if whole_cells else max(math.ceil(n * n), 1)
     if metric == CITY:  # the Euclidean distance may be less than the steps by sqrt 2
-        return least_whole(Fraction(2 if whole_cells else 0), n)
+        return least_whole(Fraction(2), n) if whole_cells else max(least_whole(Fraction(0), n), 1)
     if metric == CHESS:
-        return math.ceil(n) + (1 if whole_cells else 0)
+        return math.ceil(n) + 1 if whole_cells else max(math.ceil(n), 1)
     raise RosError(f"'{metric}' is no metric: euclid2, city or chess")

@@ -4,13 +4,15 @@ from __future__ import annotations
 import io
 import re
 from dataclasses import dataclass
-from typing import Any, List, Sequence, Tuple
+from typing import Any, Callable, Iterable, List, Sequence, Tuple
 
 from .errors import RosError
 from .library import pillow
 from .requests import LARGEST_SIDE
 
 PGM = (b"P2", b"P5")  # plain and raw
+COLOURS = ("RGB", "RGBA", "P", "LA")  # modes of python3-pil that it converts to RGBA as they are
+LEVELS = {"1": 1, "L;2": 3, "L;4": 15}  # the largest sample of a PNG of so few bits
 ENDS = "the PGM image ends before its last sample"
 NO_NUMBER = "the PGM image has something else where a number stands"
 
@@ -114,14 +116,45 @@ def read_image(data: bytes) -> Gray:
 
 
 def gray_of(image: Any) -> Gray:
-    """An image of python3-pil. A colour is as bright as the mean of its three parts, of which the
-    sum is taken; what isn't wholly opaque can be seen through."""
+    """An image of python3-pil, of a mode whose samples are known. A colour is as bright as the mean
+    of its three parts, of which the sum is taken; what isn't wholly opaque can be seen through."""
     width, height = image.size
     if image.mode in ("1", "L"):
-        return Gray(width, height, 255, image.convert("L").tobytes())
-    if image.mode in ("I", "I;16"):
-        return Gray(width, height, 65535, list(image.getdata()))
+        levels = LEVELS.get(str(image.tile[0][3]), 255) if image.format == "PNG" else 255
+        opaque = _opaque_of(image, 255 // levels)
+        samples = image.convert("L").tobytes()
+        return Gray(width, height, 255, samples, opaque(samples))
+    if image.mode in ("I", "I;16") and image.format == "PNG":
+        opaque = _opaque_of(image)
+        numbers = list(image.getdata())
+        return Gray(width, height, 65535, numbers, opaque(numbers))
+    if image.mode not in COLOURS or _is_cut(image):
+        raise RosError(
+            f"the image is a {image.format} of the mode {image.mode}, whose samples aren't known "
+            "here: make it a PGM, or a PNG of 8 bits a sample"
+        )
     pixels = image.convert("RGBA").tobytes()
-    opaque = bytes(part == 255 for part in pixels[3::4])
     sums = [sum(parts) for parts in zip(pixels[::4], pixels[1::4], pixels[2::4])]
-    return Gray(width, height, 3 * 255, sums, b"" if all(opaque) else opaque)
+    return Gray(width, height, 3 * 255, sums, _seen(part == 255 for part in pixels[3::4]))
+
+
+def _opaque_of(image: Any, scale: int = 1) -> Callable[[Iterable[int]], bytes]:
+    """Tells which samples of a gray image are opaque: all but those of its transparent one, which
+    is told in its own levels."""
+    clear = image.info.get("transparency")
+    if clear is None:
+        return lambda samples: b""
+    if not isinstance(clear, int):
+        raise RosError("the image has a transparent sample that is no number")
+    return lambda samples: _seen(sample != clear * scale for sample in samples)
+
+
+def _is_cut(image: Any) -> bool:
+    """Whether a transparent colour is told in 16 bits a part, of which python3-pil keeps eight."""
+    return "transparency" in image.info and image.mode == "RGB" and image.tile[0][3] != "RGB"
+
+
+def _seen(flags: Iterable[bool]) -> bytes:
+    """Flags as `Gray.opaque` has them."""
+    opaque = bytes(flags)
+    return b"" if all(opaque) else opaque

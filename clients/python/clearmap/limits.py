@@ -74,6 +74,11 @@ def _span(dtype: Any, limits: Limits) -> Tuple[Any, Any]:
 
 def _unknown(dtype: Any, unknown: float) -> Any:
     """The number of unknown cells, as one of the dtype."""
+    if unknown != unknown:
+        raise ValueError(
+            "unknown is NaN, which is neither an obstacle nor free: fill such cells first with a "
+            "number of obstacles, as by numpy.nan_to_num(grid, nan=low), and leave unknown out"
+        )
     number = _number(dtype, unknown)
     least, most = _ends(dtype)
     if not least <= number <= most and not (dtype.kind == "f" and abs(number) == math.inf):

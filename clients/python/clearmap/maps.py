@@ -1,6 +1,7 @@
 """A map in bits, which answers what a pin of a server answers, in this process."""
 from __future__ import annotations
 
+import copy
 import ctypes
 import functools
 import math
@@ -8,6 +9,7 @@ from array import array
 from typing import (
     TYPE_CHECKING,
     Any,
+    Dict,
     Iterable,
     List,
     Literal,
@@ -24,8 +26,10 @@ from .grids import EDGES, OPEN, Memory, edge_of, map_of, number_of
 from .images import pbm_map
 from .library import CROOKED, NO_OBSTACLE, Bits, CFound, CNear, check, library, numpy
 from .limits import Limits
-from .occupancy import occupancy_map
-from .requests import EUCLID2, LARGEST_SIDE, LONGEST_PATH, Cell, Near, Request, Tightest, whole
+from .occupancy import lying, occupancy_map
+from .requests import (
+    EUCLID2, LARGEST_SIDE, LONGEST_PATH, Cell, Near, Points, Request, Tightest, Whole, whole,
+)  # fmt: skip
 from .rows import distances_of
 from .signed import NO_BANDS, gradients_of, signed_of
 from .turns import Turn
@@ -35,6 +39,7 @@ if TYPE_CHECKING:
     import numpy as np
     from numpy.typing import NDArray
 
+    from .frames import Frame
     from .rows import Distances, Indices, Nearest, Obstacles
     from .signed import Reals
 
@@ -85,16 +90,21 @@ class Map:
     raise what they raise.
 
     Cells and obstacles are (column, row), where numpy's indices have the row first: cell (x, y) is
-    grid[y, x]. On the frame of a wall either is -1, or one after the last.
+    grid[y, x]. On the frame of a wall either is -1, or one after the last. Row 0 is the top one, as
+    in an image and as a `Frame` has it: cells of ROS, with the lowest row first, become such a map
+    by `Map.of_occupancy(data, frame)`.
 
     Any threads may query, paint and clear one map at any time: a query answers for the cells as
     they are when it starts. `paint` and `clear` copy the map's bits, and wait only for each other;
     a signal's handler may call neither. A child that is forked meanwhile has the cells from before
     or after the change, and its own turn.
 
-    A map can be copied and pickled, and two are equal if their sizes, edges and obstacles are. It
-    has no hash, since it may change.
+    A map can be copied and pickled, with what a subclass keeps besides, and two are equal if their
+    sizes, edges and obstacles are, and both have the same row on top. It has no hash, since it may
+    change.
     """
+
+    _is_upside_down = False
 
     def __init__(
         self,
@@ -127,47 +137,89 @@ class Map:
         """
         return cls._of(packed(pbm_map(image)), edge)
 
+    @overload
+    @classmethod
+    def of_occupancy(
+        cls: Type[M],
+        data: object,
+        frame: Frame,
+        *,
+        edge: str = ...,
+        occupied: Whole = ...,
+        unknown_is_free: bool = ...,
+    ) -> M: ...
+    @overload
     @classmethod
     def of_occupancy(
         cls: Type[M],
         data: object,
         *,
-        width: int,
-        height: int,
+        width: Whole,
+        height: Whole,
+        upwards: bool,
+        edge: str = ...,
+        occupied: Whole = ...,
+        unknown_is_free: bool = ...,
+    ) -> M: ...
+    @classmethod
+    def of_occupancy(
+        cls: Type[M],
+        data: object,
+        frame: Optional[Frame] = None,
+        *,
+        width: Optional[Whole] = None,
+        height: Optional[Whole] = None,
+        upwards: Optional[bool] = None,
         edge: str = OPEN,
-        occupied: int = 65,
+        occupied: Whole = 65,
         unknown_is_free: bool = False,
-        upwards: bool = False,
     ) -> M:
         """A map of an occupancy grid as ROS's message has it: `data` is a list, tuple or array of
-        width times height cells, row after row, each -1 or 0 to 100. Cells from `occupied` on are
-        obstacles, and unknown ones, -1, unless they are said to be free.
+        the cells, row after row with the lowest first, each -1 or 0 to 100. Cells from `occupied`
+        on are obstacles, and unknown ones, -1, unless they are said to be free.
 
-        **Rows stay as they lie**: row 0 is the first of the message, which is the lowest in the
-        world. A `Frame`, and with it `plan_clearance`, has the highest as row 0: for these say
-        `upwards=True`, which turns the rows of the message round.
+        `frame` is where the map lies, with its size: row 0 of the map is the top one, as the
+        frame's. Without a frame say the size, and whether the rows are turned round in the same
+        way: `upwards=True`. With `upwards=False` rows stay as they lie: row 0 of the map is the
+        first of the message, the lowest in the world, and no call takes such a map with a frame.
 
         ValueError for another number of cells, and for a cell that no message has.
         """
-        cells = occupancy_map(data, width, height, occupied, unknown_is_free, upwards)
-        return cls._of(packed(cells), edge)
+        width, height, is_turned = lying(frame, width, height, upwards)
+        cells = occupancy_map(data, width, height, occupied, unknown_is_free, is_turned)
+        made = cls._of(packed(cells), edge)
+        if not is_turned:
+            made._is_upside_down = True
+        return made
+
+    @property
+    def is_upside_down(self) -> bool:
+        """Whether row 0 is the lowest, as of `of_occupancy` with `upwards=False`."""
+        return self._is_upside_down
 
     def copy(self) -> Map:
         """A map of the same cells and edge, which may be painted and cleared."""
-        return Map._of(self._held.memory, self.edge)  # cells that nobody writes
+        made = Map._of(self._held.memory, self.edge)  # cells that nobody writes
+        made._is_upside_down = self._is_upside_down
+        return made
 
     def __copy__(self: M) -> M:
-        return type(self)._of(self._held.memory, self.edge)
+        made = type(self)._of(self._held.memory, self.edge)
+        vars(made).update(carried.others(self))
+        return made
 
-    def __deepcopy__(self: M, memo: object) -> M:
-        return type(self)._of(self._held.memory, self.edge)
+    def __deepcopy__(self: M, memo: Dict[int, Any]) -> M:
+        made = memo[id(self)] = type(self)._of(self._held.memory, self.edge)
+        vars(made).update(copy.deepcopy(carried.others(self), memo))
+        return made
 
     def __reduce__(self) -> Tuple[Any, ...]:
         """A map is pickled with the cells as they are now."""
-        return carried.rebuilt, carried.parts(self)
+        others = carried.others(self)
+        return (carried.rebuilt, carried.parts(self), *([others] if others else []))
 
     def __eq__(self, other: object) -> bool:
-        """Whether sizes, edges and obstacles are the same."""
+        """Whether sizes, edges and obstacles are the same, and the row on top."""
         if not isinstance(other, Map):
             return NotImplemented
         return carried.are_same(self, other)
@@ -201,7 +253,7 @@ class Map:
         held = self._held  # not freed before the call is done
         return int(_call(name)(*held.where, number_of(metric), self._edge, *rest))
 
-    def at(self, x: int, y: int, metric: str = EUCLID2) -> Optional[Near]:
+    def at(self, x: Whole, y: Whole, metric: str = EUCLID2) -> Optional[Near]:
         """As `Pinned.at`."""
         near = self._near(whole(x), whole(y), metric)
         return None if near.dist == NO_OBSTACLE else Near(near.dist, (near.x, near.y))
@@ -215,19 +267,21 @@ class Map:
         check(self._asked("at", metric, x, y, ctypes.byref(near)))
         return near
 
-    def gradient(self, x: int, y: int, metric: str = EUCLID2) -> Optional[Tuple[float, float]]:
+    def gradient(
+        self, x: Whole, y: Whole, metric: str = EUCLID2
+    ) -> Optional[Tuple[float, float]]:
         """The unit vector away from the nearest obstacle of a cell, by columns and by rows; None in
         an obstacle, and if the map has none. Refused as `at` is."""
-        x, y = whole(x), whole(y)  # numpy's small integers would wrap around below
         near = self.at(x, y, metric)
         if near is None or near.distance == 0:
             return None
-        dx, dy = x - near.obstacle[0], y - near.obstacle[1]
+        # Not numpy's own small integers, which would wrap around.
+        dx, dy = whole(x) - near.obstacle[0], whole(y) - near.obstacle[1]
         length = math.sqrt(dx * dx + dy * dy)
         return dx / length, dy / length
 
     def rect(
-        self, x0: int, y0: int, x1: int, y1: int, metric: str = EUCLID2
+        self, x0: Whole, y0: Whole, x1: Whole, y1: Whole, metric: str = EUCLID2
     ) -> Optional[Tightest]:
         """As `Pinned.rect`."""
         number_of(metric)
@@ -236,22 +290,22 @@ class Map:
         check(self._asked("rect", metric, *corners, ctypes.byref(found)))
         return _tightest(found)
 
-    def path(self, points: Iterable[Cell], metric: str = EUCLID2) -> Optional[Tightest]:
+    def path(self, points: Points, metric: str = EUCLID2) -> Optional[Tightest]:
         """As `Pinned.path`."""
         return self._along(None, points, metric)
 
     def clear_of(
-        self, distance: int, points: Iterable[Cell], metric: str = EUCLID2
+        self, distance: Whole, points: Points, metric: str = EUCLID2
     ) -> Optional[Tightest]:
         """As `Pinned.clear_of`."""
         return self._along(whole(distance), points, metric)
 
-    def is_clear(self, distance: int, points: Iterable[Cell], metric: str = EUCLID2) -> bool:
+    def is_clear(self, distance: Whole, points: Points, metric: str = EUCLID2) -> bool:
         """As `Pinned.is_clear`."""
         return self.clear_of(distance, points, metric) is None
 
     def _along(
-        self, distance: Optional[int], points: Iterable[Cell], metric: str
+        self, distance: Optional[int], points: Points, metric: str
     ) -> Optional[Tightest]:
         """PATH without a distance, otherwise CLEAROF."""
         cells = _cells(points)
@@ -276,7 +330,7 @@ class Map:
             0 <= x < width and 0 <= y < height for x, y in cells
         )
 
-    def _corners(self, name: str, *corners: int) -> Tuple[int, ...]:
+    def _corners(self, name: str, *corners: Whole) -> Tuple[int, ...]:
         """The corners x0, y0, x1, y1 of a rectangle that has a cell and is on the map."""
         numbers = tuple(map(whole, corners))
         x0, y0, x1, y1 = numbers
@@ -294,8 +348,10 @@ class Map:
         numbers = [number for cell in cells for number in cell] + [distance or 0]
         if not cells and 0 <= numbers[0] < END:
             return BadPath(8, "BadPath", (), request.line)
-        if not self._has(cells) or not 0 <= numbers[-1] < END:
+        if not self._has(cells):
             return _outside(numbers, request, self._size)
+        if not 0 <= numbers[-1] < END:
+            return _refused(BadArguments, request, f"a distance is 0 to {END - 1}")
         pairs = enumerate(zip(cells, cells[1:]), 1)
         index = next(k for k, (a, b) in pairs if a[0] != b[0] and a[1] != b[1])
         return Crooked(9, "Crooked", (index,), request.line)
@@ -328,25 +384,25 @@ class Map:
         """As the package's `gradients`, of this map and its edge."""
         return gradients_of(self._held.memory, metric, self.edge, inside, threads)
 
-    def grid(self, y0: int = 0, y1: Optional[int] = None) -> NDArray[np.bool_]:
+    def grid(self, y0: Whole = 0, y1: Optional[Whole] = None) -> NDArray[np.bool_]:
         """The cells as an array of bools by rows, True for an obstacle: of rows y0 to y1 - 1, which
         are on the map, else OutOfRange; without y1 up to the last."""
-        end = self.height if y1 is None else whole(y1)
-        _, y0, _, end = self._corners("the rows of", 0, y0, self.width, end)
-        return unpacked(self._held.memory, y0, end)  # type: ignore[no-any-return]
+        last = self.height if y1 is None else y1
+        _, first, _, end = self._corners("the rows of", 0, y0, self.width, last)
+        return unpacked(self._held.memory, first, end)  # type: ignore[no-any-return]
 
     # ---- changes
 
-    def paint(self, x0: int, y0: int, x1: int, y1: int) -> None:
+    def paint(self, x0: Whole, y0: Whole, x1: Whole, y1: Whole) -> None:
         """Makes columns x0 to x1 - 1 of rows y0 to y1 - 1 obstacles, at once. Refused as
         `Client.paint` is for its rectangle."""
         self._draw("PAINT", x0, y0, x1, y1)
 
-    def clear(self, x0: int, y0: int, x1: int, y1: int) -> None:
+    def clear(self, x0: Whole, y0: Whole, x1: Whole, y1: Whole) -> None:
         """Makes them free; refused as `paint` is."""
         self._draw("CLEAR", x0, y0, x1, y1)
 
-    def _draw(self, name: str, *corners: int) -> None:
+    def _draw(self, name: str, *corners: Whole) -> None:
         """Replaces the cells, which queries may still read, by a changed copy."""
         x0, y0, x1, y1 = self._corners(name, *corners)
         first, mask = _mask(x0, x1)
@@ -374,14 +430,19 @@ def _mask(x0: int, x1: int) -> Tuple[int, Any]:
 def _outside(numbers: Iterable[int], request: Request[Any], size: Size) -> Refused:
     """The refusal of a request whose numbers don't fit a line, or whose cells aren't all on the map
     of this size."""
-    refusal: Refused = OutOfRange(1, "OutOfRange", (), request.line)
-    if not all(0 <= number < END for number in numbers):
-        refusal = BadArguments(12, "BadArguments", (), request.line)
-    refusal.cure = extent(size)
+    fits = all(0 <= number < END for number in numbers)
+    return _refused(OutOfRange if fits else BadArguments, request, extent(size))
+
+
+def _refused(kind: Type[Refused], request: Request[Any], cure: str) -> Refused:
+    """A refusal, and what would have been taken."""
+    number = 1 if kind is OutOfRange else 12
+    refusal = kind(number, kind.__name__, (), request.line)
+    refusal.cure = cure
     return refusal
 
 
-def _cells(points: Iterable[Cell]) -> List[Cell]:
+def _cells(points: Points) -> List[Cell]:
     """The points of a path. One of too many is refused before they are read."""
     cells = list(points)
     if len(cells) > LONGEST_PATH:

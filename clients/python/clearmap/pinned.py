@@ -4,7 +4,6 @@ from typing import (
     TYPE_CHECKING,
     Any,
     Callable,
-    Iterable,
     List,
     Literal,
     NoReturn,
@@ -27,12 +26,13 @@ from .requests import (
     LARGEST_DUMP,
     LARGEST_SIDE,
     LONGEST_PATH,
-    Cell,
     Near,
+    Points,
     Queries,
     Request,
     T,
     Tightest,
+    Whole,
     whole,
 )
 
@@ -112,36 +112,37 @@ class Pinned:
 
         return self._exchange(work)
 
-    def at(self, x: int, y: int, metric: str = EUCLID2) -> Optional[Near]:
+    def at(self, x: Whole, y: Whole, metric: str = EUCLID2) -> Optional[Near]:
         """The nearest obstacle of a cell. None if the map has none; OutOfRange for a cell that
         isn't on it. The distance is in cells, with euclid2 a square."""
         return self._ask(requests.at(x, y, metric))
 
     def rect(
-        self, x0: int, y0: int, x1: int, y1: int, metric: str = EUCLID2
+        self, x0: Whole, y0: Whole, x1: Whole, y1: Whole, metric: str = EUCLID2
     ) -> Optional[Tightest]:
         """The first cell, in row-major order, with the least distance in columns x0 to x1 - 1 of
         rows y0 to y1 - 1. None if the map has no obstacle."""
         return self._ask(requests.rect(x0, y0, x1, y1, metric))
 
-    def path(self, points: Iterable[Cell], metric: str = EUCLID2) -> Optional[Tightest]:
+    def path(self, points: Points, metric: str = EUCLID2) -> Optional[Tightest]:
         """The first cell along a path with the least distance. A path has 1 to 1000 points, else
         BadPath, each in the row or column of the one before, else Crooked. None as in `rect`.
         """
         return self._ask(requests.path(points, metric))
 
     def clear_of(
-        self, distance: int, points: Iterable[Cell], metric: str = EUCLID2
+        self, distance: Whole, points: Points, metric: str = EUCLID2
     ) -> Optional[Tightest]:
         """None if each cell of the path has at least this distance, otherwise the first that
-        hasn't: whether the path is clear says `is_clear`. With euclid2 the distance is a square."""
+        hasn't: whether the path is clear says `is_clear`. With euclid2 the distance is a square. 0
+        is clear everywhere, through obstacles too."""
         return self._ask(requests.clear_of(distance, points, metric))
 
-    def is_clear(self, distance: int, points: Iterable[Cell], metric: str = EUCLID2) -> bool:
+    def is_clear(self, distance: Whole, points: Points, metric: str = EUCLID2) -> bool:
         """Whether each cell of the path has at least this distance, as `clear_of` has it."""
         return self.clear_of(distance, points, metric) is None
 
-    def clearance(self, points: Sequence[Cell]) -> float:
+    def clearance(self, points: Sequence[Tuple[Whole, Whole]]) -> float:
         """The Euclidean distance of a path's tightest cell to its nearest obstacle, in cells from
         centre to centre; infinite if the map has none.
 
@@ -159,7 +160,7 @@ class Pinned:
                 least = min(least, math.sqrt(answer.distance))
         return least
 
-    def clearances(self, cells: Iterable[Cell]) -> List[float]:
+    def clearances(self, cells: Points) -> List[float]:
         """For each cell its Euclidean distance to the nearest obstacle, in cells: 0 for an obstacle
         and for a cell that isn't on the map, infinite if the map has none. Sends 64 cells per
         write."""

@@ -7,7 +7,7 @@ from typing import Iterable, Iterator, List, NamedTuple, Optional, Sequence, Tup
 
 from .decimals import Number, exact, root_float_below
 from .errors import RosError
-from .footprints import held_of
+from .framed import held_in
 from .frames import Frame, Point
 from .gaps import nearest
 from .maps import Map
@@ -53,12 +53,10 @@ def plan_clearance(
     `wall` the map's border, less the radius; 0 if it hits. None if there is no obstacle at all.
 
     Row 0 of the map is the top one, as the frame has it. RosError for a map that isn't of the
-    frame's size, and for a point that isn't on it. All segments are answered for the cells as they
-    are when the call starts.
+    frame's size or whose row 0 is the lowest, and for a point that isn't on it. All segments are
+    answered for the cells as they are when the call starts.
     """
-    held = held_of(area)
-    if held.size != frame.size:
-        raise RosError(f"the map has {held.size} cells, and its frame {frame.size}")
+    held = held_in(frame, area)
     robot, points = exact(radius), [frame.place(point) for point in plan]
     if robot < 0:
         raise RosError("a radius is 0 or more")

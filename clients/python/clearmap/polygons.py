@@ -2,7 +2,7 @@
 from __future__ import annotations
 
 import math
-from typing import Iterable, Iterator, List, Sequence, Tuple
+from typing import Iterable, Iterator, List, Sequence, SupportsFloat, Tuple
 
 STEPS = 1 << 16  # of a cell: corners lie on whole steps
 UNIT = 1 << 30  # the length of a direction
@@ -43,7 +43,9 @@ def _chain(ordered: Sequence[Corner]) -> List[Corner]:
 # ---- points as a polygon
 
 
-def outline_of(points: Iterable[Iterable[float]], resolution: float) -> List[Corner]:
+def outline_of(
+    points: Iterable[Iterable[SupportsFloat]], resolution: SupportsFloat
+) -> List[Corner]:
     """The corners of a polygon in steps: `points` divided by `resolution` are cells."""
     cell = float(resolution)
     if not 0 < cell < math.inf:
@@ -61,7 +63,7 @@ def outline_of(points: Iterable[Iterable[float]], resolution: float) -> List[Cor
     return outline
 
 
-def _corner(number: int, point: Iterable[float], cell: float) -> Corner:
+def _corner(number: int, point: Iterable[SupportsFloat], cell: float) -> Corner:
     """A point in steps."""
     x, y = (float(length) / cell for length in point)
     if not (math.isfinite(x) and math.isfinite(y)):

@@ -1,13 +1,25 @@
 """Request lines, what may stand in them, and how their replies are read. Nothing is sent here."""
 import operator
 import re
-from typing import Callable, Generic, Iterable, List, NamedTuple, Optional, Tuple, TypeVar
+from typing import (
+    Callable,
+    Generic,
+    Iterable,
+    List,
+    NamedTuple,
+    Optional,
+    SupportsIndex,
+    Tuple,
+    TypeVar,
+)
 
 from .errors import BadPath, OutOfRange, WrongAnswer
 
 EUCLID2, CITY, CHESS = "euclid2", "city", "chess"
 METRICS = (EUCLID2, CITY, CHESS)
 Cell = Tuple[int, int]
+Whole = SupportsIndex  # what `whole` takes: an int, or an integer of numpy
+Points = Iterable[Tuple[Whole, Whole]]  # cells, as calls take them
 T = TypeVar("T")
 T_co = TypeVar("T_co", covariant=True)
 
@@ -218,37 +230,37 @@ def _line(name: str, *numbers: object) -> str:
     return checked(" ".join([name, *(str(whole(number)) for number in numbers)]))
 
 
-def draw(name: str, x0: int, y0: int, x1: int, y1: int) -> Request[Change]:
+def draw(name: str, x0: Whole, y0: Whole, x1: Whole, y1: Whole) -> Request[Change]:
     """PAINT or CLEAR."""
     return Request(_line(name, x0, y0, x1, y1), _read_change)
 
 
-def stamp(x: int, y: int, image: object) -> Request[Change]:
+def stamp(x: Whole, y: Whole, image: object) -> Request[Change]:
     """STAMP, with the bytes that it counts. What would be refused before them is refused here."""
-    x, y, data = whole(x), whole(y), bytes_of(image)
+    column, row, data = whole(x), whole(y), bytes_of(image)
     if len(data) > LARGEST_DUMP:
         raise ValueError(f"an image of {len(data)} bytes, where {LARGEST_DUMP} are the most")
-    if not (0 <= x < 10**10 and 0 <= y < 10**10):  # else its bytes would be read as lines
-        raise ValueError(f"({x}, {y}) is no cell")
-    line = _line("STAMP", x, y, len(data))
-    if max(x, y) >= LARGEST_SIDE:
+    if not (0 <= column < 10**10 and 0 <= row < 10**10):  # else its bytes would be read as lines
+        raise ValueError(f"({column}, {row}) is no cell")
+    line = _line("STAMP", column, row, len(data))
+    if max(column, row) >= LARGEST_SIDE:
         raise OutOfRange(1, "OutOfRange", (), line)
     return Request(line, _read_change, data)
 
 
-def at(x: int, y: int, metric: str = EUCLID2) -> Request[Optional[Near]]:
+def at(x: Whole, y: Whole, metric: str = EUCLID2) -> Request[Optional[Near]]:
     """AT."""
     return Request(_line(f"AT {metric_of(metric)}", x, y), _read_near)
 
 
 def rect(
-    x0: int, y0: int, x1: int, y1: int, metric: str = EUCLID2
+    x0: Whole, y0: Whole, x1: Whole, y1: Whole, metric: str = EUCLID2
 ) -> Request[Optional[Tightest]]:
     """RECT."""
     return Request(_line(f"RECT {metric_of(metric)}", x0, y0, x1, y1), _read_tightest)
 
 
-def _coordinates(points: Iterable[Cell]) -> List[int]:
+def _coordinates(points: Points) -> List[Whole]:
     """The coordinates of a path. A path that is too long for a line is refused as the server
     refuses it."""
     cells = list(points)
@@ -257,13 +269,13 @@ def _coordinates(points: Iterable[Cell]) -> List[int]:
     return [number for x, y in cells for number in (x, y)]
 
 
-def path(points: Iterable[Cell], metric: str = EUCLID2) -> Request[Optional[Tightest]]:
+def path(points: Points, metric: str = EUCLID2) -> Request[Optional[Tightest]]:
     """PATH."""
     return Request(_line(f"PATH {metric_of(metric)}", *_coordinates(points)), _read_tightest)
 
 
 def clear_of(
-    distance: int, points: Iterable[Cell], metric: str = EUCLID2
+    distance: Whole, points: Points, metric: str = EUCLID2
 ) -> Request[Optional[Tightest]]:
     """CLEAROF."""
     numbers = _coordinates(points)
@@ -277,21 +289,21 @@ class Queries:
     def __init__(self) -> None:
         self._requests: List[Request[object]] = []
 
-    def at(self, x: int, y: int, metric: str = EUCLID2) -> "Queries":
+    def at(self, x: Whole, y: Whole, metric: str = EUCLID2) -> "Queries":
         """As `Pinned.at`."""
         return self._add(at(x, y, metric))
 
-    def rect(self, x0: int, y0: int, x1: int, y1: int, metric: str = EUCLID2) -> "Queries":
+    def rect(
+        self, x0: Whole, y0: Whole, x1: Whole, y1: Whole, metric: str = EUCLID2
+    ) -> "Queries":
         """As `Pinned.rect`."""
         return self._add(rect(x0, y0, x1, y1, metric))
 
-    def path(self, points: Iterable[Cell], metric: str = EUCLID2) -> "Queries":
+    def path(self, points: Points, metric: str = EUCLID2) -> "Queries":
         """As `Pinned.path`."""
         return self._add(path(points, metric))
 
-    def clear_of(
-        self, distance: int, points: Iterable[Cell], metric: str = EUCLID2
-    ) -> "Queries":
+    def clear_of(self, distance: Whole, points: Points, metric: str = EUCLID2) -> "Queries":
         """As `Pinned.clear_of`."""
         return self._add(clear_of(distance, points, metric))
 

@@ -7,7 +7,7 @@ from typing import TYPE_CHECKING, Any, Iterator, NamedTuple, Optional, Tuple
 from .grids import OPEN, edge_of, flat_array, map_of, number_of
 from .library import NO_OBSTACLE, numpy
 from .limits import Limits
-from .requests import EUCLID2, LARGEST_SIDE, whole
+from .requests import EUCLID2, LARGEST_SIDE, Whole, whole
 from .rows import fill, in_bands, shared
 
 if TYPE_CHECKING:
@@ -29,7 +29,7 @@ class _Asked(NamedTuple):
 
 def capped_distances(
     grid: object,
-    cap: int,
+    cap: Whole,
     metric: str = EUCLID2,
     edge: str = OPEN,
     threads: int = 1,
@@ -37,7 +37,7 @@ def capped_distances(
     low: Optional[float] = None,
     high: Optional[float] = None,
     unknown: Optional[float] = None,
-    tile: Optional[int] = None,
+    tile: Optional[Whole] = None,
 ) -> Distances:
     """The distance of each cell of a grid of any size to its nearest obstacle, if it is at most
     `cap`, as an array of uint32. Every other cell is FARTHER: its nearest obstacle is farther than

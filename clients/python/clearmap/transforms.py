@@ -88,7 +88,10 @@ def distance_transform_cdt(
 def _size_of(sampling: Union[None, float, Sequence[float]]) -> float:
     """The one size of a cell."""
     np = numpy()
-    sizes = np.asarray(1.0 if sampling is None else sampling, dtype=np.float64)
+    given = np.asarray(1.0 if sampling is None else sampling)
+    if given.dtype.kind not in "iuf":
+        raise TypeError(f"sampling is {sampling!r:.80}, where a number or two are wanted")
+    sizes = given.astype(np.float64)
     if sizes.shape not in ((), (2,)):
         raise ValueError(f"sampling is one size or two, and not {sampling!r:.80}")
     for one in sizes.flat:

@@ -2,7 +2,7 @@
 from __future__ import annotations
 
 import math
-from typing import Callable, Iterable, List, NamedTuple, Tuple
+from typing import Callable, Iterable, List, NamedTuple, SupportsFloat, Tuple
 
 Pose = Tuple[float, float, float]
 LOOSE = 2.0**-13  # cells: twice as far as rounding moves a corner
@@ -60,6 +60,6 @@ def _middle(start: Pose, end: Pose) -> Pose:
     return x, y, start[2] + _turned(start, end) / 2
 
 
-def checked(poses: Iterable[Iterable[float]]) -> List[Pose]:
+def checked(poses: Iterable[Iterable[SupportsFloat]]) -> List[Pose]:
     """Poses as tuples of three floats."""
     return [(x, y, theta) for x, y, theta in (map(float, pose) for pose in poses)]
