@@ -447,7 +447,8 @@ public:
     }
 
     /// Whether a cell is on the map and free, and its Euclidean distance to the nearest obstacle in
-    /// cells: 0 for a cell that isn't on the map, infinite if the map has none.
+    /// cells, from middle to middle: 0 for a cell that isn't on the map, infinite if the map has
+    /// none.
     /// A cell is two integers: Frame::cell gives that of a point in metres.
     [[nodiscard]] bool is_valid(detail::Whole x, detail::Whole y, double& clearance) const {
         clearance = 0;

@@ -38,8 +38,8 @@ public:
     }
 
     /// The same in metres, from middle to middle, for a point in metres, which may be nearer by up
-    /// to sqrt(2) cells: 0 for one outside. Throws std::invalid_argument if the frame's size differs
-    /// from the map's, and for a map whose row 0 is the lowest.
+    /// to sqrt(2) cells: 0 for one outside. Throws std::invalid_argument if the frame's size
+    /// differs from the map's, and for a map whose row 0 is the lowest.
     double metres(const Frame& frame, double x, double y) const {
         detail::check_frame(frame, map());
         auto cell = frame.cell(x, y);

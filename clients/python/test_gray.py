@@ -1,6 +1,6 @@
 #!/usr/bin/env python3
-"""Tests of the images of maps that python3-pil reads, which they need: the samples of each kind, and
-which kinds are refused."""
+"""Tests of the images of maps that python3-pil reads, which they need: the samples of each kind,
+and which kinds are refused."""
 import io
 import struct
 import unittest

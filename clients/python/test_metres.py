@@ -1,7 +1,7 @@
 #!/usr/bin/env python3
-"""Tests of what is asked in metres: in which order a map's rows lie, footprints of a frame, and what
-is free in any case. They need numpy and the library. ARRAYS in the environment is how many random
-maps are tried, 150 where it isn't there.
+"""Tests of what is asked in metres: in which order a map's rows lie, footprints of a frame, and
+what is free in any case. They need numpy and the library. ARRAYS in the environment is how many
+random maps are tried, 150 where it isn't there.
 """
 import copy
 import math
@@ -183,7 +183,7 @@ class Footprints(unittest.TestCase):
 
 class Free(unittest.TestCase):
     def test_never_more(self):
-        """No point of a cell is nearer than `free_metres` tells, where `metres` is more for most."""
+        """No point of a cell is nearer than `free_metres` tells; `metres` is more for most."""
         chance, above, points = random.Random(5), 0, 0
         for _ in range(ARRAYS):
             frame = random_frame(chance)

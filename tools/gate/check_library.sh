@@ -183,9 +183,9 @@ says() { # says WHAT WORDS PROGRAM ..: runs a program of the page, which says so
     try "$what" env LD_LIBRARY_PATH="$prefix/lib" "$@"
     [ "$(cat "$scratch/log")" = "$words" ] || { failed=1; echo "$what should say: $words"; }
 }
-python_says='clearance 0.250 m, nearest (7, 4)'
-c_says="$python_says; the path is clear"
-cpp_says='the path is clear: 0.751665 m at its tightest; 1.5 m at (2, 2)'
+python_says='0.179 m free in any case, nearest (7, 4)'
+c_says='0.250 m from middle to middle, nearest (7, 4); the path is clear'
+cpp_says='the path is clear: 0.680954 m free at its tightest; 0.929289 m free at (2.5, 2)'
 
 if wants pkg-config "the page's programs by pkg-config"; then
     found=$(PKG_CONFIG_PATH=$prefix/share/pkgconfig pkg-config --cflags --libs libclearmap)

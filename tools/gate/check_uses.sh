@@ -1,8 +1,8 @@
 #!/bin/sh
 # Tries which uses of the library's headers compile, and which are refused with a message: bytes of
-# another size, or whose order of rows nobody says, cells and distances that aren't integers, a metric
-# in place of an edge, parts of a temporary, and statuses and answers that nobody looks at. All by
-# each compiler that is installed, with warnings as errors.
+# another size, or without the order of their rows, cells and distances that aren't integers, a
+# metric in place of an edge, parts of a temporary, and statuses and answers that nobody looks at.
+# All by each compiler that is installed, with warnings as errors.
 set -u
 cd "$(dirname "$0")/../.." || exit 1
 scratch=$(mktemp -d)

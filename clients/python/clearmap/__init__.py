@@ -24,17 +24,21 @@ the loopback interface of its machine only.
 In process, over an array of numpy:
 
     squares = clearmap.distances(grid, low=65)      # uint32; an obstacle is a cell of 65 and more
-    area = clearmap.Map(grid, low=65, unknown=-1)   # or one of -1, as an occupancy grid has them
+    area = clearmap.Map(grid, low=65, unknown=-1)   # or one of -1; row 0 is the top one
     near = area.at(3, 4)                            # answers as a pin's
 
 Over a map of ROS, in metres:
+
+    frame = clearmap.Frame(640, 480, 0.05, -8, -5.5)        # cells, metres a cell, and the origin
+    area = clearmap.Map.of_occupancy(message.data, frame)   # rows as ROS has them: the lowest first
+    room = frame.free_metres(area.at(*frame.cell((-5.97, 1.98))).distance)  # never more than that
 
     house = clearmap.read_map("house.yaml")         # the yaml, and the image that it names
     area, frame = house.map(), house.frame          # unknown cells are obstacles
     limit = clearmap.clear_distance("0.22", frame.resolution)
     free = area.is_clear(limit, [frame.cell((-5.97, 1.98))])
     robot = frame.footprint([(0.3, 0.2), (-0.3, 0.2), (-0.3, -0.2), (0.3, -0.2)])
-    near = robot.clearance(area, *frame.pose(-5.97, 1.98, 0.5))     # 0 if it hits
+    near = robot.clearance(area, -5.97, 1.98, 0.5)  # metres, and the yaw; 0 if it hits
     room = clearmap.plan_clearance(area, frame, [(-5.97, 1.98), (-1.87, 1.83)], radius=0.22)
 
 From other machines, through Redis, where `clearmap-publish` puts each version:
@@ -73,6 +77,7 @@ from .errors import (
 from .followed import FixedMap, Version
 from .follower import Follower
 from .footprints import Footprint
+from .framed import FramedFootprint
 from .frames import Frame, clear_distance
 from .grids import OPEN, WALL
 from .library import NO_OBSTACLE, NOWHERE
@@ -115,6 +120,7 @@ __all__ = [
     "Version",
     "FixedMap",
     "Footprint",
+    "FramedFootprint",
     "TightestPose",
     "RosMap",
     "read_map",

@@ -110,8 +110,8 @@ class Frame:
         return float(right), float(up)
 
     def metres(self, square: Whole) -> float:
-        """A `euclid2` distance, which is a square in cells, in metres from middle to middle, rounded
-        down; infinite for `NO_OBSTACLE`. A point of the cell may be nearer: see `free_metres`."""
+        """A `euclid2` distance, a square in cells, in metres from middle to middle, rounded down;
+        infinite for `NO_OBSTACLE`. A point of the cell may be nearer: see `free_metres`."""
         return self._length(square, Fraction(0))
 
     def free_metres(self, square: Whole) -> float:

@@ -153,9 +153,9 @@ def distances(
     is the square of the Euclidean distance in cells, from middle to middle, `city` and `chess`
     count steps. Each cell is NO_OBSTACLE if there is no obstacle at all.
 
-    **Before you compute with them, convert them**, as by `.astype(numpy.int64)`: uint32 knows
-    nothing below 0, so that `found - 36 > 0` is True of each but 36, and NO_OBSTACLE + 1 is 0.
-    `found > 36` is right as it is.
+    **Before you compute with them, convert them**, as by `found.astype(numpy.int64)`: uint32 knows
+    nothing below 0, so that `found - 36 > 0` is True of each but 36, and `found + 1` is 0 where it
+    is NO_OBSTACLE. `found > 36` is right as it is.
 
     A grid is an array of 2 dimensions with 1 to 4096 rows and as many columns, of any memory order.
     Of bools, True is an obstacle. Of numbers, a cell is an obstacle if low <= cell <= high; at

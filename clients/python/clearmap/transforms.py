@@ -28,8 +28,9 @@ def distance_transform_edt(
     threads: int = 1,
 ) -> Any:
     """scipy.ndimage.distance_transform_edt of an array of 2 dimensions: the Euclidean distance of
-    each nonzero cell to the nearest zero, as float64, and with `return_indices` the row and the
-    column of that zero, as int32 of the shape (2, rows, columns). Both if both are asked for.
+    each nonzero cell to the nearest zero, from middle to middle, as float64, and with
+    `return_indices` the row and the column of that zero, as int32 of the shape (2, rows, columns).
+    Both if both are asked for.
 
     As in scipy, results are written to the arrays `distances` and `indices` where these are given,
     and aren't returned then: None is, if nothing else is left. Arrays of another shape or dtype
