@@ -234,6 +234,10 @@ static void places_of_no_numbers() {
         CHECK(is_invalid([&] { Footprint other({{0, 0}, {1, 0}, {0, 1}}, wrong); }));
     }
     CHECK(field.metres(frame, 0.75, 0.25) == 0 && field.metres(frame, -0.75, 0.25) == 1.5);
+    for (Metric metric : {Metric::euclid2, Metric::city, Metric::chess}) {
+        const double none = Field(Map({8, 6}), metric).free_metres(frame, 0, 0);
+        CHECK(detail::bits(none) == detail::infinite_bits);
+    }
     CHECK(robot.hits(map, frame, 0.75, 0.25, 0) && robot.is_clear(map, frame, 2.5, 1.5, 3));
 }
 
