@@ -1435,4 +1435,6 @@ private:
 
 }  // namespace clearmap
 
+#undef CLEARMAP_CONSTEXPR
+
 #endif
