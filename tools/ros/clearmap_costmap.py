@@ -17,7 +17,7 @@ import clearmap
 from clearmap_grid import Grid
 from clearmap import Frame, RosError
 from clearmap.decimals import Number, exact
-from tables import by_program
+from clearmap.runs import by_program
 
 if TYPE_CHECKING:
     from numpy.typing import NDArray

@@ -6,7 +6,7 @@ from clearmap_costmap import Inflation
 from clearmap_feed import Feed
 from clearmap_follow import Follower, Shown, pause_of
 from clearmap_messages import LAYERS, Kinds, Painter
-from tables import no_library
+from clearmap.runs import no_library
 
 FREQUENCY = 5.0  # looks a second
 

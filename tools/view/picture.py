@@ -19,7 +19,6 @@ if TYPE_CHECKING:
     Cells = NDArray[numpy.bool_]
 
 SIDE = 512  # numbers of a piece's side
-HEAD = 16  # bytes that have an image's sides, at least
 OBSTACLE, UNKNOWN = 0, 1
 FAR = 2**31 - 1  # what a piece has for NO_OBSTACLE
 
@@ -76,12 +75,6 @@ class Picture:
 
 
 # ---- images as a server dumps them
-
-
-def size_of(image: bytes) -> Tuple[int, int]:
-    """The width and the height of a plain PBM image, as a server dumps it."""
-    width, height = image[:HEAD].split(b"\n", 2)[1].split()
-    return int(width), int(height)
 
 
 def bits_of(image: bytes) -> "Cells":
