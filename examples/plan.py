@@ -3,6 +3,7 @@
 
     plan.py MAP.yaml PORT, with a point X Y on each line of standard input
 """
+import math
 import pathlib
 import sys
 
@@ -22,6 +23,7 @@ def main(yaml, port):
     tightest = min(found, key=lambda it: it.distance)
     x, y = frame.centre(tightest.cell)
     metres, free = frame.metres(tightest.distance), frame.free_metres(tightest.distance)
+    free = math.floor(free * 1000) / 1000  # down: a robot may need it all
     print(f"{metres:.3f} m at ({x:.3f}, {y:.3f}), and {free:.3f} m free in any case")
 
 

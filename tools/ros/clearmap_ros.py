@@ -9,6 +9,7 @@ import argparse
 import math
 import pathlib
 import sys
+from fractions import Fraction
 from typing import Iterator, List, Sequence
 
 HERE = pathlib.Path(__file__).resolve().parent
@@ -18,7 +19,7 @@ sys.path[:0] = [str(folder) for folder in FOLDERS if folder.is_dir()]
 from clearmap import OPEN, WALL, Frame, RosError, clear_distance, plan_clearance, read_map
 from clearmap import RosMap as Map
 from clearmap import read_plan, read_poses
-from clearmap.decimals import Number, exact, root_below
+from clearmap.decimals import Number, exact, float_below, root_below
 from clearmap.frames import Point, corners, pieces, query_lines
 from clearmap.gray import Gray, read_image, read_pgm
 from clearmap.requests import METRICS
@@ -46,11 +47,13 @@ def pbm(rows: Sequence[Sequence[bool]]) -> bytes:
 
 
 def down(metres: float) -> str:
-    """Metres with six digits after the point, rounded down, but that what a float lacks to the next
-    picometre is none."""
+    """Metres that were rounded down to a float, with six digits after the point, rounded down; the
+    next decimal where its float is the same."""
     if metres == math.inf:
         return "inf"
-    micrometres = math.floor(exact(f"{metres:.12f}") * 10**6)
+    micrometres = math.floor(Fraction(metres) * 10**6)
+    if float_below(Fraction(micrometres + 1, 10**6)) == metres:
+        micrometres += 1
     return f"{micrometres // 10**6}.{micrometres % 10**6:06d}"
 
 
@@ -112,6 +115,13 @@ def answer(options: argparse.Namespace) -> Iterator[str]:
         yield from query_lines(command, path)
 
 
+def whole(word: str) -> int:
+    """A whole number of the command line: digits alone, where int takes more."""
+    if not (word.isascii() and word.removeprefix("-").isdecimal()):
+        raise argparse.ArgumentTypeError(f"'{word}' is no whole number")
+    return int(word)
+
+
 def parser() -> argparse.ArgumentParser:
     """The command line."""
     top = argparse.ArgumentParser(prog="clearmap-ros", description="Maps and plans of ROS for clearmap: map.yaml and its image to PBM, metres to cells and back.")
@@ -125,9 +135,9 @@ def parser() -> argparse.ArgumentParser:
     add("pbm", "write the map as PBM; unknown cells are obstacles").add_argument("--unknown-is-free", action="store_true", help="unknown cells are free, which isn't safe for a planner")
     for name, text in (("cell", "the cell of a point in metres"), ("centre", "the middle of a cell, in metres")):
         command = add(name, text)
-        command.add_argument("x", type=str if name == "cell" else int, help="metres to the right" if name == "cell" else "the column")
-        command.add_argument("y", type=str if name == "cell" else int, help="metres upwards" if name == "cell" else "the row, from the top")
-    add("metres", "a euclid2 distance in metres").add_argument("square", type=int, help="the distance, a square in cells")
+        command.add_argument("x", type=str if name == "cell" else whole, help="metres to the right" if name == "cell" else "the column")
+        command.add_argument("y", type=str if name == "cell" else whole, help="metres upwards" if name == "cell" else "the row, from the top")
+    add("metres", "a euclid2 distance in metres").add_argument("square", type=whole, help="the distance, a square in cells")
     add("radius", "the d of CLEAROF for a robot's radius in metres").add_argument("metres", help="the radius")
     add("path", "query lines along a plan: X Y in metres, a point a line, on standard input").add_argument("--radius", help="ask by CLEAROF for a robot of this radius in metres, against whole cells")
     add_clearance(add("clearance", "how far a plan keeps from obstacles: X Y in metres, a point a line, on standard input"))

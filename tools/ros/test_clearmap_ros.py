@@ -5,6 +5,7 @@ import io
 import math
 import os
 import pathlib
+import random
 import subprocess
 import sys
 import tempfile
@@ -427,9 +428,53 @@ class Commands(unittest.TestCase):
             self.assertEqual((refused.returncode, refused.stdout), (1, b""))
             self.assertIn(b"isn't on the map", refused.stderr)
             self.assertEqual(self.run_words("pbm", yaml.with_name("no.yaml")).returncode, 1)
+            refused = self.run_words("pbm", yaml.with_name("map.pgm"))
+            self.assertIn(b"is an image: name its map.yaml", refused.stderr)
+            self.assertEqual((refused.returncode, refused.stdout), (1, b""))
             if program := os.environ.get("CLEARMAP"):
                 read = subprocess.run([program, "dist", "--metric", "city"], input=written, capture_output=True, timeout=60)
                 self.assertEqual(read.stdout, b"0 0 1 1\n1 1 1 0\n0 0 0 1\n")
+
+
+    def test_whole_words(self):
+        """A word is read whole, or refused."""
+        with tempfile.TemporaryDirectory() as folder:
+            yaml = pathlib.Path(folder, "map.yaml")
+            yaml.write_text(YAML)
+            pathlib.Path(folder, "map.pgm").write_bytes(raw(SAMPLES))
+            for words in (
+                ("metres", "3_4"), ("metres", "34x"), ("metres", "3.4"), ("metres", "\u0663"),
+                ("centre", "0,1", "0"), ("centre", "1/2", "0"), ("cell", "0,81", "-1.86"),
+                ("radius", "0,22"), ("radius", "0.22m"), ("radius", "1/"), ("radius", "0x1"),
+            ):  # fmt: skip
+                refused = self.run_words(words[0], yaml, *words[1:])
+                self.assertEqual(refused.stdout, b"", words)
+                self.assertIn(refused.returncode, (1, 2), words)
+                self.assertRegex(refused.stderr.decode(), "is no (whole )?number", words)
+            for word in ("1/20", "0.05", "5e-2"):
+                self.assertIn(b"euclid2 6 ", self.run_words("radius", yaml, word).stdout)
+
+    def test_metres_go_down(self):
+        """What is printed is never more than a length whose float was rounded down, and it is the
+        length itself where six digits say it."""
+        draw = random.Random(17)
+        for _ in range(3000):
+            length = Fraction(draw.randrange(10**9), 10 ** draw.choice((3, 6, 7, 9, 15, 22)))
+            told = Fraction(ros.down(ros.float_below(length)))
+            if (length * 10**6).denominator == 1:
+                self.assertEqual(told, length)
+            self.assertTrue(length - Fraction(1, 10**6) < told <= length, length)
+
+
+class Images(unittest.TestCase):
+    def test_an_image_for_a_map(self):
+        """It is refused with the cure, of whatever kind it is."""
+        with tempfile.TemporaryDirectory() as folder:
+            for number, image in enumerate((raw(SAMPLES), b"P2 1 1 1 0", b"\x89PNG\r\n", b"GIF89a", b"II*\0")):
+                path = pathlib.Path(folder, f"{number}.pgm")
+                path.write_bytes(image)
+                with self.assertRaisesRegex(ros.RosError, "is an image: name its map.yaml"):
+                    ros.read_map(path)
 
 
 if __name__ == "__main__":

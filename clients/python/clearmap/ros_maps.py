@@ -3,6 +3,7 @@ from __future__ import annotations
 
 import math
 import pathlib
+import re
 from dataclasses import dataclass
 from fractions import Fraction
 from itertools import chain
@@ -18,6 +19,7 @@ from .requests import chosen
 from .settings import Settings, read_settings
 
 UNKNOWN = 255  # what map_server publishes for an unknown cell, as a byte
+IMAGE = re.compile(rb"P[1-6]\s|\x89PNG|BM.{4}\0|GIF8|II\*\0|MM\0\*|\xff\xd8", re.DOTALL)
 
 
 def value_of(share: Fraction, settings: Settings) -> int:
@@ -99,7 +101,10 @@ def read_map(path: Union[str, pathlib.Path]) -> RosMap:
     """The map that a `map.yaml` names; its image is next to it, unless its path is absolute."""
     yaml = pathlib.Path(path)
     try:
-        settings = read_settings(yaml.read_text(encoding="utf-8"))
+        text = yaml.read_bytes()
+        if IMAGE.match(text):
+            raise RosError(f"'{path}' is an image: name its map.yaml, which says where it lies")
+        settings = read_settings(text.decode("utf-8"))
         image = read_image((yaml.parent / settings.image).read_bytes())
     except (OSError, UnicodeDecodeError) as fault:
         raise RosError(f"a file of the map can't be read: {fault}") from None
