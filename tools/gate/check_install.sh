@@ -165,6 +165,12 @@ import clearmap, clearmap.library as it
 it.library()
 print(it._found(), clearmap.distances([[True, False, False]]).tolist())')" \
             "$usr/lib/libclearmap.so.1 [[0, 1, 4]]"
+        for part in "$usr"/share/clearmap/python/clearmap_*.py; do
+            part=$(basename "$part" .py)
+            [ "$part" = clearmap_ros2_node ] && continue # which wants ROS 2
+            expect "$part by itself" "$(cd "$scratch" && PYTHONPATH=$usr/share/clearmap/python \
+                "$arrays" -c "import $part; print($part.__name__)" 2>&1)" "$part"
+        done
     else
         echo 'the package in process left out: there is no python3 with numpy'
     fi

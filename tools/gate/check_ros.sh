@@ -22,12 +22,13 @@ images=$(tools/python_with PIL.Image)
 tried "${images:-python3}" tools/ros/test_clearmap_ros.py
 tried "${images:-python3}" tools/ros/test_clearance_command.py
 tried python3 tools/ros/test_clearmap_grid.py
+tried python3 tools/ros/test_clearmap_order.py
 
 # Costmaps, with the built library or the one that CLEARMAP_LIBRARY names.
 library=${CLEARMAP_LIBRARY:-crates/libclearmap/out/libclearmap.so.1}
 arrays=$(tools/python_with numpy, PIL.Image)
 if [ -n "$arrays" ] && [ -e "$library" ]; then
-    for test in costmap follow ros2_node; do
+    for test in answers costmap follow ros2_node; do
         tried "$arrays" "tools/ros/test_clearmap_$test.py"
     done
 else

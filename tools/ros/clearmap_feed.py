@@ -7,20 +7,43 @@ not be put, a plan has no answer before the server has each obstacle of what the
 """
 import contextlib
 import math
-import subprocess
 import threading
 from dataclasses import dataclass
-from typing import Callable, Generic, List, Optional, Sequence, Tuple, TypeVar
+from typing import TYPE_CHECKING, Callable, Generic, List, Optional, Sequence, Tuple, TypeVar
 
 import clearmap
 import clearmap_grid as grids
 from clearmap_grid import Place
+from clearmap_server import start_server
 from clearmap import Frame, RosError
 from clearmap.frames import Point, pieces
 
+if TYPE_CHECKING:
+    from clearmap_server import Process
+
 T = TypeVar("T")
 PATIENCE = 10.0  # seconds for a reply
-CONNECTIONS = "1000000"
+TRIES = 10  # of a publish, where others change the draft meanwhile
+
+
+def port_of(port: object) -> int:
+    """A parameter that is a server's port; 0 to start a server."""
+    if type(port) is not int or not 0 <= port <= 65535:
+        raise RosError(f"'{port}' is no port: 1 to 65535, or 0 for a server of the node's own")
+    return port
+
+
+def edge_of(edge: object) -> str:
+    """A parameter that is what the border of a map is, on a server of the node's own."""
+    if edge not in (clearmap.OPEN, clearmap.WALL):
+        raise RosError(f"'{edge}' is no edge: open or wall")
+    return str(edge)
+
+
+def sentence_of(fault: Exception) -> str:
+    """Why something failed: what an error of clearmap's says, and of others their kind too."""
+    kind = "" if isinstance(fault, clearmap.ClearmapError) else type(fault).__name__ + " "
+    return f"{kind}{fault}"
 
 
 @dataclass(frozen=True)
@@ -53,13 +76,12 @@ class Feed:
         self.port, self._given, self.program, self._edge = port, port != 0, program, edge
         self._checkpoints = checkpoints or not self._given
         self._lock = threading.Lock()
-        self._server: Optional["subprocess.Popen[bytes]"] = None
+        self._server: Optional["Process"] = None
         self._client: Optional[clearmap.Client] = None
         self._said: Optional[Tuple[grids.Grid, Place]] = None  # what the topics said last
-        self._is_refused = False  # whether their last message couldn't be read
-        self._served: Optional[grids.Grid] = None  # what was put on this connection's server
-        self._covered: Optional[grids.Grid] = None  # the last whose obstacles are known to be there
-        self._is_half_put = self._given  # whether a draft may have what nobody published
+        self._is_refused = False  # whether it isn't known what they said
+        self._served: Optional[grids.Grid] = None  # what this connection's server is known to have
+        self._settled: Optional[int] = None  # the place at which the draft was the newest version
         self._kept: Optional[grids.Grid] = None  # what a server of one's own is started with
         self._connections, self._is_closed = 0, False
         self.place: Optional[Place] = None
@@ -76,11 +98,7 @@ class Feed:
         if server is not None:
             server.kill()
         with self._lock:
-            self._lose()
-            if self._server is not None:
-                self._server.kill()
-                self._server.wait()
-                self._server = None
+            self._end_server()
 
     def keep(self, grid: grids.Grid, place: Place) -> None:
         """Takes a map that isn't put: a given server has it, with what painters did, and a server
@@ -114,8 +132,8 @@ class Feed:
             return self._tried(self._put)
 
     def refuse(self) -> None:
-        """Takes note of a map or an update that can't be read. What the topics say isn't known up
-        to the next map, and no plan is answered."""
+        """Takes note of a map or an update that can't be read, or of an order that can't be told.
+        What the topics say isn't known up to the next map, and no plan is answered."""
         with self._lock:
             self._is_refused = True
 
@@ -123,8 +141,11 @@ class Feed:
         self, known: Optional[Newest[T]], find: Callable[[clearmap.Pinned], T]
     ) -> Optional[Newest[T]]:
         """What is found of the newest version, unless that is known and its map lies as before;
-        then, or if no map has come yet, None."""
+        then, or if no map has come yet, None. While the last map isn't put it isn't known where the
+        newest version lies, which is refused."""
         with self._lock:
+            if self._said is not None and self._said[1] is not self.place:
+                raise RosError("the last map isn't put, so it isn't known where the served one lies")
             return self._tried(lambda: self._newer(known, self.place, find))
 
     def clearance(self, plan: Sequence[Point], frame_id: Optional[str] = None) -> Clearance:
@@ -164,7 +185,15 @@ class Feed:
     def _lose(self) -> None:
         if self._client is not None:
             self._client.close()
-        self._client, self._served, self._covered = None, None, None
+        self._client, self._served, self._settled = None, None, None
+
+    def _end_server(self) -> None:
+        """Leaves the server, and ends one of one's own."""
+        self._lose()
+        if self._server is not None:
+            self._server.kill()
+            self._server.wait()
+            self._server = None
 
     def _connected(
         self, size: Tuple[int, int], grid: Optional[grids.Grid] = None
@@ -188,40 +217,31 @@ class Feed:
     def _start(self, grid: Optional[grids.Grid]) -> None:
         if grid is None:
             raise clearmap.ConnectionLost("the server has ended; the next map starts another")
-        words = [self.program, "serve", "--connections", CONNECTIONS, "--port", "0"]
-        words += ["--edge", self._edge]
+        self._server, self.port = start_server(self.program, self._edge, grid.pbm())
+        self._settled = 0  # the first command's place is 1
+
+    def _fitting(self, grid: grids.Grid, starts: bool) -> clearmap.Client:
+        """The connection to a server whose map has a grid's size. With `starts` one of one's own is
+        started with the grid, if it has ended or has a map of another size."""
         try:
-            server = subprocess.Popen(words, stdin=subprocess.PIPE, stdout=subprocess.PIPE)
-        except OSError as fault:
-            raise RosError(f"the program '{self.program}' can't be run: {fault.strerror}") from None
-        assert server.stdin is not None and server.stdout is not None
-        try:
-            with server.stdin:
-                server.stdin.write(grid.pbm())
-        except BrokenPipeError:
-            pass  # what it prints says why
-        said = server.stdout.readline().split()
-        server.stdout.close()
-        if len(said) != 2 or said[0] != b"LISTENING":
-            server.kill()
-            server.wait()
-            line = b" ".join(said).decode("ascii", "replace")
-            raise RosError(f"'{self.program} serve' said '{line}'")
-        self._server, self.port, self._is_half_put = server, int(said[1]), False
+            return self._connected(grid.size, grid if starts else None)
+        except clearmap.WrongMap as other:
+            if self._given or not starts:
+                sizes = "the map has %d by %d cells, and that of the server %d by %d"
+                said = sizes % (*grid.size, *other.served)
+                raise RosError(f"{said}: it isn't put") from None
+        self._end_server()
+        return self._connected(grid.size, grid)
 
     def _put(self, starts: bool = True) -> str:
         """Puts what the topics said last; with `starts` on a new server of one's own, if the last
-        one has ended."""
+        one has ended, or its map has another size."""
         assert self._said is not None
         grid, place = self._said
-        try:
-            client = self._connected(grid.size, grid if starts else None)
-        except clearmap.WrongMap as other:
-            sizes = "the map has %d by %d cells, and that of the server %d by %d"
-            raise RosError(sizes % (*grid.size, *other.served) + ": it isn't put") from None
+        client = self._fitting(grid, starts)
         before = self._served if self._served is not None else self._dumped(client)
         said = self._change(client, before, grid)
-        self._served, self._covered, self.place = grid, grid, place
+        self._served, self.place = grid, place
         return said
 
     def _cover(self) -> None:
@@ -229,12 +249,11 @@ class Feed:
         missing, as on a server that was restarted, that is put."""
         assert self._said is not None
         grid, place = self._said
-        served = self._dumped(self._connected(grid.size))
-        if grid.is_within(served):
-            self._covered, self.place = grid, place
-        else:
-            self._served = served
-            self._put(starts=False)
+        if self._served is None or not grid.is_within(self._served):
+            self._served = self._dumped(self._connected(grid.size))
+            if not grid.is_within(self._served):
+                self._put(starts=False)
+        self.place = place
 
     @staticmethod
     def _dumped(client: clearmap.Client) -> grids.Grid:
@@ -243,29 +262,47 @@ class Feed:
             return grids.grid_of_dump(pinned.dump())
 
     def _change(self, client: clearmap.Client, before: grids.Grid, grid: grids.Grid) -> str:
-        """Stamps and publishes what differs from the newest version; the whole map where the draft
-        may have another one, as at first, or after a publish that was refused or had no reply."""
-        area = before.changed(grid)
-        if area is None:
-            if self._is_half_put:
-                self._clean(client)
-            return "nothing changed"
-        stamped = grids.Area(0, 0, *grid.size) if self._is_half_put else area
+        """Stamps and publishes what differs from the grid before. Where others gave commands
+        meanwhile, which may have taken a part of it back, goes by what the server then dumps."""
+        area, wanted, said = before.changed(grid), grid, "nothing changed"
+        if area is None and self._settled is None:
+            self._clean(client)
+        for _ in range(TRIES):
+            if area is None:
+                return said
+            said, is_alone = self._publish(client, area, wanted)
+            if is_alone:
+                return said
+            served = self._dumped(client)
+            wanted = grid.with_others(before, served)
+            area = served.changed(wanted)
+        if area is not None:
+            raise RosError("others take back what is put, again and again")
+        return said
+
+    def _publish(
+        self, client: clearmap.Client, area: grids.Area, grid: grids.Grid
+    ) -> Tuple[str, bool]:
+        """Stamps and publishes an area; the whole map where the draft may have another one, as at
+        first, or after a publish that was refused or had no reply. Says what was done, and whether
+        nobody else can have changed what is published since it was known."""
+        settled = self._settled
+        stamped = grids.Area(0, 0, *grid.size) if settled is None else area
         corner, image = (stamped.x0, stamped.y0), grid.pbm(stamped)
-        self._served, self._covered, self._is_half_put = None, None, True
+        self._served, self._settled = None, None
         change = self._with_room(client, lambda: client.stamp(*corner, image))
         version = self._with_room(client, client.publish)
-        self._is_half_put = False
+        self._settled = version.place
+        is_alone = version.place == change.place + 1 and settled in (None, change.place - 1)
         columns = f"columns {area.x0} to {area.x1 - 1}"
         rows = f"rows {area.y0} to {area.y1 - 1}"
-        return f"version {version}: {change.changed} cells of {columns}, {rows}"
+        return f"version {version}: {change.changed} cells of {columns}, {rows}", is_alone
 
     def _clean(self, client: clearmap.Client) -> None:
         """Makes the draft the newest version. Where that is refused, as over a full log, the next
         change is stamped whole."""
         with contextlib.suppress(clearmap.Refused):
-            client.revert()
-            self._is_half_put = False
+            self._settled = client.revert()
 
     @staticmethod
     def _with_room(client: clearmap.Client, call: Callable[[], T]) -> T:
@@ -298,7 +335,7 @@ class Feed:
     def _ask(
         self, plan: Sequence[Point], frame_id: Optional[str]
     ) -> Tuple[int, Frame, List[clearmap.Tightest]]:
-        if self._said is not None and self._covered is not self._said[0]:
+        if self._said is not None:
             self._cover()
         assert self.place is not None
         frame, named = self.place.frame, self.place.frame_id

@@ -6,21 +6,21 @@ from typing import TYPE_CHECKING, Callable, Optional
 
 import clearmap
 from clearmap_costmap import squares_of
-from clearmap_feed import Feed, Newest
+from clearmap_feed import Feed, Newest, sentence_of
 from clearmap import RosError
-from tables import TableError
 
 if TYPE_CHECKING:
     from clearmap_costmap import Squares
 
 MOST_LOOKS = 50.0  # a second
-SENTENCES = (RosError, clearmap.ClearmapError, TableError)  # what says in words why it came
 Shown = Newest["Squares"]
 
 
 def pause_of(frequency: object) -> float:
     """The seconds from one look to the next."""
-    if not isinstance(frequency, (int, float)) or not 0 < frequency <= MOST_LOOKS:
+    if not isinstance(frequency, (int, float)) or isinstance(frequency, bool):
+        raise RosError(f"'{frequency}' is no publish_frequency: a number is wanted")
+    if not 0 < frequency <= MOST_LOOKS:
         most = f"above 0, and {MOST_LOOKS:g} at most"
         raise RosError(f"'{frequency}' is no publish_frequency: {most}")
     return 1 / frequency
@@ -87,5 +87,4 @@ class Follower:
         stays = "there is no costmap yet"
         if self._shown is not None:
             stays = f"the costmap stays at version {self._shown.version}"
-        why = "" if isinstance(fault, SENTENCES) else type(fault).__name__ + " "
-        self._warn(f"{stays}: {why}{fault}; it is tried again")
+        self._warn(f"{stays}: {sentence_of(fault)}; it is tried again")

@@ -130,9 +130,17 @@ class Grid:
         return Area(first, rows[0], last + 1, rows[-1] + 1)
 
     def is_within(self, other: "Grid") -> bool:
-        """Whether each obstacle is one of another grid of the same size."""
-        mine, others = (int.from_bytes(grid.cells, "big") for grid in (self, other))
+        """Whether each obstacle is one of another grid, which has the same size."""
+        if self is other or self.size != other.size:
+            return self is other
+        mine, others = number_of(self), number_of(other)
         return mine & others == mine
+
+    def with_others(self, before: "Grid", served: "Grid") -> "Grid":
+        """The grid, and of a served one each obstacle that isn't of the grid before: what others
+        painted. All three have one size."""
+        both = number_of(self) | number_of(served) & ~number_of(before)
+        return Grid(*self.size, both.to_bytes(len(self.cells), "big"))
 
     def row(self, y: int, x0: int, x1: int) -> bytes:
         """Columns x0 up to x1 - 1 of a row."""
@@ -159,6 +167,11 @@ class Grid:
             start = (top + row) * self.width + left
             changed[start : start + width] = cells[row * width : (row + 1) * width]
         return Grid(self.width, self.height, bytes(changed))
+
+
+def number_of(grid: Grid) -> int:
+    """All cells as one number, a byte each."""
+    return int.from_bytes(grid.cells, "big")
 
 
 @dataclass(frozen=True)

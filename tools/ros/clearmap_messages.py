@@ -7,6 +7,8 @@ of, as whole seconds: `header.seq` is counted by rospy, and ROS 2 has none.
 from dataclasses import dataclass
 from typing import TYPE_CHECKING, Any, Callable, Tuple
 
+import numpy
+
 import clearmap_costmap as costmaps
 from clearmap_grid import Place
 from clearmap_follow import Shown
@@ -23,7 +25,7 @@ LAYERS: Tuple[Layer, ...] = (
     ("version", "number"),
 )
 SECONDS = 2**31  # that ROS 2 can count
-FLOAT32 = 7  # of PointField
+KINDS_OF_FIELDS = {"<f4": 7, "<f8": 8, "<u4": 6}  # FLOAT32, FLOAT64 and UINT32 of PointField
 
 
 @dataclass(frozen=True)
@@ -50,7 +52,7 @@ class Painter:
     def __post_init__(self) -> None:
         """Refuses numbers that make no sense."""
         self.inflation.numbers()
-        if not isinstance(self.points, int) or self.points < 1:
+        if type(self.points) is not int or self.points < 1:
             raise RosError(f"'{self.points}' is no distance_points: a whole number from 1 on")
 
     def layers(self, shown: Shown, stamp: Any) -> Tuple[Any, ...]:
@@ -62,7 +64,7 @@ class Painter:
         cloud = costmaps.cloud(squares, place.frame, self.points)
         return (
             *(self.grid(cells, place, shown.version, stamp) for cells in grids),
-            self.cloud(cloud, place, stamp),
+            cloud_of(self.kinds, cloud, costmaps.POINT, place.frame_id, stamp),
             self.kinds.number(data=shown.version),
         )
 
@@ -80,15 +82,19 @@ class Painter:
         message.data = costmaps.from_below(cells)
         return message
 
-    def cloud(self, points: bytes, place: Place, stamp: Any) -> Any:
-        """The points of distances."""
-        message, size = self.kinds.cloud(), costmaps.POINT.itemsize
-        message.header.stamp, message.header.frame_id = stamp, place.frame_id
-        message.fields = [
-            self.kinds.field(name=name, offset=4 * at, datatype=FLOAT32, count=1)
-            for at, name in enumerate(costmaps.POINT.names or ())
-        ]
-        message.height, message.width = 1, len(points) // size
-        message.point_step, message.row_step = size, len(points)
-        message.data, message.is_dense, message.is_bigendian = points, True, False
-        return message
+
+def cloud_of(
+    kinds: Kinds, points: bytes, form: "numpy.dtype[Any]", frame_id: str, stamp: Any
+) -> Any:
+    """Points in a row, whose numbers lie as a type of numpy has them."""
+    message = kinds.cloud()
+    message.header.stamp, message.header.frame_id = stamp, frame_id
+    parts = (form.fields or {}).items()
+    message.fields = [
+        kinds.field(name=name, offset=part[1], datatype=KINDS_OF_FIELDS[part[0].str], count=1)
+        for name, part in parts
+    ]
+    message.height, message.width = 1, len(points) // form.itemsize
+    message.point_step, message.row_step = form.itemsize, len(points)
+    message.data, message.is_dense, message.is_bigendian = points, True, False
+    return message

@@ -15,16 +15,18 @@ import pathlib
 import shutil
 import sys
 import threading
+import traceback
 
 HERE = pathlib.Path(__file__).resolve().parent
 TOP = HERE.parent.parent
-FOLDERS = (HERE, TOP / "clients/python", HERE.parent / "python", HERE.parent / "view")
+FOLDERS = (HERE, TOP / "clients/python", HERE.parent / "python")
 sys.path[:0] = [str(folder) for folder in FOLDERS if folder.is_dir()]
 
 import clearmap
 import clearmap_grid as grids
-from clearmap_feed import Feed
+from clearmap_feed import Feed, edge_of, port_of, sentence_of
 from clearmap_grid import Place
+from clearmap_order import LOST, MAP, MOST_PLANS, UPDATE, Order, Update, Waiting
 from clearmap import RosError
 
 
@@ -36,18 +38,25 @@ def program() -> str:
     return os.environ.get("CLEARMAP") or (found[0] if found else shutil.which("clearmap") or "clearmap")
 
 
-TOPICS = """It takes these topics, which may be named otherwise as usual (map:=/costmap):
+TOPICS = """It takes these topics, which may be named otherwise as usual (map:=/robot/map):
 
-  map          nav_msgs/OccupancyGrid: the map; what changed is stamped and published
-  map_updates  map_msgs/OccupancyGridUpdate: a part of the last map
+  map          nav_msgs/OccupancyGrid: the map, and no costmap, whose obstacles are inflated
+               already; what changed is stamped and published
+  map_updates  map_msgs/OccupancyGridUpdate: a part of the last map; the stamps tell which of the
+               two is newer, and where they don't, plans get NaN up to the next map
   plan         nav_msgs/Path: a plan in the map's frame, in metres
 
-and publishes these for plans:
+and publishes these for each plan, in their order:
 
   ~clearance  std_msgs/Float64: metres from the middle of the plan's tightest cell to that of its
               nearest obstacle; infinite where the map has no obstacle, and NaN where a plan isn't
-              taken
-  ~tightest   visualization_msgs/Marker: a ball at that cell
+              taken. Ask so that NaN doesn't pass: clearance >= 0.3, and never clearance < 0.3
+  ~answer     sensor_msgs/PointCloud2: the same with what it is of, as one point: x, y and z of that
+              cell, metres, free_metres (between any points of the two cells), obstacle_x and
+              obstacle_y, version, port (the server's), map_secs and map_nsecs (the newest stamp of
+              map and updates), and plan_seq; the header has the stamp and the frame of the plan
+  ~tightest   visualization_msgs/Marker: a ball at that cell, with the plan's stamp; it is taken
+              away where a plan isn't taken
 
 and these, latched, for each new version of the server, whoever published it:
 
@@ -72,9 +81,9 @@ Its parameters:
   ~frame_id             map: the frame of the yaml's map; that of a topic is its header's
   ~edge                 open; with wall the cells round the map are obstacles, on a server of the
                         node's own
-  ~occupied_thresh      0.65: a cell of the topic above it is an obstacle
-  ~free_thresh          0.196: a cell of the topic below it is free, and one between the two an
-                        obstacle
+  ~occupied_thresh      0.65: a cell of the topic above it, as 66 to 100, is an obstacle
+  ~free_thresh          0.196: a cell of the topic below it, as 0 to 19, is free, and one between
+                        the two is unknown, as in a map.yaml
   ~unknown_is_free      false: unknown cells are obstacles, which is the safe choice
   ~free_in_any_case     false: with true the clearance is the least one between any points of the
                         two cells
@@ -99,66 +108,86 @@ def parser() -> argparse.ArgumentParser:
 
 
 class Node:
-    """The topics of one map."""
+    """The topics of one map. What comes waits in one queue for one thread, which takes maps and
+    updates before the plans that came with them."""
 
     def __init__(self, rospy: object) -> None:
         from map_msgs.msg import OccupancyGridUpdate
         from nav_msgs.msg import OccupancyGrid, Path
+        from sensor_msgs.msg import PointCloud2
         from std_msgs.msg import Float64
         from visualization_msgs.msg import Marker
 
+        from clearmap_answers import Quiet, answer_of
         from clearmap_layers import Layers
 
-        self.rospy, self.number, self.marker = rospy, Float64, Marker
-        reading = grids.Reading(*(rospy.get_param("~" + name, default) for name, default in (("occupied_thresh", 0.65), ("free_thresh", 0.196), ("unknown_is_free", False))))
+        self.rospy, self.number, self.marker, self.answer_of = rospy, Float64, Marker, answer_of
+        names = (("occupied_thresh", 0.65), ("free_thresh", 0.196), ("unknown_is_free", False))
+        reading = grids.Reading(*(rospy.get_param("~" + name, value) for name, value in names))
         self.table = reading.table()
         self.safe = self.flag("free_in_any_case")
-        self.feed = Feed(self.port(), program(), self.flag("checkpoints"), self.edge())
+        port, edge = port_of(rospy.get_param("~port", 0)), edge_of(rospy.get_param("~edge", "open"))
+        self.feed = Feed(port, program(), self.flag("checkpoints"), edge)
         self.layers = Layers(rospy, self.feed, reading.unknown_is_free)
-        self.turns = threading.Lock()
+        self.order, self.waiting = Order(), Waiting()
+        self.taking = {MAP: self.take_map, UPDATE: self.take_update, LOST: self.take_loss}
+        self.refusals = Quiet(lambda said: rospy.logwarn("a plan isn't taken: %s", said))
         yaml = str(rospy.get_param("~yaml", ""))
         if yaml:
             frame_id = str(rospy.get_param("~frame_id", "map"))
             self.feed.keep(*grids.read_place(yaml, frame_id, reading.unknown_is_free))
-        self.clearances = rospy.Publisher("~clearance", Float64, queue_size=10)
-        self.markers = rospy.Publisher("~tightest", Marker, queue_size=10, latch=True)
+        self.clearances = rospy.Publisher("~clearance", Float64, queue_size=MOST_PLANS)
+        self.answers = rospy.Publisher("~answer", PointCloud2, queue_size=MOST_PLANS)
+        self.markers = rospy.Publisher("~tightest", Marker, queue_size=MOST_PLANS, latch=True)
         rospy.on_shutdown(self.feed.close)
         self.layers.start()
+        threading.Thread(target=self.work, name="clearmap takes", daemon=True).start()
         if not yaml:
-            rospy.Subscriber("map", OccupancyGrid, self.take_map, queue_size=1, buff_size=2**25)
-            rospy.Subscriber("map_updates", OccupancyGridUpdate, self.take_update, queue_size=100)
-        rospy.Subscriber("plan", Path, self.take_plan, queue_size=1)
+            rospy.Subscriber("map", OccupancyGrid, self.waiting.put_map, buff_size=2**25)
+            rospy.Subscriber("map_updates", OccupancyGridUpdate, self.put_update)
+        rospy.Subscriber("plan", Path, self.waiting.put_plan)
+
+    def work(self) -> None:
+        """Takes what came, again and again: maps and updates, and then plans."""
+        while True:
+            said, plans = self.waiting.taken()
+            for kind, message in said:
+                self.guarded(self.taking[kind], message)
+            self.guarded(self.take_plans, plans)
+
+    def guarded(self, take, message: object) -> None:
+        """Takes what a topic said, and logs a fault that nobody expects."""
+        try:
+            take(message)
+        except Exception:
+            if not self.rospy.is_shutdown():
+                self.rospy.logerr("%s", traceback.format_exc())
+
+    def put_update(self, message: object) -> None:
+        """Has an update wait, with a byte for each value, since many may wait."""
+        message.data = grids.bytes_of(message.data)
+        self.waiting.put_update(message)
 
     @property
     def frame_id(self) -> str:
         """The frame of the last map."""
         return self.feed.place.frame_id if self.feed.place is not None else ""
 
-    def port(self) -> int:
-        """The given port; 0 to start a server."""
-        port = self.rospy.get_param("~port", 0)
-        if not isinstance(port, int) or not 0 <= port <= 65535:
-            raise RosError(f"'{port}' is no port: 1 to 65535, or 0 for a server of the node's own")
-        return port
-
     def flag(self, name: str) -> bool:
         """A parameter that is false unless it is set."""
         return grids.flag(name, self.rospy.get_param("~" + name, False))
 
-    def edge(self) -> str:
-        """What the border of a map is, on a server of the node's own."""
-        edge = self.rospy.get_param("~edge", "open")
-        if edge not in ("open", "wall"):
-            raise RosError(f"'{edge}' is no edge: open or wall")
-        return edge
-
     def told(self, what: str, call) -> object:
-        """What a call gives, or None and one line of the log."""
+        """What a call gives, or None and one line of the log. After a fault that nobody expects no
+        plan is answered up to the next map."""
         try:
             return call()
-        except (RosError, clearmap.ClearmapError) as fault:
+        except clearmap.ClearmapError as fault:
             self.rospy.logwarn("%s isn't taken: %s", what, fault)
             return None
+        except Exception:
+            self.feed.refuse()
+            raise
 
     def read(self, parse) -> object:
         """What a message says. After one that can't be read no plan is answered up to the next map.
@@ -181,40 +210,82 @@ class Node:
             cells, unknown = (grids.Grid(width, height, it) for it in both)
             return cells, Place(frame, message.header.frame_id, unknown)
 
-        with self.turns:
-            said = self.told("a map", lambda: self.feed.put(*self.read(parse)))
-            if said is not None:
-                self.layers.follower.wake()
-                self.rospy.set_param("~server_port", self.feed.port)
-                self.rospy.loginfo("a map, at port %d: %s", self.feed.port, said)
+        said = self.told("a map", lambda: self.put(message.header.stamp.to_nsec(), *self.read(parse)))
+        if said is not None:
+            self.layers.follower.wake()
+            self.rospy.set_param("~server_port", self.feed.port)
+            self.rospy.loginfo("a map, at port %d: %s", self.feed.port, said)
+
+    def put(self, stamp: int, cells: object, place: Place) -> str:
+        """Puts a map with each update that came before it and is newer. Where that can't be told,
+        no plan is answered up to the next map."""
+        *newest, doubt = self.order.with_newer(stamp, cells, place)
+        try:
+            return self.feed.put(*newest)
+        finally:
+            if doubt:
+                self.feed.refuse()
+                self.rospy.logwarn("no plan is answered up to the next map: of this one, %s", doubt)
 
     def take_update(self, message: object) -> None:
         """Puts an update of the map."""
-        width, height = message.width, message.height
+        corner, size = (message.x, message.y), (message.width, message.height)
+
+        def parse() -> Update:
+            cells = grids.read_cells(message.data, *size, self.table)
+            return Update(message.header.stamp.to_nsec(), corner, size, *cells)
 
         def put() -> str:
-            both = self.read(lambda: grids.read_cells(message.data, width, height, self.table))
-            return self.feed.update(message.x, message.y, (width, height), *both)
+            update = self.read(parse)
+            if self.read(lambda: self.order.is_in_map(update)):
+                return "the map was published after it"
+            return self.feed.update(*corner, size, update.cells, update.unknown)
 
-        with self.turns:
-            said = self.told("an update", put)
+        said = self.told("an update", put)
         if said is not None:
             self.layers.follower.wake()
             self.rospy.loginfo("an update: %s", said)
 
-    def take_plan(self, message: object) -> None:
-        """Answers a plan's clearance; one that can't be asked about gets NaN, so that nobody goes
-        on with an older answer."""
-        points = [(pose.pose.position.x, pose.pose.position.y) for pose in message.poses]
-        found = self.told("a plan", lambda: self.feed.clearance(points, message.header.frame_id))
-        metres = math.nan if found is None else found.free_metres if self.safe else found.metres
-        self.clearances.publish(self.number(metres))
-        self.markers.publish(self.mark(found))
+    def take_loss(self, _: object) -> None:
+        """Takes note of updates that came too fast."""
+        self.feed.refuse()
+        self.rospy.logwarn("too many updates waited: no plan is answered up to the next map")
 
-    def mark(self, found: object) -> object:
+    def take_plans(self, plans: list) -> None:
+        """Answers plans. One that can't be asked about gets NaN, so that nobody goes on with an
+        older answer; so do those that waited for a server which doesn't reply."""
+        fault = None
+        for plan in plans:
+            found = None
+            try:
+                if not isinstance(fault, clearmap.TimedOut):
+                    found, fault = self.clearance(plan), None
+            except Exception as why:
+                fault = why
+                self.refusals.say(sentence_of(fault))
+            finally:
+                self.answer(plan, found)
+
+    def clearance(self, plan: object) -> object:
+        """How far a plan keeps from obstacles."""
+        points = [(pose.pose.position.x, pose.pose.position.y) for pose in plan.poses]
+        found = self.feed.clearance(points, plan.header.frame_id)
+        self.refusals.forget()
+        return found
+
+    def answer(self, plan: object, found: object) -> None:
+        """Publishes what was found of a plan, None if it isn't taken."""
+        port, stamp = self.feed.port, self.order.newest
+        said = self.answer_of(self.layers.painter.kinds, plan, found, port, stamp)
+        metres = math.nan if found is None else found.free_metres if self.safe else found.metres
+        self.answers.publish(said)
+        self.clearances.publish(self.number(metres))
+        self.markers.publish(self.mark(plan.header.stamp, found))
+
+    def mark(self, stamp: object, found: object) -> object:
         """A ball at the tightest cell, two cells wide; none if there is no such cell."""
         marker = self.marker()
-        marker.header.frame_id, marker.header.stamp, marker.ns = self.frame_id, self.rospy.Time.now(), "clearmap"
+        marker.header.frame_id, marker.header.stamp, marker.ns = self.frame_id, stamp, "clearmap"
         marker.type, marker.action = self.marker.SPHERE, self.marker.DELETE
         marker.pose.orientation.w = 1.0
         if found is not None and found.cell is not None:

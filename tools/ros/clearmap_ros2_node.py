@@ -10,11 +10,11 @@ topic. Nothing here is proved.
 import math
 import pathlib
 import sys
-from typing import Any
+from typing import Any, Optional
 
 HERE = pathlib.Path(__file__).resolve().parent
 TOP = HERE.parent.parent
-FOLDERS = (HERE, TOP / "clients/python", HERE.parent / "python", HERE.parent / "view")
+FOLDERS = (HERE, TOP / "clients/python", HERE.parent / "python")
 sys.path[:0] = [str(folder) for folder in FOLDERS if folder.is_dir()]
 
 try:
@@ -32,13 +32,14 @@ except ModuleNotFoundError as missing:
     said = f"{sys.executable} has no {missing.name}: it comes with ROS 2"
     sys.exit(f"clearmap_ros2_node.py: {said}")
 
-import clearmap
 import clearmap_grid as grids
+from clearmap_answers import Quiet, answer_of
 from clearmap_costmap import Inflation
-from clearmap_feed import Feed
+from clearmap_feed import Clearance, Feed, edge_of, port_of, sentence_of
 from clearmap_follow import Follower, Shown, pause_of
 from clearmap_messages import LAYERS, Kinds, Painter
 from clearmap_node import program
+from clearmap_order import MOST_PLANS
 from clearmap import RosError
 
 KINDS = Kinds(OccupancyGrid, PointCloud2, PointField, UInt64, lambda seconds: Time(sec=seconds))
@@ -57,10 +58,13 @@ class ClearmapNode(Node):  # type: ignore[misc]
         is_free = grids.flag("unknown_is_free", self.value("unknown_is_free", False))
         self.painter = self.painter_of(is_free)
         self.is_safe = grids.flag("free_in_any_case", self.value("free_in_any_case", False))
-        self.feed = Feed(self.value("port", 0), program(), edge=self.value("edge", "open"))
+        port, edge = port_of(self.value("port", 0)), edge_of(self.value("edge", "open"))
+        self.feed = Feed(port, program(), edge=edge)
         self.keep(self.value("yaml", ""), is_free)
-        self.clearances = self.create_publisher(Float64, "~/clearance", 10)
-        self.create_subscription(Path, "plan", self.take_plan, 1)
+        self.clearances = self.create_publisher(Float64, "~/clearance", MOST_PLANS)
+        self.answers = self.create_publisher(PointCloud2, "~/answer", MOST_PLANS)
+        self.refusals = Quiet(lambda said: self.get_logger().warning(f"a plan isn't taken: {said}"))
+        self.create_subscription(Path, "plan", self.take_plan, MOST_PLANS)
         pause = pause_of(self.value("publish_frequency", 5.0))
         self.follower = Follower(self.feed, pause, self.show, self.get_logger().warning)
 
@@ -92,18 +96,25 @@ class ClearmapNode(Node):  # type: ignore[misc]
 
     def take_plan(self, message: Any) -> None:
         """Answers a plan's clearance; NaN if it isn't taken."""
-        metres = math.nan
+        found = None
         try:
-            metres = self.clearance(message)
-        except (RosError, clearmap.ClearmapError) as fault:
-            self.get_logger().warning(f"a plan isn't taken: {fault}")
-        self.clearances.publish(Float64(data=metres))
+            found = self.clearance(message)
+            self.refusals.forget()
+        except Exception as fault:
+            self.refusals.say(sentence_of(fault))
+        self.answers.publish(answer_of(KINDS, message, found, self.feed.port))
+        self.clearances.publish(Float64(data=self.metres(found)))
 
-    def clearance(self, message: Any) -> float:
-        """Metres from the plan's tightest cell to its nearest obstacle: from centre to centre, or
-        with `free_in_any_case` between any points of the two cells."""
+    def clearance(self, message: Any) -> Clearance:
+        """How far a plan keeps from obstacles."""
         points = [(pose.pose.position.x, pose.pose.position.y) for pose in message.poses]
-        found = self.feed.clearance(points, message.header.frame_id)
+        return self.feed.clearance(points, message.header.frame_id)
+
+    def metres(self, found: Optional[Clearance]) -> float:
+        """Metres from the plan's tightest cell to its nearest obstacle: from middle to middle, or
+        with `free_in_any_case` between any points of the two cells."""
+        if found is None:
+            return math.nan
         return found.free_metres if self.is_safe else found.metres
 
     def end(self) -> None:

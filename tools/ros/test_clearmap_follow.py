@@ -142,6 +142,34 @@ class Following(unittest.TestCase):
             self.assertEqual((self.shown[-1].place, self.shown[-1].version), (place, 0))
         self.assertEqual(len(self.shown), 4)
 
+    def test_a_reply_that_is_lost(self):
+        """A version whose map lies elsewhere, and whose reply never came, isn't shown at the old
+        place: it waits until the map is put."""
+        served = self.served()
+        follower = self.follower(served.port, None)
+        moved = feeds.Place(Frame(6, 4, Fraction(1, 2), Fraction(7), Fraction(-2)), "map")
+        empty, post = grids.Grid(6, 4, bytes(24)), grids.Grid(6, 4, b"\1" + bytes(23))
+        self.feed.put(empty, PLACE)
+        follower.look()
+        publish = clearmap.Client.publish
+
+        def cut(client):
+            publish(client)
+            raise clearmap.ConnectionLost("cut")
+
+        away = mock.Mock(side_effect=clearmap.ConnectionLost("away"))
+        with mock.patch.object(clearmap.Client, "publish", cut):
+            with mock.patch.object(clearmap.Client, "__init__", away):
+                self.assertRaises(clearmap.ConnectionLost, self.feed.put, post, moved)
+        follower.look()
+        follower.look()
+        self.assertEqual([(it.version, it.place) for it in self.shown], [(0, PLACE)])
+        self.assertEqual(len(self.told), 1)
+        self.assertRegex(self.told[0], "stays at version 0: the last map isn't put, so it isn't known")
+        self.assertEqual(self.feed.clearance([(7.1, -0.1)]).metres, 0.0)
+        follower.look()
+        self.assertEqual([(it.version, it.place) for it in self.shown[1:]], [(1, moved)])
+
     def test_updates(self):
         """What an update doesn't know is kept."""
         feed = feeds.Feed(0, PROGRAM)

@@ -4,7 +4,10 @@ built program, which CLEARMAP names. No ROS is wanted."""
 import math
 import pathlib
 import random
+import subprocess
 import sys
+import threading
+import time
 import unittest
 from fractions import Fraction
 from unittest import mock
@@ -76,6 +79,14 @@ class Grids(unittest.TestCase):
         self.assertEqual(grids.grid_of_dump(b"P1\n6 4\n000000\n001000\n000000\n000000\n"), POST)
         self.assertEqual(grids.grid_of_dump(b"P1\n3 1\n01\n1\n"), grid("011"))
 
+    def test_what_others_painted(self):
+        """It is what is served and wasn't in the grid before."""
+        before, served = grid("0011"), grid("0110")
+        self.assertEqual(grid("1001").with_others(before, served), grid("1101"))
+        self.assertTrue(grid("0110").is_within(grid("1110")))
+        self.assertFalse(grid("0110").is_within(grid("1010")))
+        self.assertFalse(grid("01", "10").is_within(grid("0110")))
+
     def test_updates(self):
         low = POST.updated(1, 0, 2, 1, bytes([1, 1]))
         self.assertEqual(low, grid("000000", "001000", "000000", "011000"))
@@ -130,14 +141,61 @@ class Feeds(unittest.TestCase):
         self.assertEqual(feed.put(wall, PLACE), "nothing changed")
         self.assertEqual(feed.update(*CORNER), "version 2: 1 cells of columns 5 to 5, rows 0 to 0")
         self.assertEqual(dump_of(feed.port), (2, grid("000001", "001000", "001000", "001000")))
-        small = grid("00", "00")
-        sentence = "2 by 2 cells, and that of the server 6 by 4"
-        self.assertRaisesRegex(RosError, sentence, feed.put, small, PLACE)
         feed._server.kill()
         feed._server.wait()
         self.assertRaisesRegex(clearmap.ConnectionLost, "the next map starts another", feed.clearance, [(-1, -2)])
         self.assertEqual(feed.put(POST, PLACE), "nothing changed")
         self.assertEqual(dump_of(feed.port), (0, POST))
+
+    def test_a_map_that_grows(self):
+        """A server of one's own is started anew with it; plans are answered by the grown map alone,
+        and a server that was given keeps its map."""
+        feed = self.feed(program=PROGRAM)
+        feed.put(POST, PLACE)
+        feed.update(*CORNER)
+        first = feed._server
+        wide = grid("0000000", "0010000", "0000000", "0000000", "0000000")
+        frame = Frame(7, 5, Fraction(1, 2), Fraction(-1), Fraction(-5, 2))
+        self.assertEqual(feed.put(wide, feeds.Place(frame)), "nothing changed")
+        self.assertIsNotNone(first.poll())
+        self.assertEqual(dump_of(feed.port), (0, wide))
+        found = feed.clearance([(2.3, -2.4)])
+        self.assertEqual((found.version, found.cell), (0, (2.25, -2.25)))
+        self.assertEqual(feed.put(POST, PLACE), "nothing changed")
+        self.assertEqual(dump_of(feed.port), (0, POST))
+        self.assertEqual(feed.update(*CORNER)[:10], "version 1:")
+        feed.program = "/nowhere/clearmap"
+        self.assertRaisesRegex(RosError, "can't be run", feed.put, wide, feeds.Place(frame))
+        self.assertRaises(clearmap.ConnectionLost, feed.clearance, [(-0.9, -1.9)])
+        feed.program = PROGRAM
+        feed.put(wide, feeds.Place(frame))
+        self.assertEqual(dump_of(feed.port), (0, wide))
+
+    def test_the_process_is_killed(self):
+        """Its server ends with it, but not with the thread that put the map."""
+        lines = (
+            "import sys, threading, time",
+            f"sys.path[:0] = {sys.path[:3]!r}",
+            "import clearmap_feed as feeds, clearmap_grid as grids",
+            "from clearmap import Frame",
+            f"feed = feeds.Feed(program={PROGRAM!r})",
+            "place = feeds.Place(Frame(1, 1, 1, 0, 0))",
+            "put = threading.Thread(target=feed.put, args=(grids.Grid(1, 1, b'0'), place))",
+            "put.start(), put.join()",
+            "print(feed.port, flush=True), time.sleep(600)",
+        )
+        words = [sys.executable, "-c", "\n".join(lines)]
+        with subprocess.Popen(words, stdout=subprocess.PIPE) as process:
+            self.addCleanup(process.kill)
+            port = int(process.stdout.readline())
+            time.sleep(0.3)
+            clearmap.Client(port).close()
+            process.kill()
+        deadline = time.monotonic() + 20
+        with self.assertRaises(clearmap.ConnectionLost):
+            while time.monotonic() < deadline:
+                clearmap.Client(port).close()
+                time.sleep(0.05)
 
     def test_plans(self):
         feed = self.feed(program=PROGRAM)
@@ -258,6 +316,102 @@ class Feeds(unittest.TestCase):
             other.publish()
         self.assertEqual(dump_of(served.port), (1, POST))
 
+    def between(self, other, act):
+        """Has another client act between a stamp of a feed and its publish."""
+        publish = clearmap.Client.publish
+
+        def late(client):
+            if client is not other:
+                act()
+            return publish(client)
+
+        patch = mock.patch.object(clearmap.Client, "publish", late)
+        patch.start()
+        self.addCleanup(patch.stop)
+        return patch
+
+    def test_others_between_a_stamp_and_its_publish(self):
+        """What others do to the draft between the two, or before them: what was put is there, and
+        what others painted stays."""
+        wall = grid("000000", "001000", "001000", "001000")
+        paint = grid("100000", "001000", "001000", "001000")
+        for act, before, wanted in (
+            (lambda it: it.revert(), False, wall),
+            (lambda it: it.clear(2, 2, 3, 4), False, wall),
+            (lambda it: it.clear(0, 0, 6, 4), False, wall),
+            (lambda it: it.clear(2, 1, 3, 2), True, wall),  # which the stamp doesn't cover
+            (lambda it: (it.clear(0, 0, 6, 4), it.publish()), False, wall),
+            (lambda it: it.publish(), False, wall),
+            (lambda it: (it.publish(), it.collect(), it.checkpoint()), False, wall),
+            (lambda it: it.paint(0, 0, 1, 1), False, paint),
+            (lambda it: (it.paint(0, 0, 1, 1), it.publish(), it.clear(2, 1, 3, 2)), False, paint),
+            (lambda it: (it.paint(0, 0, 1, 1), it.publish(), it.clear(2, 1, 3, 2)), True, paint),
+        ):
+            served = self.served(POST.pbm())
+            feed, turns = self.feed(served.port), []
+            feed.put(POST, PLACE)
+            feed.update(*CORNER)
+            feed.put(POST, PLACE)
+            with clearmap.Client(served.port) as other:
+                if before:
+                    act(other)
+                else:
+                    patch = self.between(other, lambda: turns or turns.append(act(other)))
+                feed.put(wall, PLACE)
+                self.assertEqual(dump_of(served.port)[1], wanted)
+                if not before:
+                    patch.stop()
+                self.assertEqual(feed.put(wall, PLACE), "nothing changed")
+                self.assertEqual(feed.clearance([(0.25, -0.75)]).metres, 0.0)
+                feed.put(POST, PLACE)
+                rows = [bytes([*row]) for row in (wanted.row(0, 0, 6), b"\0\0\1\0\0\0")]
+                self.assertEqual(dump_of(served.port)[1].cells[:12], b"".join(rows))
+
+    def test_others_that_never_rest(self):
+        """A map that others take back each time isn't believed to be there."""
+        served = self.served(grid("000000", "000000", "000000", "000000").pbm())
+        feed = self.feed(served.port)
+        with clearmap.Client(served.port) as other:
+            patch = self.between(other, other.revert)
+            self.assertRaisesRegex(RosError, "others take back", feed.put, POST, PLACE)
+            self.assertRaisesRegex(RosError, "others take back", feed.clearance, [(0.25, -0.75)])
+            patch.stop()
+            self.assertEqual(feed.clearance([(0.25, -0.75)]).metres, 0.0)
+        self.assertEqual(dump_of(served.port)[1], POST)
+
+    def test_a_storm_of_reverts_and_clears(self):
+        """After each put that succeeds its obstacle is on the server, and a plan there hits it."""
+        served = self.served(b"P1\n6 4\n" + b"000000\n" * 4, "--versions", "8")
+        feed, ends = self.feed(served.port, checkpoints=True), threading.Event()
+
+        def storm():
+            with clearmap.Client(served.port, checkpoints=True) as other:
+                while not ends.is_set():
+                    other.revert()
+                    other.clear(0, 0, 6, 4)
+                    time.sleep(0.0005)
+
+        other = threading.Thread(target=storm)
+        other.start()
+        try:
+            wrong, put, draw = [], 0, random.Random(5)
+            for turn in range(400):
+                at = draw.randrange(24)
+                obstacle = grids.Grid(6, 4, bytes(int(cell == at) for cell in range(24)))
+                try:
+                    feed.put(obstacle, PLACE)
+                except RosError:
+                    continue
+                put += 1
+                metres = feed.clearance([FRAME.centre((at % 6, at // 6))]).metres
+                if metres != 0 or not obstacle.is_within(dump_of(served.port)[1]):
+                    wrong.append((turn, metres))
+        finally:
+            ends.set()
+            other.join()
+        self.assertEqual(wrong, [])
+        self.assertGreater(put, 100)
+
     def test_updates_that_came_meanwhile(self):
         """An update that couldn't be put is put with the next, and before a plan is answered."""
         served = self.served(POST.pbm())
@@ -278,7 +432,7 @@ class Feeds(unittest.TestCase):
 
     def test_plans_over_a_map_that_is_not_there(self):
         """They have no answer: not after a map that was refused, nor after what can't be read."""
-        feed, plan = self.feed(program=PROGRAM), [(-0.9, -1.9)]
+        feed, plan = self.feed(self.served(POST.pbm()).port), [(-0.9, -1.9)]
         feed.put(POST, PLACE)
         small = feeds.Place(Frame(2, 2, Fraction(1, 2), Fraction(-1), Fraction(-2)))
         self.assertRaises(RosError, feed.put, grid("00", "00"), small)

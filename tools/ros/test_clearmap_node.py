@@ -25,6 +25,8 @@ from geometry_msgs.msg import PoseStamped
 from map_msgs.msg import OccupancyGridUpdate
 from nav_msgs.msg import OccupancyGrid, Path
 from rosgraph_msgs.msg import Log
+from sensor_msgs.msg import PointCloud2
+from sensor_msgs.point_cloud2 import read_points
 from std_msgs.msg import Float64
 from visualization_msgs.msg import Marker
 
@@ -101,11 +103,12 @@ class Running(unittest.TestCase):
 
         until(answers, "the master")
         rospy.init_node("test_clearmap_node", disable_signals=True)
-        cls.said, cls.clearances, cls.markers = queue.Queue(), queue.Queue(), queue.Queue()
+        cls.said, cls.clearances, cls.markers, cls.answers = (queue.Queue() for _ in range(4))
         cls.logs = rospy.Subscriber("/rosout", Log, lambda log: cls.said.put(log.msg) if log.name == "/clearmap" else None)
         cls.subscribers = [rospy.Subscriber("/clearmap/clearance", Float64, lambda number: cls.clearances.put(number.data)), rospy.Subscriber("/clearmap/tightest", Marker, cls.markers.put)]
+        cls.subscribers.append(rospy.Subscriber("/clearmap/answer", PointCloud2, cls.answers.put))
         topics = (("/map", OccupancyGrid), ("/map_updates", OccupancyGridUpdate), ("/plan", Path))
-        cls.publishers = [rospy.Publisher(name, kind, queue_size=1) for name, kind in topics]
+        cls.publishers = [rospy.Publisher(name, kind, queue_size=100) for name, kind in topics]
 
     @staticmethod
     def end(process):
@@ -117,12 +120,12 @@ class Running(unittest.TestCase):
         plans."""
         both = [*self.publishers, *self.subscribers]
         until(lambda: not any(topic.get_num_connections() for topic in both) and self.logs.get_num_connections() < 2, "the end of the node before")
-        for kept in (self.said, self.clearances, self.markers):
+        for kept in (self.said, self.clearances, self.markers, self.answers):
             while not kept.empty():
                 kept.get()
         if rospy.has_param("/clearmap"):
             rospy.delete_param("/clearmap")  # the master keeps what the node before was told
-        node = subprocess.Popen([sys.executable, str(HERE / "clearmap_node.py"), *words], stdout=subprocess.DEVNULL, stderr=subprocess.DEVNULL)
+        self.process = node = subprocess.Popen([sys.executable, str(HERE / "clearmap_node.py"), *words], stdout=subprocess.DEVNULL, stderr=subprocess.DEVNULL)
         self.addCleanup(self.end, node)
         until(lambda: all(topic.get_num_connections() for topic in both) and self.logs.get_num_connections() > 1, "the node")  # this process logs, too
         until(self.is_heard, "the node's own end of the connections")
@@ -134,7 +137,7 @@ class Running(unittest.TestCase):
         uri = rospy.get_master().lookupNode("/clearmap")[2]
         buses = xmlrpc.client.ServerProxy(uri).getBusInfo("/test_clearmap_node")[2]
         listened = {topic for _, _, way, _, topic, *_ in buses if way == "o"}
-        return {"/clearmap/clearance", "/clearmap/tightest", "/rosout"} <= listened
+        return {"/clearmap/clearance", "/clearmap/tightest", "/clearmap/answer", "/rosout"} <= listened
 
     def line(self, part):
         """Waits for a line of the node's log with these words, and says how many seconds that took.
@@ -181,7 +184,9 @@ class Node(Running):
         self.assertLess(max(took), SOON * (1 if os.environ.get("STRICT") else 5))
 
     def test_what_is_refused(self):
-        maps, updates, plans = self.start()
+        served = Served(blank(WIDTH, HEIGHT))
+        self.addCleanup(served.end)
+        maps, updates, plans = self.start(f"_port:={served.port}")
         metres, marker, _ = self.answer(plans, PLAN)
         self.assertTrue(math.isnan(metres))
         self.assertEqual(marker.action, Marker.DELETE)
@@ -237,10 +242,142 @@ class Node(Running):
         with clearmap.Client(port) as client, client.pin() as pinned:
             self.assertEqual((pinned.version, pinned.at(0, 0).distance), (1, 0))
 
-    def test_a_port_that_is_none(self):
-        node = subprocess.run([sys.executable, str(HERE / "clearmap_node.py"), "_port:=70000"], capture_output=True, text=True, timeout=PATIENCE)
-        self.assertEqual(node.returncode, 1)
-        self.assertIn("'70000' is no port", node.stderr + node.stdout)
+    def test_many_plans_at_once(self):
+        """Each gets an answer that tells which plan it is of, and of which version and map."""
+        maps, _, plans = self.start()
+        maps.publish(self.stamped(map_message([(200, 100, 201, 200)]), 77))
+        self.line("a map, at port")
+        port, wanted = rospy.get_param("/clearmap/server_port"), {}
+        for number in range(1, 41):
+            x = -0.1 * number  # metres; the wall's middle is at 0.025
+            plan = self.stamped(plan_message((x - 0.5 + 0.025, 0.02), (x + 0.025, 0.02)), number)
+            if number % 10 == 0:
+                plan.header.frame_id = "odom"
+            plans.publish(plan)
+            wanted[number] = math.nan if number % 10 == 0 else 2 * number * RESOLUTION
+        told = [self.answers.get(timeout=PATIENCE) for _ in wanted]
+        self.assertEqual([it.header.stamp.secs for it in told], list(wanted))
+        for answer, (number, metres) in zip(told, wanted.items()):
+            marker, bare = self.markers.get(timeout=PATIENCE), self.clearances.get(timeout=PATIENCE)
+            self.assertEqual(marker.header.stamp.secs, number)
+            (it,) = read_points(answer)
+            names = [field.name for field in answer.fields]
+            point = dict(zip(names, it))
+            if number % 10 == 0:
+                self.assertEqual((marker.action, answer.is_dense), (Marker.DELETE, False))
+                self.assertTrue(all(map(math.isnan, (bare, point["metres"], point["free_metres"]))))
+                continue
+            self.assertAlmostEqual(bare, metres)
+            self.assertEqual((point["metres"], point["version"], point["port"]), (bare, 0, port))
+            self.assertLess(point["free_metres"], bare)
+            self.assertEqual((point["map_secs"], point["map_nsecs"]), (77, 5))
+            self.assertAlmostEqual(point["obstacle_x"], 0.025)
+            self.assertAlmostEqual(point["x"], marker.pose.position.x, places=5)
+            self.assertAlmostEqual(0.025 - point["x"], metres, places=5)
+        numbers = [next(read_points(it, ["plan_seq"]))[0] for it in told]
+        self.assertEqual(numbers, list(range(numbers[0], numbers[0] + 40)))
+
+    @staticmethod
+    def stamped(message, secs):
+        """A message with a stamp."""
+        message.header.stamp = rospy.Time(secs, 5)
+        return message
+
+    def test_updates_right_after_their_map(self):
+        """They come over another connection, often before it: a plan in their obstacle hits it.
+        Without stamps no plan is answered, unless the map has them."""
+        maps, updates, plans = self.start()
+        inside = plan_message((0.02, 0.02))  # column 200 of row 150
+        for turn in range(1, 9):
+            maps.publish(self.stamped(map_message(width=1000, height=400), 10 * turn))
+            part = OccupancyGridUpdate(x=200, y=150, width=1, height=1, data=[100])
+            updates.publish(self.stamped(part, 10 * turn + 1))
+            self.lines("a map, at port", "an update")
+            self.assertEqual(self.answer(plans, inside)[0], 0, turn)
+        part = OccupancyGridUpdate(x=200, y=150, width=1, height=1, data=[0])
+        updates.publish(self.stamped(part, 10 * turn - 1))  # before the map
+        self.line("an update: the map was published after it")
+        self.assertEqual(self.answer(plans, inside)[0], 0)
+        part = OccupancyGridUpdate(x=200, y=150, width=1, height=1, data=[100])
+        for cells, is_told in (([], False), ([(200, 150, 201, 151)], True)):
+            updates.publish(part)
+            self.line("an update")
+            maps.publish(map_message(cells, width=1000, height=400))
+            self.line("a map, at port" if is_told else "no plan is answered up to the next map")
+            metres = self.answer(plans, inside)[0]
+            self.assertTrue(metres == 0 if is_told else math.isnan(metres), metres)
+
+    def lines(self, *parts):
+        """Waits for lines of the log with these words, in any order."""
+        left = list(parts)
+        while left:
+            said = self.said.get(timeout=PATIENCE)
+            left = [part for part in left if part not in said]
+
+    def test_a_map_that_grows(self):
+        """The node's own server is started anew with it."""
+        maps, updates, plans = self.start()
+        maps.publish(map_message())
+        self.line("a map, at port")
+        for width, height in ((500, 400), (300, 350), (4000, 20)):
+            maps.publish(map_message(width=width, height=height))
+            self.line("a map, at port")
+            with clearmap.Client(rospy.get_param("/clearmap/server_port")) as client:
+                self.assertEqual(client.size, (width, height))
+            x, y = -10 + 0.5 * width * RESOLUTION + 0.01, -7.5 + 5.5 * RESOLUTION
+            metres = self.answer(plans, plan_message((x, y)))[0]
+            self.assertAlmostEqual(metres, 5 * RESOLUTION)
+
+    def test_the_node_is_killed(self):
+        """Its own server ends with it."""
+        maps, _, _ = self.start()
+        maps.publish(map_message())
+        self.line("a map, at port")
+        port = rospy.get_param("/clearmap/server_port")
+        clearmap.Client(port).close()
+        self.process.kill()
+        self.process.wait(PATIENCE)
+
+        def is_gone():
+            try:
+                clearmap.Client(port).close()
+            except clearmap.ConnectionLost:
+                return True
+            return False
+
+        until(is_gone, "the end of the server")
+
+    def test_one_warning(self):
+        """The same refusal of many plans is one line of the log."""
+        maps, _, plans = self.start()
+        maps.publish(map_message())
+        self.line("a map, at port")
+        for number in range(30):
+            plans.publish(plan_message((50.5 + number, 0)))
+        for _ in range(30):
+            self.assertTrue(math.isnan(self.clearances.get(timeout=PATIENCE)))
+        self.assertAlmostEqual(self.answer(plans, PLAN)[0], 99 * RESOLUTION)
+        maps.publish(map_message())
+        said = []
+        while not said or "a map, at port" not in said[-1]:
+            said.append(self.said.get(timeout=PATIENCE))
+        refused = [line for line in said if "a plan isn't taken" in line]
+        self.assertEqual(refused, ["a plan isn't taken: the point (50.5, 0.0) isn't on the map"])
+
+    def test_parameters_that_are_none(self):
+        started = []
+        for word, sentence in (
+            ("_port:=70000", "'70000' is no port"), ("_port:=true", "'True' is no port"),
+            ("_port:=74x", "'74x' is no port"), ("_edge:=walls", "'walls' is no edge"),
+            ("_robot_radius:=0,22", "'0,22' is no number"), ("_distance_points:=true", "'True' is no d"),
+            ("_publish_frequency:=true", "'True' is no publish_frequency"),
+        ):  # fmt: skip
+            words = [sys.executable, str(HERE / "clearmap_node.py"), f"__name:=none{len(started)}", word]
+            pipes = {"stdout": subprocess.PIPE, "stderr": subprocess.STDOUT}
+            started.append((subprocess.Popen(words, text=True, **pipes), sentence))
+        for node, sentence in started:
+            self.assertIn(sentence, node.communicate(timeout=PATIENCE)[0])
+            self.assertEqual(node.returncode, 1, sentence)
 
 
 if __name__ == "__main__":
