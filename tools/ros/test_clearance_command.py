@@ -1,7 +1,11 @@
 #!/usr/bin/env python3
 """Tests of `clearmap-ros clearance` on a map made by hand, and of a Python that lacks python3-pil.
 The first need numpy and the library."""
+import argparse
+import io
+import math
 import pathlib
+import random
 import re
 import subprocess
 import sys
@@ -25,6 +29,41 @@ negate: 0
 occupied_thresh: 0.65
 free_thresh: 0.196
 """
+
+
+def turned(points, x, y, theta):
+    """The points of an outline at a pose."""
+    c, s = math.cos(theta), math.sin(theta)
+    return [(x + c * a - s * b, y + s * a + c * b) for a, b in points]
+
+
+def sides(corners):
+    """The sides of a polygon."""
+    return list(zip(corners, [*corners[1:], corners[0]]))
+
+
+def from_side(point, side):
+    """How far a point is from a segment."""
+    (ax, ay), (bx, by) = side
+    dx, dy = bx - ax, by - ay
+    at = min(1, max(0, ((point[0] - ax) * dx + (point[1] - ay) * dy) / (dx * dx + dy * dy)))
+    return math.hypot(ax + at * dx - point[0], ay + at * dy - point[1])
+
+
+def are_apart(first, second):
+    """Whether a side of the first has all of the second on its other side."""
+    return any(
+        all((b[0] - a[0]) * (y - a[1]) - (b[1] - a[1]) * (x - a[0]) < 0 for x, y in second)
+        for a, b in sides(first)
+    )
+
+
+def gap(first, second):
+    """The distance between two convex polygons."""
+    if not (are_apart(first, second) or are_apart(second, first)):
+        return 0
+    pairs = (first, second), (second, first)
+    return min(from_side(point, side) for one, other in pairs for point in one for side in sides(other))
 
 
 @unittest.skipIf(LACKS, LACKS)
@@ -70,6 +109,31 @@ class Clearances(unittest.TestCase):
         self.assertEqual(self.asked("0.45 -0.15 0\n", "--footprint", right), (0, f"0.350000 {at}"))
         through = self.asked("-0.5 0.2 0\n0.9 0.2 0\n", "--footprint", "0.1,0.1 -0.1,0.1 -0.1,-0.1")
         self.assertEqual((through[0], through[1][:15]), (0, "0.000000 m free"))
+
+    def test_never_too_much(self):
+        """Footprints and poses drawn at random: what is told isn't above the distance of the turned
+        outline from the post, and at most an eighth of a cell below it."""
+        draw, told = random.Random(16), []
+        for _ in range(80):
+            n = draw.randint(3, 6)
+            angles = sorted(draw.uniform(0, math.tau) for _ in range(n))
+            radius = draw.uniform(0.05, 0.3)
+            points = [(round(radius * math.cos(a), 4), round(radius * math.sin(a), 4)) for a in angles]
+            pose = [round(draw.uniform(*ends), 4) for ends in ((-0.9, 0.9), (-0.4, 0.4), (-4, 4))]
+            corners = turned(points, *pose)
+            words = argparse.Namespace(map=self.yaml, edge="open", unknown_is_free=True, radius=None)
+            words.footprint = " ".join("%s,%s" % point for point in points)
+            plan = io.StringIO("%s %s %s\n" % tuple(pose))
+            try:
+                with mock.patch.object(sys, "stdin", plan):
+                    (line,) = ros.clearance(words)
+            except ros.RosError:
+                continue  # too thin, or in one line
+            truth = gap(corners, [(0.4, 0.2), (0.5, 0.2), (0.5, 0.3), (0.4, 0.3)])
+            told.append(float(line.split()[0]))
+            self.assertLessEqual(told[-1], truth + 1e-12, (points, pose))
+            self.assertGreater(told[-1], truth - 0.0126, (points, pose))
+        self.assertGreater(sum(metres > 0 for metres in told), 40)
 
     def test_refused(self):
         square = "0.1,0.1 -0.1,0.1 -0.1,-0.1 0.1,-0.1"
