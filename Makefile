@@ -23,8 +23,9 @@ pages = clearmap.1 clearmap-backup.1 clearmap-gateway.1 clearmap-publish.1 clear
 client = $(notdir $(wildcard clients/python/clearmap/*.py)) py.typed
 view = asking.py bodies.py changing.py draft.py following.py picture.py shown.py site_of_map.py \
     tables.py watched.py wording.py yaml_map.py $(wildcard tools/view/page/*)
-ros = clearmap_answers.py clearmap_costmap.py clearmap_feed.py clearmap_follow.py \
-    clearmap_grid.py clearmap_layers.py clearmap_messages.py clearmap_order.py clearmap_server.py
+ros = clearmap_answers.py clearmap_costmap.py clearmap_draft.py clearmap_feed.py \
+    clearmap_follow.py clearmap_grid.py clearmap_layers.py clearmap_messages.py \
+    clearmap_order.py clearmap_server.py
 ros_commands = clearmap_node.py clearmap_ros.py clearmap_ros2_node.py
 gateway = clients.py dumps.py limits.py lines.py links.py queries.py streams.py versions.py watch.py
 fleet = publisher.py scripts.py source.py store.py

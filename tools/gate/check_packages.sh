@@ -79,7 +79,7 @@ tried_program() { # tried_program ROOT LIBRARY_FOLDER
         PYTHONPATH=$1/usr/share/clearmap/python "$arrays" -c "$row")" '[[0, 1, 4]]'
     expect "$1: in metres" "$(cd "$scratch" && LD_LIBRARY_PATH=$1$2 \
         PYTHONPATH=$1/usr/share/clearmap/python "$arrays" -c "$metres")" "$metres_says"
-    for part in answers costmap feed follow grid layers messages order server; do
+    for part in answers costmap draft feed follow grid layers messages order server; do
         expect "$1: clearmap_$part by itself" "$(cd "$scratch" && \
             PYTHONPATH=$1/usr/share/clearmap/python "$arrays" -c "import clearmap_$part" 2>&1)" ''
     done

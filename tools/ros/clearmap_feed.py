@@ -5,7 +5,6 @@ The server is one that runs, by its port, or one that is started with the first 
 went away is asked for again at the next call. After a connection that was lost, or a map that could
 not be put, a plan has no answer before the server has each obstacle of what the topics said last.
 """
-import contextlib
 import math
 import threading
 from dataclasses import dataclass
@@ -13,6 +12,7 @@ from typing import TYPE_CHECKING, Callable, Generic, List, Optional, Sequence, T
 
 import clearmap
 import clearmap_grid as grids
+from clearmap_draft import Draft
 from clearmap_grid import Place
 from clearmap_server import start_server
 from clearmap import Frame, RosError
@@ -23,7 +23,6 @@ if TYPE_CHECKING:
 
 T = TypeVar("T")
 PATIENCE = 10.0  # seconds for a reply
-TRIES = 10  # of a publish, where others change the draft meanwhile
 
 
 def port_of(port: object) -> int:
@@ -77,11 +76,9 @@ class Feed:
         self._checkpoints = checkpoints or not self._given
         self._lock = threading.Lock()
         self._server: Optional["Process"] = None
-        self._client: Optional[clearmap.Client] = None
+        self._draft: Optional[Draft] = None  # over the connection that there is
         self._said: Optional[Tuple[grids.Grid, Place]] = None  # what the topics said last
         self._is_refused = False  # whether it isn't known what they said
-        self._served: Optional[grids.Grid] = None  # what this connection's server is known to have
-        self._settled: Optional[int] = None  # the place at which the draft was the newest version
         self._kept: Optional[grids.Grid] = None  # what a server of one's own is started with
         self._connections, self._is_closed = 0, False
         self.place: Optional[Place] = None
@@ -169,7 +166,7 @@ class Feed:
     def _tried(self, call: Callable[[], T]) -> T:
         """The result of a call. If the server has gone since the last one, repeats the call once
         with a fresh connection."""
-        fresh = self._client is None
+        fresh = self._draft is None
         try:
             return call()
         except (clearmap.ConnectionLost, clearmap.WrongAnswer):
@@ -183,9 +180,9 @@ class Feed:
             raise
 
     def _lose(self) -> None:
-        if self._client is not None:
-            self._client.close()
-        self._client, self._served, self._settled = None, None, None
+        if self._draft is not None:
+            self._draft.client.close()
+        self._draft = None
 
     def _end_server(self) -> None:
         """Leaves the server, and ends one of one's own."""
@@ -195,53 +192,50 @@ class Feed:
             self._server.wait()
             self._server = None
 
-    def _connected(
-        self, size: Tuple[int, int], grid: Optional[grids.Grid] = None
-    ) -> clearmap.Client:
-        """The connection to a server whose map has this size. A server of one's own that has ended,
-        or wasn't started yet, is started with this map, or with the one that is kept."""
+    def _connected(self, size: Tuple[int, int], grid: Optional[grids.Grid] = None) -> Draft:
+        """The draft of a server whose map has this size, connected. A server of one's own that has
+        ended, or wasn't started yet, is started with this map, or with the one that is kept."""
         if self._is_closed:
             raise clearmap.ConnectionLost("the node has left the server")
+        settled = None
         if not self._given and (self._server is None or self._server.poll() is not None):
             self._lose()
             self._start(grid or self._kept)
-        if self._client is None:
-            self._client = clearmap.Client(
+            settled = 0  # the first command's place is 1
+        if self._draft is None:
+            client = clearmap.Client(
                 self.port, timeout=PATIENCE, checkpoints=self._checkpoints, size=size
             )
             self._connections += 1
-        elif self._client.size != size:
-            raise clearmap.WrongMap(size, self._client.size)
-        return self._client
+            self._draft = Draft(client, settled)
+        elif self._draft.client.size != size:
+            raise clearmap.WrongMap(size, self._draft.client.size)
+        return self._draft
 
     def _start(self, grid: Optional[grids.Grid]) -> None:
         if grid is None:
             raise clearmap.ConnectionLost("the server has ended; the next map starts another")
         self._server, self.port = start_server(self.program, self._edge, grid.pbm())
-        self._settled = 0  # the first command's place is 1
 
-    def _fitting(self, grid: grids.Grid, starts: bool) -> clearmap.Client:
-        """The connection to a server whose map has a grid's size. With `starts` one of one's own is
-        started with the grid, if it has ended or has a map of another size."""
+    def _fitting(self, grid: grids.Grid) -> Draft:
+        """The draft of a server whose map has a grid's size. One of one's own is started with the
+        grid, if it has ended or has a map of another size."""
         try:
-            return self._connected(grid.size, grid if starts else None)
+            return self._connected(grid.size, grid)
         except clearmap.WrongMap as other:
-            if self._given or not starts:
+            if self._given:
                 sizes = "the map has %d by %d cells, and that of the server %d by %d"
                 said = sizes % (*grid.size, *other.served)
                 raise RosError(f"{said}: it isn't put") from None
         self._end_server()
         return self._connected(grid.size, grid)
 
-    def _put(self, starts: bool = True) -> str:
-        """Puts what the topics said last; with `starts` on a new server of one's own, if the last
-        one has ended, or its map has another size."""
+    def _put(self) -> str:
+        """Puts what the topics said last, if need be on a new server of one's own."""
         assert self._said is not None
         grid, place = self._said
-        client = self._fitting(grid, starts)
-        before = self._served if self._served is not None else self._dumped(client)
-        said = self._change(client, before, grid)
-        self._served, self.place = grid, place
+        said = self._fitting(grid).put(grid)
+        self.place = place
         return said
 
     def _cover(self) -> None:
@@ -249,69 +243,10 @@ class Feed:
         missing, as on a server that was restarted, that is put."""
         assert self._said is not None
         grid, place = self._said
-        if self._served is None or not grid.is_within(self._served):
-            self._served = self._dumped(self._connected(grid.size))
-            if not grid.is_within(self._served):
-                self._put(starts=False)
+        draft = self._connected(grid.size)
+        if not draft.has(grid):
+            draft.put(grid)
         self.place = place
-
-    @staticmethod
-    def _dumped(client: clearmap.Client) -> grids.Grid:
-        """The newest version's grid, as the server dumps it."""
-        with client.pin() as pinned:
-            return grids.grid_of_dump(pinned.dump())
-
-    def _change(self, client: clearmap.Client, before: grids.Grid, grid: grids.Grid) -> str:
-        """Stamps and publishes what differs from the grid before. Where others gave commands
-        meanwhile, which may have taken a part of it back, goes by what the server then dumps."""
-        area, wanted, said = before.changed(grid), grid, "nothing changed"
-        if area is None and self._settled is None:
-            self._clean(client)
-        for _ in range(TRIES):
-            if area is None:
-                return said
-            said, is_alone = self._publish(client, area, wanted)
-            if is_alone:
-                return said
-            served = self._dumped(client)
-            wanted = grid.with_others(before, served)
-            area = served.changed(wanted)
-        if area is not None:
-            raise RosError("others take back what is put, again and again")
-        return said
-
-    def _publish(
-        self, client: clearmap.Client, area: grids.Area, grid: grids.Grid
-    ) -> Tuple[str, bool]:
-        """Stamps and publishes an area; the whole map where the draft may have another one, as at
-        first, or after a publish that was refused or had no reply. Says what was done, and whether
-        nobody else can have changed what is published since it was known."""
-        settled = self._settled
-        stamped = grids.Area(0, 0, *grid.size) if settled is None else area
-        corner, image = (stamped.x0, stamped.y0), grid.pbm(stamped)
-        self._served, self._settled = None, None
-        change = self._with_room(client, lambda: client.stamp(*corner, image))
-        version = self._with_room(client, client.publish)
-        self._settled = version.place
-        is_alone = version.place == change.place + 1 and settled in (None, change.place - 1)
-        columns = f"columns {area.x0} to {area.x1 - 1}"
-        rows = f"rows {area.y0} to {area.y1 - 1}"
-        return f"version {version}: {change.changed} cells of {columns}, {rows}", is_alone
-
-    def _clean(self, client: clearmap.Client) -> None:
-        """Makes the draft the newest version. Where that is refused, as over a full log, the next
-        change is stamped whole."""
-        with contextlib.suppress(clearmap.Refused):
-            self._settled = client.revert()
-
-    @staticmethod
-    def _with_room(client: clearmap.Client, call: Callable[[], T]) -> T:
-        """The result of a command; if slots or blocks are full, repeats it once after a collect."""
-        try:
-            return call()
-        except (clearmap.VersionsFull, clearmap.BlocksFull):
-            client.collect()
-        return call()
 
     def _newer(
         self,
@@ -321,7 +256,7 @@ class Feed:
     ) -> Optional[Newest[T]]:
         if place is None:
             return None
-        with self._connected(place.frame.size).pin() as pinned:
+        with self._connected(place.frame.size).client.pin() as pinned:
             found: Optional[T] = None
             if known is not None and known.connection == self._connections:
                 if known.version == pinned.version:
@@ -344,7 +279,7 @@ class Feed:
         queries = clearmap.Queries()
         for piece in pieces(frame.staircase(plan)):
             queries.path(piece)
-        with self._connected(frame.size).pin() as pinned:
+        with self._connected(frame.size).client.pin() as pinned:
             answers = pinned.ask(queries)
         for answer in answers:
             if isinstance(answer, clearmap.Refused):

@@ -44,7 +44,8 @@ def decimal_of(single: float) -> Fraction:
 @dataclass(frozen=True)
 class Reading:
     """Which values are obstacles: those above `occupied_thresh`, and if unknown cells aren't free,
-    all but those below `free_thresh`."""
+    all but those below `free_thresh`. So 50 is one as for `read_map`, where `Map.of_occupancy` has
+    it free, unless its `occupied` is 20."""
 
     occupied_thresh: Number = "0.65"
     free_thresh: Number = "0.196"

@@ -17,6 +17,7 @@ sys.path[:0] = [str(folder) for folder in FOLDERS]
 import numpy
 
 import clearmap
+import clearmap_answers as answers
 import clearmap_costmap as costmaps
 import clearmap_grid as grids
 from clearmap_ros import RosError, read_map
@@ -165,11 +166,17 @@ class Node2(unittest.TestCase):
         self.assertEqual({it.header.stamp.sec for it in (plain, costs, cloud)}, {7})
         node.plans(self.plan(known.frame, "odom", (140, 102), (145, 102)))
         self.assertAlmostEqual(node.published[-1][1].data, 5 * 0.05)
+        topic, answer = node.published[-2]
+        point = numpy.frombuffer(answer.data, answers.ANSWER)[0]
+        self.assertEqual((topic, answer.header.stamp.sec), ("~/answer", 9))
+        self.assertEqual((point["version"], point["port"]), (1, served.port))
+        self.assertEqual(point["metres"], node.published[-1][1].data)
         safe = self.node(yaml=str(HOUSE), port=served.port, frame_id="odom", free_in_any_case=True)
         safe.plans(self.plan(known.frame, "odom", (140, 102), (145, 102)))
         self.assertEqual(safe.published[-1][1].data, known.frame.free_metres(25))
         node.plans(self.plan(known.frame, "map", (140, 102), (145, 102)))
         self.assertTrue(math.isnan(node.published[-1][1].data))
+        self.assertTrue(math.isnan(numpy.frombuffer(node.published[-2][1].data, answers.ANSWER)["metres"]))
         self.assertIn("a plan isn't taken: it is in the frame 'map'", node.said[-1])
         served.end()
         self.until(lambda: "the costmap stays at version 1" in node.said[-1])
@@ -180,7 +187,7 @@ class Node2(unittest.TestCase):
         for cell in cells:
             x, y = frame.centre(cell)
             poses.append(PoseStamped(pose=Pose(position=Point(x=x, y=y))))
-        return Path(header=Header(frame_id=frame_id), poses=poses)
+        return Path(header=Header(frame_id=frame_id, stamp=Time(sec=9)), poses=poses)
 
     def test_a_server_of_its_own(self):
         with mock.patch.dict("os.environ", CLEARMAP=PROGRAM):
@@ -197,6 +204,8 @@ class Node2(unittest.TestCase):
             ({"yaml": str(HOUSE), "robot_radius": -1.0}, "none is below 0"),
             ({"yaml": str(HOUSE), "publish_frequency": 0.0}, "is no publish_frequency"),
             ({"yaml": str(HOUSE), "unknown_is_free": "false"}, "is no unknown_is_free"),
+            ({"yaml": str(HOUSE), "port": "74x"}, "'74x' is no port"),
+            ({"yaml": str(HOUSE), "edge": "walls"}, "'walls' is no edge"),
             ({"yaml": str(HOUSE), "free_in_any_case": "no"}, "'no' is no free_in_any_case"),
         ):
             with self.assertRaisesRegex(RosError, sentence):
