@@ -22,8 +22,9 @@ class Draft:
 
     def has(self, grid: Grid) -> bool:
         """Whether the server has each obstacle of a grid: as is known, or else by a dump."""
-        if self._served is None or not grid.is_within(self._served):
-            self._served = self._dumped()
+        if self._served is not None and grid.is_within(self._served):
+            return True
+        self._served = self._dumped()
         return grid.is_within(self._served)
 
     def put(self, grid: Grid) -> str:

@@ -46,7 +46,7 @@ TOPICS = """It takes these topics, which may be named otherwise as usual (map:=/
                two is newer, and where they don't, plans get NaN up to the next map
   plan         nav_msgs/Path: a plan in the map's frame, in metres
 
-and publishes these for each plan, in their order:
+and publishes these for each plan, in their order (of over 100 that wait the oldest get none):
 
   ~clearance  std_msgs/Float64: metres from the middle of the plan's tightest cell to that of its
               nearest obstacle; infinite where the map has no obstacle, and NaN where a plan isn't
@@ -143,8 +143,8 @@ class Node:
         self.layers.start()
         threading.Thread(target=self.work, name="clearmap takes", daemon=True).start()
         if not yaml:
-            rospy.Subscriber("map", OccupancyGrid, self.waiting.put_map, buff_size=2**25)
             rospy.Subscriber("map_updates", OccupancyGridUpdate, self.put_update)
+            rospy.Subscriber("map", OccupancyGrid, self.waiting.put_map, buff_size=2**25)
         rospy.Subscriber("plan", Path, self.waiting.put_plan)
 
     def work(self) -> None:
@@ -165,8 +165,10 @@ class Node:
 
     def put_update(self, message: object) -> None:
         """Has an update wait, with a byte for each value, since many may wait."""
-        message.data = grids.bytes_of(message.data)
-        self.waiting.put_update(message)
+        try:
+            message.data = grids.bytes_of(message.data)
+        finally:
+            self.waiting.put_update(message)
 
     @property
     def frame_id(self) -> str:
