@@ -1,14 +1,15 @@
 pub mod Answers
-pub mod Bands
 pub mod Firsts
 pub mod Frames
+pub mod Inside
+pub mod LineWords
 pub mod Lines
 pub mod Nearest
-pub mod Parts
 pub mod Paths
 pub mod Pieces
 pub mod Rows
 pub mod Search
+pub mod Seekers
 pub mod Segments
 pub mod Spots
 pub mod Strips

@@ -5,44 +5,38 @@
 //! which counts with a wall, is searched by arithmetic. None allocates memory.
 #![tactic(auto)]
 
-mod any_by_tiles;
 mod area;
-mod band;
+mod around;
 mod bit;
 mod border;
 mod bound;
-mod by_tiles;
-mod clear;
-mod cost;
-mod elsewhere;
-mod far;
-mod far_bands;
-mod far_columns;
+mod first;
+mod first_line;
 mod found;
 mod frame;
+mod gaps;
+mod inside;
+mod least;
+mod line_word;
 mod lines;
+mod meeting;
 mod near_tile;
-mod nearest;
+mod outwards;
 mod part;
 mod path;
 mod piece;
 mod queried;
 mod queries;
-mod row;
 mod rows;
-mod search;
-mod seed;
+mod seeker;
 mod segment;
-mod soon;
 mod spot;
 mod strip;
 mod tiles;
 mod walk;
-mod words;
 
 pub use queried::{Bordered, Queried};
 pub use queries::{
     along, along_rows, at, at_rows, clear_of, clear_of_rows, least_in, least_in_rows,
 };
-pub use row::is_blank;
 pub use rows::Rows;

@@ -1,116 +1,91 @@
-//! The tile that may be the nearest to a rectangle, by the marks of tiles alone.
+//! The tile that is likely to have the nearest obstacle: the marked one that is nearest.
 
-ghost use Rattle.std.specs.Prelude.{◌≡◌, ◌<◌, ◌≤◌};
+ghost use Rattle.std.specs.Prelude.{◌≤◌, ◌<◌, ◌/◌, IfSome};
+ghost use Rattle.bits.specs.Words.{words_across};
+ghost use Rattle.clearance.specs.Seekers.{IsPlaceIn};
 
-use crate::by_tiles::columns_apart;
-use crate::far_bands::rows_apart;
+use crate::gaps::columns_apart;
+use crate::outwards::Bands;
 use crate::rows::Rows;
-use crate::tiles::{NO_TILE, after_last_tile, next_tile};
-use metric::{BAND_ROWS, LAST_FRAMED, Metric, Rect, WORD_CELLS};
+use crate::seeker::Seeker;
+use crate::tiles::{after_last_tile, next_tile};
+use metric::{Metric, Rect, WORD_CELLS};
 
-/// A tile of a band, and a bound for the distances of its cells.
+/// A tile of a band.
 #[derive(Clone, Copy)]
-pub struct NearTile {
+pub struct Place {
     pub band: u16,
     pub tile: u16,
-    pub bound: u64,
 }
 
-/// The nearer of a tile and another of a band; the other may be no tile.
-#[inline(always)]
-fn nearer_tile<M: Metric>(best: NearTile, rect: Rect, band: u16, tile: u16) -> NearTile
-    requires best { best.band < 64 }
-    requires band { band < 64 }
-    ensures { result.band < 64 }
-{
-    if tile >= NO_TILE {
-        return best;
-    }
-    let bound = u64::from(M::of(columns_apart(rect, tile), rows_apart(rect, band)));
-    if bound < best.bound {
-        NearTile { band, tile, bound }
-    } else {
-        best
+/// The nearest tile so far, and how far it is outside the rectangle.
+#[derive(Clone, Copy)]
+struct Nearest {
+    dist: u32,
+    place: Option<Place>,
+}
+
+impl Nearest {
+    ghost use Rattle.std.specs.Prelude.{◌<◌, IfSome};
+    ghost use Rattle.clearance.specs.Seekers.{IsPlaceIn};
+
+    /// This one, or another tile if that is nearer. It is as many rows away as its band.
+    #[inline(always)]
+    fn or<M: Metric>(self, rect: Rect, gap: u16, place: Place, across: u16) -> Nearest
+        requires gap { gap ≤ 4096 }
+        requires band { place.band < 64 }
+        requires few { across ≤ 64 }
+        requires own { IfSome self.place (IsPlaceIn across) }
+        ensures { IfSome result.place (IsPlaceIn across) }
+    {
+        if across <= place.tile {
+            return self;
+        }
+        let dist = M::of(columns_apart(rect, place.tile), gap);
+        if self.dist <= dist {
+            return self;
+        }
+        Nearest {
+            dist,
+            place: Some(place),
+        }
     }
 }
 
-/// The nearer of a tile and those of a band on both sides of the rectangle's first column.
-#[inline(always)]
-fn nearer_of_band<M: Metric, R: Rows>(rows: &R, best: NearTile, rect: Rect, band: u16) -> NearTile
-    requires best { best.band < 64 }
-    requires band { band < 64 }
-    ensures { result.band < 64 }
+/// The nearest of the marked tiles of these bands that may matter. No clause says that it is: a
+/// search that begins there leaves out more of the others.
+pub fn nearest_tile<M: Metric, R: Rows, S: Seeker<M>>(
+    rows: &R,
+    bands: Bands,
+    seeker: &S,
+) -> Option<Place>
+    requires above { bands.above ≤ (S.aim.begins seeker.now).y / 64 }
+    requires below { (S.aim.begins seeker.now).y / 64 ≤ bands.below }
+    requires few { bands.below ≤ 64 }
+    ensures { IfSome result (IsPlaceIn (words_across (R.cells rows.now).width)) }
 {
-    let (tiles, own) = (rows.tiles(band), rect.x0 / WORD_CELLS);
-    let right = nearer_tile::<M>(best, rect, band, next_tile(tiles, own));
-    let after = after_last_tile(tiles, own);
-    if after == 0 {
-        return right;
-    }
-    nearer_tile::<M>(right, rect, band, after - 1)
-}
-
-/// The tile of which a cell may be nearest to the rectangle; tile 64 if none may have an obstacle
-/// below the limit.
-pub fn nearest_tile<M: Metric, R: Rows>(rows: &R, rect: Rect, limit: u64) -> NearTile
-    ensures { result.band < 64 }
-{
-    let (top, bottom) = (rect.y0 / BAND_ROWS, (rect.y1 - 1) / BAND_ROWS);
-    let mut best = NearTile {
-        band: 0,
-        tile: NO_TILE,
-        bound: limit,
+    let (rect, start) = (seeker.rect(), seeker.start());
+    let (own, across) = (start.x / WORD_CELLS, rows.across() as u16);
+    let mut left = bands;
+    let mut nearest = Nearest {
+        dist: u32::MAX,
+        place: None,
     };
-    let bands = rows.bands();
-    let mut inside = next_tile(bands, top);
-    'inside: while inside <= bottom {
-        if best.bound == 0 {
-            return best;
+    'bands: while let Some(next) = left.next(rect, start.y) {
+        let (band, gap) = (next.band, next.gap);
+        let row = M::of(0, gap);
+        if row >= nearest.dist || seeker.is_far(row, 0, gap) {
+            return nearest.place;
         }
-        best = nearer_of_band::<M, R>(rows, best, rect, inside);
-        inside = next_tile(bands, inside + 1);
-    }
-    let (mut above, mut below) = (after_last_tile(bands, top), next_tile(bands, bottom + 1));
-    'outside: while 0 < above || below < NO_TILE {
-        let (up, down) = (rows_above(rect, above), rows_below(rect, below));
-        if u64::from(M::of(0, up.min(down))) >= best.bound {
-            return best;
+        let tiles = rows.tiles(band);
+        let tile = next_tile(tiles, own);
+        nearest = nearest.or::<M>(rect, gap, Place { band, tile }, across);
+        let after = after_last_tile(tiles, own);
+        if 0 < after {
+            let tile = after - 1;
+            nearest = nearest.or::<M>(rect, gap, Place { band, tile }, across);
         }
-        if up <= down {
-            best = nearer_of_band::<M, R>(rows, best, rect, above - 1);
-            above = after_last_tile(bands, above - 1);
-        } else {
-            best = nearer_of_band::<M, R>(rows, best, rect, below);
-            below = next_tile(bands, below + 1);
-        }
+        left = next.left;
     }
-    best
-}
-
-/// How many rows the last of the bands above lies outside the rectangle; 4097 if there is none.
-#[inline(always)]
-fn rows_above(rect: Rect, after: u16) -> u16
-    requires { after ≤ 64 }
-    ensures few { result ≤ LAST_FRAMED }
-    ensures none { after ≡ 0 → result ≡ LAST_FRAMED }
-{
-    if after == 0 {
-        LAST_FRAMED
-    } else {
-        rows_apart(rect, after - 1)
-    }
-}
-
-/// How many rows the first of the bands below lies outside the rectangle; 4097 if there is none.
-#[inline(always)]
-fn rows_below(rect: Rect, band: u16) -> u16
-    ensures few { result ≤ LAST_FRAMED }
-    ensures some { band < 64 → result < LAST_FRAMED }
-    ensures none { 64 ≤ band → result ≡ LAST_FRAMED }
-{
-    if band < NO_TILE {
-        rows_apart(rect, band)
-    } else {
-        LAST_FRAMED
-    }
+    nearest.place
 }

@@ -1,12 +1,12 @@
 -- What a pin's copy of its version says of the version.
-use Rattle.std.proofs.Common.{◌≡◌, ℕ, ◌/◌, ◌^◌, ◌<◌, ◌≤◌, List, length, get_or, refl, ap, sym, ◌∙◌}
+use Rattle.std.proofs.Common.{◌≡◌, ℕ, ◌/◌, ◌^◌, ◌<◌, ◌≤◌, List, get_or, refl, ap, sym, ◌∙◌}
 use Rattle.std.proofs.Common.{arith}
 use Rattle.std.specs.Int.{bit_at}
 use Rattle.bits.specs.Cells.{Cells}
 use Rattle.bits.specs.Tiles.{tiles_down}
 use Rattle.bits.specs.Words.{words_across, IsRowOf}
-use Rattle.clearance.specs.Rows.{words_of_row, IsBlankRow}
-use Rattle.clearance.proofs.RowWords.{row_word_read, IsBlankRow-read}
+use Rattle.clearance.specs.Rows.{words_of_row}
+use Rattle.clearance.proofs.RowWords.{row_word_read}
 use Rattle.shelf.specs.Store.{StoreId}
 use Rattle.shelf.specs.Roles.{ReaderView}
 use Rattle.copies.specs.Copies.{bitmap_seen, IsCopying}
@@ -37,17 +37,6 @@ module _ (store : StoreId) (x : ReaderView) (version slot : ℕ) (bitmap : Cells
       row_word_read bitmap y k (get_or words k 0) words are
       (let column : k < words_across bitmap.width = omega arith in column) fits refl
       ∙ ap (λ (ws : List ℕ). get_or ws k 0) (same_row y so clear row)
-
-  -- where a row of a band that was read is blank, the version's is
-  pub blank_copied : (y : ℕ) (words : List ℕ) → IsCopying store x version slot bitmap unread
-      → bit_at unread (y / 64) ≡ 0 → y < (bitmap_seen store x version).height
-      → IsRowOf bitmap y words → ((k : ℕ) → k < length words → get_or words k 0 ≡ 0)
-      → IsBlankRow (bitmap_seen store x version) y
-  blank_copied y words so clear row are blank = λ k within.
-      let width = same_width so in
-      ap (λ (ws : List ℕ). get_or ws k 0) (sym (same_row y so clear row))
-      ∙ IsBlankRow-read bitmap y words are blank k
-      (let column : k < words_across bitmap.width = omega arith in column)
 
   -- once each band is read the bitmap is the version
   pub bands_copied_all : (down : ℕ) → IsCopying store x version slot bitmap unread

@@ -84,10 +84,10 @@ impl VersionCopy {
 
     /// Whether this many words of a band are looked at one by one, even if they are blank.
     #[inline(always)]
-    pub(crate) fn is_looked_at(&self, band: u16, words: u32) -> bool
+    pub(crate) fn is_looked_at(&self, band: u16) -> bool
         requires { band < 64 }
     {
-        has_bit(self.unread, band) && self.looks.allow(words)
+        has_bit(self.unread, band) && self.looks.allow()
     }
 }
 

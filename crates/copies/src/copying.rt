@@ -4,13 +4,12 @@ ghost use Rattle.std.specs.Prelude.{◌≡◌, ℕ, ◌<◌, true, Some, slice_i
 ghost use Rattle.std.specs.Int.{bit_at};
 ghost use Rattle.bits.specs.Tiles.{tiles_down};
 ghost use Rattle.bits.specs.Words.{words_across};
-ghost use Rattle.clearance.specs.Rows.{IsBlankRow, words_of_row};
+ghost use Rattle.clearance.specs.Rows.{words_of_row};
 ghost use Rattle.events.specs.Tidy.{IsOfMap};
 ghost use Rattle.copies.specs.Copies.{bitmap_seen, HasSlot, IsCopying};
 
 use crate::copy::VersionCopy;
 use bits::{has_bit, without_bit};
-use clearance::is_blank;
 use metric::BAND_ROWS;
 use shelf::{ReaderSeat, StoreName};
 
@@ -38,7 +37,7 @@ impl VersionCopy {
             (words_of_row (bitmap_seen Id.store seat.old version) y) index }
     {
         let band = y / BAND_ROWS;
-        if self.is_looked_at(band, 1) {
+        if self.is_looked_at(band) {
             let across = u32::from(self.bitmap.width()).div_ceil(64);
             let word = look_word(seat, version, slot, across, y, index as u32);
             self.looks.count_word(word);
@@ -70,37 +69,6 @@ impl VersionCopy {
         self.looks.count_read();
         self.ready(seat, version, slot, y / BAND_ROWS);
         self.bitmap.row_words(y)[index]
-    }
-
-    /// Whether no cell of row `y` of the held version is an obstacle, read as `word` does.
-    pub fn is_blank<Id: StoreName>(
-        &mut self,
-        seat: &mut ReaderSeat<Id>,
-        version: u32,
-        slot: u32,
-        y: u16,
-    ) -> bool
-        requires copying { IsCopying Id.store seat.old version slot self.old.bitmap
-            self.old.unread }
-        requires row { y < (bitmap_seen Id.store seat.old version).height }
-        ensures seat { seat.new ≡ seat.old }
-        ensures copying { IsCopying Id.store seat.old version slot self.new.bitmap
-            self.new.unread }
-        ensures blank { result ≡ true → IsBlankRow (bitmap_seen Id.store seat.old version) y }
-    {
-        let band = y / BAND_ROWS;
-        let across = u32::from(self.bitmap.width()).div_ceil(64);
-        if self.is_looked_at(band, across) {
-            let mut blank = 0;
-            'words: while blank < across && look_word(seat, version, slot, across, y, blank) == 0 {
-                blank += 1;
-            }
-            self.looks.count_row(across, blank);
-            return blank == across;
-        }
-        self.looks.count_read();
-        self.ready(seat, version, slot, band);
-        is_blank(self.bitmap.row_words(y))
     }
 
     /// Reads a band of the held version, unless it has been read.

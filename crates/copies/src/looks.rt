@@ -58,10 +58,10 @@ impl Looks {
         }
     }
 
-    /// Whether this many words may be looked at, even if they are blank.
+    /// Whether a word may be looked at, even if it is blank.
     #[inline(always)]
-    pub fn allow(&self, words: u32) -> bool {
-        words <= self.blanks
+    pub fn allow(&self) -> bool {
+        0 < self.blanks
     }
 
     /// Counts a word that was read from the bitmap.
@@ -77,17 +77,6 @@ impl Looks {
             self.blanks.saturating_sub(1)
         } else {
             self.blanks_next()
-        };
-    }
-
-    /// Counts a look at this many words of a row, the first `blank` of them blank and the next, if
-    /// there is one, not.
-    pub fn count_row(&mut self, words: u32, blank: u32) {
-        self.words = self.words.wrapping_add(u64::from(blank));
-        self.blanks = if blank < words {
-            self.blanks_next()
-        } else {
-            self.blanks.saturating_sub(words)
         };
     }
 

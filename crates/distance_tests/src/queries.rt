@@ -90,6 +90,45 @@ fn paths_are_answered(rt: HostRuntime) -> Result<(), Fail> {
     Ok(())
 }
 
+/// Obstacles of a bitmap of 300 columns and rows, all as far from the cell (150, 150), and the one
+/// that comes first: that of the least column, then the nearest row, then the upper one.
+#[test]
+fn ties_over_tiles_are_answered(rt: HostRuntime) -> Result<(), Fail> {
+    let alloc = rt.alloc();
+    let cell = Cell { x: 150, y: 150 };
+    let square = drawn(
+        &rt,
+        alloc,
+        300,
+        300,
+        &[(250, 50), (50, 250), (250, 250), (50, 100)],
+    )?;
+    let answer = at::<Chess>(alloc, &square, Edge::Open, cell);
+    let want = beside_at((150, 150), 100, (50, 100)).1;
+    same(&rt, answer, Ok(Some(want)), "chess");
+    let round = drawn(
+        &rt,
+        alloc,
+        300,
+        300,
+        &[(230, 90), (210, 70), (70, 210), (70, 90)],
+    )?;
+    let answer = at::<Euclid2>(alloc, &round, Edge::Open, cell);
+    let want = beside_at((150, 150), 10000, (70, 90)).1;
+    same(&rt, answer, Ok(Some(want)), "euclid2");
+    let tilted = drawn(
+        &rt,
+        alloc,
+        300,
+        300,
+        &[(180, 80), (120, 220), (80, 180), (80, 120)],
+    )?;
+    let answer = at::<City>(alloc, &tilted, Edge::Open, cell);
+    let want = beside_at((150, 150), 100, (80, 120)).1;
+    same(&rt, answer, Ok(Some(want)), "city");
+    Ok(())
+}
+
 #[test]
 fn cells_are_answered(rt: HostRuntime) -> Result<(), Fail> {
     let row = drawn(&rt, rt.alloc(), 3, 1, &[(0, 0), (2, 0)])?;

@@ -75,20 +75,6 @@ word_in_bits map words y k own within row fits kept cleared =
     let place : (64 * k + i) % 64 ≡ i = omega arith in
     grind (cell_bits, kept i, cleared i)))
 
--- a row is blank if its words are 0
-pub row_blank : (map : ClearmapBits) (words : List ℕ) (y start across : ℕ)
-    → IsShape map.width map.height (words_across map.width) map.stride (length words)
-    → y < map.height → start ≡ y * map.stride → across ≡ words_across map.width
-    → ((k : ℕ) → k < length (take (start + across - start) (drop start words))
-    → get_or (take (start + across - start) (drop start words)) k 0 ≡ 0)
-    → IsBlankRow (cells_of_rows map words) y
-row_blank map words y start across shape row start_is across_is blank k within =
-    let room : start + across ≤ length words = grind arith in
-    let zero : get_or words (y * map.stride + k) 0 ≡ 0 =
-    grind (arith, length-drop, length-take-le, get_or-take, get_or-drop, blank k) in
-    sym (word_in_bits map words y k 0 within row (omega arith) (λ i below bit. rw zero)
-    (λ i past bit. bit_at-zero i)) ∙ (grind arith)
-
 -- a map in bits has no obstacle in a band that is said to be blank
 pub IsBanded-rows : (map : ClearmapBits) (words : List ℕ) → IsSide map.width → IsSide map.height
     → map.blank_bands < 2 ^ 64 → IsBanded (cells_of_rows map words) (bit_not w64 map.blank_bands)

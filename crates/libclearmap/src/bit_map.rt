@@ -3,12 +3,12 @@
 ghost use Rattle.std.specs.Prelude.{◌≡◌, ◌<◌, ◌==◌, length, slice_index, true, if◌then◌else◌};
 ghost use Rattle.std.specs.Int.{bit_at};
 ghost use Rattle.bits.specs.Words.{words_across};
-ghost use Rattle.clearance.specs.Rows.{IsBlankRow, words_of_row};
+ghost use Rattle.clearance.specs.Rows.{words_of_row};
 ghost use Rattle.libclearmap.specs.Layouts.{IsShape};
 
 use crate::layout::ClearmapBits;
 use bits::low_bits;
-use clearance::{Rows, is_blank};
+use clearance::Rows;
 use metric::BAND_ROWS;
 
 /// A map laid out as `map` in these words. Bits past the edge may be anything, and so may what is
@@ -37,17 +37,6 @@ impl<'a> BitMap<'a> {
         let own = low_bits(word, self.map.width as u16 - 64 * index as u16);
         counted(self.map.blank_bands, usize::from(y / BAND_ROWS), own)
     }
-
-    /// Whether no cell of row `y` is an obstacle. A row with a bit set past its edge doesn't count
-    /// as blank.
-    pub fn is_blank_row(&self, y: u16) -> bool
-        requires { y < self.now.map.height }
-        ensures { result ≡ true
-            → IsBlankRow (cells_of_rows self.now.map self.now.words.now) y }
-    {
-        let start = usize::from(y) * self.map.stride;
-        is_blank(&self.words[start..start + self.across()])
-    }
 }
 
 #[tactic(auto, using(crate::proofs::LayoutLemmas::maps))]
@@ -71,10 +60,6 @@ impl<'a> Rows for BitMap<'a> {
     #[inline(always)]
     fn word(&mut self, y: u16, index: usize) -> u64 {
         self.word_at(y, index)
-    }
-
-    fn is_blank(&mut self, y: u16) -> bool {
-        self.is_blank_row(y)
     }
 
     #[inline(always)]

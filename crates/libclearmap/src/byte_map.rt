@@ -68,15 +68,6 @@ impl<'a> Rows for ByteMap<'a> {
         )
     }
 
-    fn is_blank(&mut self, y: u16) -> bool {
-        'words: for index in 0..self.across() {
-            if self.word(y, index) != 0 {
-                return false;
-            }
-        }
-        true
-    }
-
     /// No band is known to be blank.
     fn bands(&self) -> u64 {
         u64::MAX

@@ -50,10 +50,6 @@ impl<'a> Rows for TiledMap<'a> {
         counted(marks, index, self.plain.word_at(y, index))
     }
 
-    fn is_blank(&mut self, y: u16) -> bool {
-        self.plain.is_blank_row(y)
-    }
-
     #[inline(always)]
     fn bands(&self) -> u64 {
         self.plain.bands()

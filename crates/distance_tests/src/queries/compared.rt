@@ -5,7 +5,7 @@ use crate::compare::same;
 use crate::draws::Draws;
 use bits::Bitmap;
 use clearance::{along, at, clear_of, least_in};
-use metric::{Chess, City, Edge, Euclid2, Metric, Rect};
+use metric::{Cell, Chess, City, Edge, Euclid2, Metric, Rect};
 use std::alloc::Global;
 use std::process::Abort;
 use std::test::Fail;
@@ -134,6 +134,36 @@ fn maps_are_answered_as_by_all_cells(rt: HostRuntime) -> Result<(), Fail> {
     for _ in 0..1200 {
         let size = (draws.one_of(&SIDES), draws.one_of(&SIDES));
         compare_map(&rt, rt.alloc(), size, &mut draws)?;
+    }
+    Ok(())
+}
+
+/// Marks each tile of the map as one that may have an obstacle. Its cells stay as they are.
+fn mark_all(bitmap: &mut Bitmap) {
+    for y in (0..bitmap.height()).step_by(64) {
+        for x in (0..bitmap.width()).step_by(64) {
+            let cell = Cell { x, y };
+            let black = bitmap.holds(cell) && bitmap.get(cell);
+            for value in [true, black] {
+                if bitmap.holds(cell) {
+                    bitmap.set(cell, value);
+                }
+            }
+        }
+    }
+}
+
+#[test]
+fn stale_marks_hide_nothing(rt: HostRuntime) -> Result<(), Fail> {
+    let mut draws = Draws::new(64);
+    for (width, height) in [(130, 130), (65, 200), (300, 129)] {
+        for rare in [300, 20000] {
+            let mut bitmap = draws.map(rt.alloc(), width, height, rare)?;
+            mark_all(&mut bitmap);
+            compare::<Euclid2>(&rt, rt.alloc(), &bitmap, &mut draws)?;
+            compare::<City>(&rt, rt.alloc(), &bitmap, &mut draws)?;
+            compare::<Chess>(&rt, rt.alloc(), &bitmap, &mut draws)?;
+        }
     }
     Ok(())
 }

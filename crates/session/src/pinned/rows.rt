@@ -28,11 +28,6 @@ impl<Id: StoreName> Rows for Pinned<Id> {
         self.copy.word(&mut self.seat, version, slot, y, index)
     }
 
-    fn is_blank(&mut self, y: u16) -> bool {
-        let (version, slot) = (self.version, self.slot);
-        self.copy.is_blank(&mut self.seat, version, slot, y)
-    }
-
     #[inline(always)]
     fn bands(&self) -> u64 {
         self.copy.bands()

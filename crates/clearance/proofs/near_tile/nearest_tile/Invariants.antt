@@ -1,22 +1,15 @@
--- The best tile so far is one of a band.
-use Rattle.std.proofs.Common.{◌+◌, ◌-◌, ◌<◌, ◌≤◌}
+-- The nearest tile so far is one of the map's.
+use Rattle.std.proofs.Common.{◌+◌, ◌-◌, ◌/◌, ◌≤◌, IfSome}
+use Rattle.clearance.specs.Seekers.{IsPlaceIn}
 use Rattle.clearance.proofs.near_tile.nearest_tile.Given as goal
 
-abbrev pub invariant-inside : goal.invariant-inside
-invariant-inside g l = record {
-  best : l.best.band < 64;
-  few : l.inside ≤ 64;
+abbrev pub invariant-bands : goal.invariant-bands
+invariant-bands g l = record {
+  above : l.left.above ≤ l.start.y / 64;
+  below : l.start.y / 64 ≤ l.left.below;
+  few : l.left.below ≤ 64;
+  place : IfSome l.nearest.place (IsPlaceIn l.across);
 }
 
-abbrev pub decreases-inside : goal.decreases-inside
-decreases-inside g l = 64 - l.inside
-
-abbrev pub invariant-outside : goal.invariant-outside
-invariant-outside g l = record {
-  best : l.best.band < 64;
-  above : l.above ≤ 63;
-  below : l.below ≤ 64;
-}
-
-abbrev pub decreases-outside : goal.decreases-outside
-decreases-outside g l = l.above + (64 - l.below)
+abbrev pub decreases-bands : goal.decreases-bands
+decreases-bands g l = l.left.above + (64 - l.left.below)

@@ -1,6 +1,6 @@
 -- The marks are those of the blank tiles, so that each cell stays as it is.
-use Rattle.libclearmap.proofs.Names.{◌≡◌, ℕ, ◌+◌, ◌-◌, ◌*◌, ◌/◌, ◌%◌, ◌<◌, ◌≤◌, ◌==◌, ◌∙◌, get_or}
-use Rattle.libclearmap.proofs.Names.{inl, refl, ap, sym, arith, bit_at, mul-le-mul_right}
+use Rattle.libclearmap.proofs.Names.{◌≡◌, ℕ, ◌+◌, ◌-◌, ◌*◌, ◌/◌, ◌%◌, ◌<◌, ◌≤◌, ◌==◌, get_or}
+use Rattle.libclearmap.proofs.Names.{inl, refl, ap, arith, bit_at, mul-le-mul_right}
 use Rattle.libclearmap.proofs.Names.{IsBitmap-cells_where, IsBlankTile, bands_down, cells_of_bits}
 use Rattle.libclearmap.proofs.MarkLemmas.{blank_rows_tile, marks_placed}
 use Rattle.libclearmap.proofs.TileLemmas.{marked_same, obstacle_found}
