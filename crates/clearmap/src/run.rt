@@ -18,7 +18,7 @@ use std::rt::Env;
 use std::sync::Wait;
 use std::thread::Threads;
 use std::time::Clock;
-use streams::{ErrorSink, Held, Noted, REFUSED, ReaderSource, WriterSink};
+use streams::{DONE, ErrorSink, Held, Noted, REFUSED, ReaderSource, WriterSink};
 
 /// Runs what the process's words name, on the standard streams. Returns the exit status. Standard
 /// streams that are closed stay closed: nothing that is opened takes their place.
@@ -104,7 +104,7 @@ where
         Ok(Options::Ask(options)) => ask(rt, alloc, options.port, reader, writer),
         said => run_said(rt, alloc, said, reader, writer, &mut ErrorSink::new(rt)),
     };
-    if status == REFUSED {
+    if status != DONE {
         tell_cure(rt, asked, writer.start());
     }
     status

@@ -2,6 +2,7 @@
 //! and no clause speaks of them.
 
 use crate::arguments::{Fault, Options};
+use clap::error::ErrorKind;
 use std::io::IsTerminal;
 use std::rt::HostRuntime;
 
@@ -28,6 +29,10 @@ pub enum Asked {
     Serve(u16),
     /// Replies of the server on this port.
     Ask(u16),
+    /// Nothing that can be run, since a word is one too many.
+    Excess,
+    /// A command that the program doesn't have.
+    Unknown,
     /// Something else, or nothing that can be run.
     Other,
 }
@@ -40,6 +45,16 @@ impl Asked {
             Ok(Options::Dist(_)) => Asked::Table,
             Ok(Options::Serve(options)) => Asked::Serve(options.port),
             Ok(Options::Ask(options)) => Asked::Ask(options.port),
+            Err(Fault::Words(fault)) => Asked::in_vain(fault.kind()),
+            _ => Asked::Other,
+        }
+    }
+
+    /// What words ask for that have this mistake.
+    fn in_vain(mistake: ErrorKind) -> Self {
+        match mistake {
+            ErrorKind::UnknownArgument => Asked::Excess,
+            ErrorKind::InvalidSubcommand => Asked::Unknown,
             _ => Asked::Other,
         }
     }
@@ -50,7 +65,7 @@ pub fn tell_waiting(rt: &(impl Typed + Eprint), asked: Asked) {
     let command = match asked {
         Asked::Table | Asked::Query => "dist",
         Asked::Serve(_) => "serve",
-        Asked::Ask(_) | Asked::Other => return,
+        _ => return,
     };
     if rt.is_typed() {
         let _ = eprintln!(rt;
@@ -81,6 +96,12 @@ pub fn tell_cure(rt: &impl Eprint, asked: Asked, start: &[u8]) {
                 where METRIC is euclid2, city or chess"
             )
         }
+        Asked::Serve(_) if start.starts_with(b"ERR 16 ".as_slice()) => {
+            eprintln!(rt;
+                "clearmap: --blocks is from the map's tiles of 64 by 64 cells to 16384, \
+                --versions from 2 to 64, --log from 1 to 1048576"
+            )
+        }
         Asked::Serve(port) if start.starts_with(b"FAULT net\n".as_slice()) => {
             eprintln!(rt;
                 "clearmap: can't listen on port {} of this machine: it is taken, \
@@ -92,6 +113,18 @@ pub fn tell_cure(rt: &impl Eprint, asked: Asked, start: &[u8]) {
             eprintln!(rt;
                 "clearmap: no server answers on port {} of this machine",
                 port
+            )
+        }
+        Asked::Excess => {
+            eprintln!(rt;
+                "clearmap: a map is read from standard input: clearmap dist < map.pbm; \
+                a query is one word, in quotes: --query 'AT euclid2 3 4'"
+            )
+        }
+        Asked::Unknown => {
+            eprintln!(rt;
+                "clearmap: clearmap-backup, clearmap-gateway, clearmap-publish, clearmap-ros, \
+                clearmap-ros-node and clearmap-view are programs of their own"
             )
         }
         _ => return,

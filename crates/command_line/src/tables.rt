@@ -100,7 +100,7 @@ pub const COMMANDS: [Entry<'static>; 4] = [
             Flag {
                 name: "versions",
                 takes: Takes::Default("NUMBER", "8"),
-                help: "How many versions are kept at most",
+                help: "How many versions are kept at most, until COLLECT frees those without a pin",
             },
             Flag {
                 name: "log",
@@ -119,7 +119,7 @@ pub const COMMANDS: [Entry<'static>; 4] = [
         name: "ask",
         usage: "clearmap ask --port <NUMBER> < LINES",
         about: "Send the lines on standard input to a server, and print each reply",
-        after_help: "After a line 'STAMP x y n' come the n bytes of its image. Each line is answered before the next is\nsent. The run ends after BYE, or at the end of standard input; a last line without a line feed isn't\nsent. Without a server, or where it ends before a reply that is due, 'FAULT net' is printed, with\nstatus 1. Where all workers of the server are taken, it waits until one is free.\n\nExamples:\n  printf 'PIN\\nAT euclid2 3 4\\nQUIT\\n' | clearmap ask --port 7400\n  printf 'PAINT 0 0 8 8\\nPUBLISH\\nQUIT\\n' | clearmap ask --port 7400",
+        after_help: "After a line 'STAMP x y n' come the n bytes of its image. Each line is answered before the next is\nsent. The run ends after BYE, or at the end of standard input; a last line without a line feed isn't\nsent. Without a server, or where it ends before a reply that is due, 'FAULT net' is printed, with\nstatus 1. Where all workers of the server are taken, it waits until one is free.\n\nExamples:\n  printf 'PIN\\nAT euclid2 3 4\\nQUIT\\n' | clearmap ask --port 7400\n  printf 'PAINT 0 0 8 8\\nPUBLISH\\nCOLLECT\\nQUIT\\n' | clearmap ask --port 7400",
         flags: &[Flag {
             name: "port",
             takes: Takes::Required("NUMBER"),
