@@ -56,7 +56,8 @@ SAID = (
     (0, "checked bits::band::marked, 2 of 2\nlogic=proved functions=2\n", "PASSED", ""),
     (1, OMEGA + END, "refused", OMEGA[:90]),
     (1, NOT_PROVED, "refused", NOT_PROVED[:90]),
-    (1, NO_GOAL + DIFFERS + END, "refused", DIFFERS[:90]),
+    (1, NO_GOAL + DIFFERS + END, "answers", DIFFERS[:90]),
+    (1, DIFFERS + NOT_PROVED + END, "refused", NOT_PROVED[:90]),
     (1, f"{NO_FIELD} (nearest: .with_bit-self-inside)\n{FIELDS}{RESTS}{OMEGA}", "refused", OMEGA[:90]),
     (1, f"{NO_FIELD} (nearest: .with_bit-self-inside)\n{FIELDS}{RESTS}{END}{HELP}", "names", NO_FIELD),
     (1, f"{NO_FIELD}\n  (nearest: .with_bit-self-inside)\n{FIELDS}{END}{HELP}", "names", NO_FIELD),
@@ -135,7 +136,6 @@ class Verdicts(unittest.TestCase):
                 place = SOURCE.index(f"    {text}\n") + 4
                 self.assertEqual(try_edits.function_at(SOURCE, place), function)
 
-
     def test_what_is_asked_for(self):
         asked = try_edits.asked_by(["shelf", "--folder", "must-fail", "first", "second"])
         self.assertEqual(asked.edit, ["first", "second"])
@@ -151,9 +151,9 @@ class Tries(unittest.TestCase):
         (self.crate / "src").mkdir(parents=True)
         self.source = self.crate / "src/lib.rt"
         self.source.write_text(SOURCE)
-        stand_in = pathlib.Path(folder.name, "rt")
-        stand_in.write_text('#!/bin/sh\necho "$2"\ncat src/lib.rt > tried\n')
-        stand_in.chmod(0o755)
+        self.stand_in = pathlib.Path(folder.name, "rt")
+        self.stand_in.write_text('#!/bin/sh\necho "$2"\ncat src/lib.rt > tried\n')
+        self.stand_in.chmod(0o755)
         path = os.environ["PATH"]
         self.addCleanup(os.environ.__setitem__, "PATH", path)
         os.environ["PATH"] = f"{folder.name}:{path}"
@@ -169,6 +169,18 @@ class Tries(unittest.TestCase):
         text = "file: src/lib.rt\nold:         self.width\nnew:         self.height\n"
         self.assertEqual(self.tried(text), ("Bitmap::width", "PASSED", ""))
         self.assertIn("        self.height\n", (self.crate / "tried").read_text())
+
+    def test_an_answer_alone_refuses_nothing_without_a_control(self):
+        said = pathlib.Path(self.stand_in.parent, "said")
+        said.write_text(DIFFERS)
+        refuses = f'grep -q "self.width\\.max(0)" src/lib.rt || {{ cat {said}; exit 1; }}\n'
+        self.stand_in.write_text(f"#!/bin/sh\n{refuses}")
+        edit = "file: src/lib.rt\nold:         self.width\nnew:         self.height\n"
+        self.assertEqual(self.tried(edit)[1], "answers")
+        function, verdict, line = self.tried(f"{edit}control:         self.width.max(0)\n")
+        self.assertEqual((function, verdict), ("Bitmap::width", "refused"))
+        self.assertIn("its control passes", line)
+        self.assertEqual(self.tried(f"{edit}control:         self.width | 0\n")[1], "control")
 
     def test_an_old_text_stands_once(self):
         for old in ("    }", "self.depth"):
