@@ -173,9 +173,11 @@ PYTHON
 
 # A version is read once at most, and not at each query: that would be over a million instructions.
 if command -v valgrind > /dev/null; then
-    few=$(instructions 200)
-    many=$(instructions 700)
-    expect 'instructions of a query, in hundred thousands' "$(((many - few) / 500 / 100000))" 0
+    few=$(instructions 200) && many=$(instructions 700)
+    expect 'counts of instructions, by their status' "$?" 0
+    expect 'more queries take more instructions' "$((${many:-0} > ${few:-0}))" 1
+    expect 'instructions of a query, in hundred thousands' \
+        "$(((${many:-0} - ${few:-0}) / 500 / 100000))" 0
 else
     echo 'valgrind is not installed: what a query reads is left out'
 fi
