@@ -5,8 +5,9 @@ ghost use Rattle.metric.specs.Kind.{distance_of};
 ghost use Rattle.lines.specs.Asked.{asked_by, metric_asked};
 ghost use Rattle.answering.specs.Queries.{IsAnswerBy};
 
+use crate::bordered::Bordered;
 use bits::Bitmap;
-use clearance::{Bordered, Queried};
+use clearance::Queried;
 use lines::{Answer, Query};
 use metric::{Chess, City, Edge, Euclid2, Metric, MetricKind};
 use std::alloc::Global;

@@ -104,16 +104,6 @@ pub AreLinesFar-first : (distance : ℕ → ℕ → ℕ) (lines : Lines) (end li
 AreLinesFar-first distance lines end line tile y word first a b here =
     λ k x z from before on_line. first.before k from before x z (pos a) (pos b) on_line here
 
--- no line has, where the word isn't near their rectangle
-pub AreLinesFar-least : (distance : ℕ → ℕ → ℕ) (lines : Lines) (rect : Rect) (start : Cell)
-    (end limit tile y word least : ℕ) → IsRectLeft lines end rect start limit
-    → IsLeastBelow distance (IsWordSpot tile y word) rect lines.limit least → lines.limit ≤ least
-    → (a b : ℕ) → IsInWord tile y word a b → AreLinesFar distance lines end a b
-AreLinesFar-least distance lines rect start end limit tile y word least shape is low a b here =
-    λ k x z from before on_line.
-    let far = (is.far x z (pos a) (pos b) (shape.all k x z from before on_line) here).not_below in
-    omega arith
-
 -- no line has an obstacle near that is as far from their rectangle as the limit
 pub AreLinesFar-beyond : (distance : ℕ → ℕ → ℕ) → Grows distance → StaysNearer distance
     → (lines : Lines) (rect : Rect) (start : Cell) (end limit dist x gap a b : ℕ)

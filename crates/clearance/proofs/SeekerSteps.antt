@@ -1,7 +1,6 @@
 -- What a search knows of the obstacles that it leaves out and of those that it meets.
-use Rattle.std.proofs.Common.{◌∙◌}
-use Rattle.std.proofs.Common.{◌≡◌, ℕ, ◌+◌, ◌*◌, ◌/◌, ◌<◌, ◌≤◌, ◌⊎◌, min, inl, inr, get_or, refl, sym}
-use Rattle.std.proofs.Common.{subst, arith}
+use Rattle.std.proofs.Common.{◌≡◌, ℕ, ◌+◌, ◌-◌, ◌*◌, ◌/◌, ◌<◌, ◌≤◌, min, inl, inr, get_or, refl, sym}
+use Rattle.std.proofs.Common.{subst, ◌⊎◌, ◌∙◌, arith}
 use Rattle.std.proofs.lemmas.Bool.{cases_lt}
 use Rattle.metric.specs.Crossing.{StaysNearer}
 use Rattle.metric.specs.Distance.{Grows}
@@ -9,10 +8,10 @@ use Rattle.metric.specs.declared.rect.Rect.{Rect}
 use Rattle.metric.proofs.Growing.{of_grows}
 use Rattle.bits.specs.Cells.{Cells, IsBitmap, IsObstacle}
 use Rattle.clearance.specs.Rows.{IsMarked, words_of_row}
-use Rattle.clearance.specs.Search.{IsRectIn, column_gap, row_gap}
-use Rattle.clearance.specs.Seekers.{Aim, AreObstacles, AreTilesLeft, IsBeyond, IsCutTo, IsInPart}
-use Rattle.clearance.specs.Seekers.{IsOnward, IsPartOf, IsSeenFrom}
-use Rattle.clearance.specs.declared.part.Part.{Part}
+use Rattle.clearance.specs.Search.{column_gap, row_gap}
+use Rattle.clearance.specs.Seekers.{Aim, AreAsFarBands, AreObstacles, IsBeyond}
+use Rattle.clearance.specs.Seekers.{IsOnward, IsPartOf}
+use Rattle.clearance.specs.declared.outwards.Bands.{Bands}
 use Rattle.clearance.specs.Spots.{IsInTile, IsInTileRows, IsInWord}
 use Rattle.clearance.proofs.RowWords.{IsRowOf-words}
 use Rattle.clearance.proofs.Searches.{marked_obstacle, obstacle_marked, obstacle_within}
@@ -57,6 +56,65 @@ row_gap-part whole part b within =
     let top = within.top in
     let bottom = within.bottom in
     omega arith
+
+-- a seeker that went on twice went on
+pub IsOnward-twice : {S : Type 0} (aim : Aim S) (cells : Cells) (first middle last : S)
+    → IsOnward aim cells first middle → IsOnward aim cells middle last
+    → IsOnward aim cells first last
+IsOnward-twice aim cells first middle last before after = record {
+  rect =
+      let whole = before.rect in
+      let part = after.rect in
+      let left = whole.left in
+      let top = whole.top in
+      let right = whole.right in
+      let bottom = whole.bottom in
+      let more_left = part.left in
+      let more_top = part.top in
+      let more_right = part.right in
+      let more_bottom = part.bottom in
+      record { left = omega arith; top = omega arith; right = omega arith; bottom = omega arith };
+  counted = λ rect is. after.counted rect (before.counted rect is);
+  start = after.start ∙ before.start;
+  settled = λ a b far. after.settled a b (before.settled a b far);
+  kept = λ root kept. after.kept root (before.kept root kept);
+}
+
+-- how many rows a band lies outside a rectangle, if there is one
+abbrev pub IsAsFar : Type 0 → Rect → ℕ → ℕ → Type 0
+IsAsFar Some rect band rows =
+    ((Some → ⊥) × (rows ≡ 4097))
+    ⊎ ((rows ≤ 4096) × ((b : ℕ) → b / 64 ≡ band → rows ≤ row_gap rect b))
+
+-- of the bands that are left, the nearest above and the nearest below are as far as any
+pub AreAsFarBands-nearest : (left : Bands) (rect : Rect) (y up down gap : ℕ) → rect.y0 ≤ y
+    → y < rect.y1 → left.above ≤ y / 64 → y / 64 ≤ left.below → left.below ≤ 64
+    → IsAsFar (0 < left.above) rect (left.above - 1) up
+    → IsAsFar (left.below < 64) rect left.below down
+    → gap ≡ min up down → (gap ≡ 4097 → ⊥) → AreAsFarBands left rect gap
+AreAsFarBands-nearest left rect y up down gap top bottom above below few of_up of_down gap_is some =
+    record {
+      few = elim of_up [
+        | inl no_one ↦ elim of_down [
+          | inl none ↦ absurd (some (omega (arith, no_one.1, none.1)))
+          | inr one ↦ omega (arith, one.0)
+        ]
+        | inr one ↦ omega (arith, one.0)
+      ];
+      apart = λ b in_map here. elim here [
+        | inl before ↦ elim of_up [
+          | inl none ↦ absurd (none.0 (omega arith))
+          | inr one ↦ omega (arith, one.1 (64 * (left.above - 1) + 63) (omega arith))
+        ]
+        | inr from ↦ elim of_down [
+          | inl none ↦ absurd (none.0 (omega arith))
+          | inr one ↦ elim (cases_lt left.below (b / 64)) [
+            | inl later ↦ omega (arith, one.1 (64 * left.below + 63) (omega arith))
+            | inr own ↦ omega (arith, one.1 b (omega arith))
+          ]
+        ]
+      ];
+    }
 
 -- an obstacle of a tile is in the rows of its band up to the map's last
 pub IsInTileRows-tile : (cells : Cells) (band tile end a b : ℕ) → IsBitmap cells

@@ -90,6 +90,13 @@ pub record AreOutside (cells : Cells) (part : Part) (rect : Rect) : Type 0 where
   pub apart : (a b : ℕ) → IsInPart cells part a b
       → (part.columns ≤ column_gap rect a) × (part.x ≤ a)
 
+-- a seeker looks at a part of a tile of a map from a rectangle
+pub record IsSeenPart {S : Type 0} (aim : Aim S) (cells : Cells) (part : Part) (seeker : S)
+    (rect : Rect) : Type 0 where
+  pub in_map : IsPartIn cells part
+  pub outside : AreOutside cells part rect
+  pub seen : IsSeenFrom aim seeker rect
+
 -- a part of a tile has fewer rows than another
 pub record IsCutTo (whole part : Part) : Type 0 where
   pub tile : part.tile ≡ whole.tile

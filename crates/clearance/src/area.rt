@@ -1,6 +1,6 @@
 //! The first cell of a rectangle with the least distance: least row first, then least column.
 
-ghost use Rattle.std.specs.Prelude.{◌≡◌, ◌<◌, true};
+ghost use Rattle.std.specs.Prelude.{◌≡◌, ◌<◌};
 ghost use Rattle.bits.specs.Cells.{IsInside};
 ghost use Rattle.bits.specs.Edges.{IsBlocked};
 ghost use Rattle.clearance.specs.Answers.{IsLeastOf, cells_of_rect};
@@ -33,21 +33,14 @@ pub fn least_of_rect<M: Metric, R: Rows>(
         return None;
     }
     let limit = least + 1;
-    if is_at_obstacle::<M>(least) {
+    // Cells this near to an obstacle are obstacles: those beside one are farther.
+    if least < u64::from(M::of(1, 0).min(M::of(0, 1))) {
         let cell = first_obstacle(rows, rect);
         return with_nearest::<M, R>(rows, edge, cell, limit);
     }
     let y = first_row::<M, R>(rows, edge, rect, limit);
     let x = first_column::<M, R>(rows, edge, rect, y, limit);
     with_nearest::<M, R>(rows, edge, Cell { x, y }, limit)
-}
-
-/// Whether cells this near to an obstacle are obstacles: those beside one are farther.
-#[inline(always)]
-fn is_at_obstacle<M: Metric>(least: u64) -> bool
-    ensures { result ≡ true → (least < M.distance 1 0) × (least < M.distance 0 1) }
-{
-    least < u64::from(M::of(1, 0).min(M::of(0, 1)))
 }
 
 /// The first row of the rectangle in which a cell has an obstacle at a distance below the limit.

@@ -10,30 +10,21 @@ ghost use Rattle.clearance.specs.Seekers.{AreTilesLeft, IsLeft, IsOnward, IsPlac
 ghost use Rattle.clearance.specs.Seekers.{IsPast, IsPlaceMet};
 ghost use Rattle.clearance.specs.Spots.{IsInBand, IsInTile};
 
+use crate::bit::{after_last_bit, next_bit};
 use crate::gaps::{columns_apart, rows_apart};
 use crate::near_tile::{Place, nearest_tile};
 use crate::outwards::Bands;
 use crate::part::Part;
 use crate::rows::Rows;
 use crate::seeker::Seeker;
-use crate::tiles::{after_last_tile, next_tile};
 use bits::{has_bit, without_bit};
 use metric::{BAND_ROWS, Metric, Rect, WORD_CELLS};
 
 /// Meets all obstacles that matter: band by band and tile by tile from the rectangle outwards.
+///
+/// It begins with what is likely to be near, so that few others matter: the rectangle's first row,
+/// or, if the start's tile has no obstacle, the nearest tile.
 pub fn search<M: Metric, R: Rows, S: Seeker<M>>(rows: &mut R, seeker: &mut S)
-    requires { IsRectIn (R.cells rows.old) (S.aim.from seeker.old) }
-    ensures onward { IsOnward S.aim (R.cells rows.old) seeker.old seeker.new }
-    ensures met { (a b : ℕ) → IsObstacle (R.cells rows.old) a b → S.aim.settles seeker.new a b }
-    ensures rows { rows.new ≡ rows.old }
-{
-    let bands = Bands::of(rows.bands(), seeker.start().y / BAND_ROWS);
-    search_others::<M, R, S>(rows, bands, None, seeker);
-}
-
-/// As `search`, but meets first what is likely to be near, so that few others matter: the
-/// rectangle's first row, or, if the start's tile has no obstacle, the nearest tile.
-pub fn search_near<M: Metric, R: Rows, S: Seeker<M>>(rows: &mut R, seeker: &mut S)
     requires { IsRectIn (R.cells rows.old) (S.aim.from seeker.old) }
     ensures onward { IsOnward S.aim (R.cells rows.old) seeker.old seeker.new }
     ensures met { (a b : ℕ) → IsObstacle (R.cells rows.old) a b → S.aim.settles seeker.new a b }
@@ -67,38 +58,15 @@ fn search_row<M: Metric, R: Rows, S: Seeker<M>>(rows: &mut R, seeker: &mut S)
         return;
     }
     'row: for tile in first..last + 1 {
-        search_word::<M, R, S>(rows, tile, start.y, rect, seeker);
+        let word = rows.word(start.y, usize::from(tile));
+        if word == 0 {
+            continue;
+        }
+        seeker.meet(word, tile, start.y, 0);
         if seeker.is_far(M::of(0, 0), 0, 0) {
             return;
         }
     }
-}
-
-/// Meets the obstacles of a word of a row of the rectangle.
-#[inline(always)]
-fn search_word<M: Metric, R: Rows, S: Seeker<M>>(
-    rows: &mut R,
-    tile: u16,
-    y: u16,
-    rect: Rect,
-    seeker: &mut S,
-)
-    requires top { rect.y0 ≤ y }
-    requires bottom { y < rect.y1 }
-    requires counted { S.aim.counts seeker.old rect }
-    requires row { y < (R.cells rows.old).height }
-    requires few { y < 4096 }
-    requires tile { tile < words_across (R.cells rows.old).width }
-    ensures onward { IsOnward S.aim (R.cells rows.old) seeker.old seeker.new }
-    ensures rows { rows.new ≡ rows.old }
-{
-    let few = usize::from(tile) < rows.across();
-    prove!(few);
-    let word = rows.word(y, usize::from(tile));
-    if word == 0 {
-        return;
-    }
-    seeker.meet(word, tile, y, 0);
 }
 
 /// Meets all obstacles of these bands that matter, but those of a tile that was met before.
@@ -203,13 +171,13 @@ fn search_right<M: Metric, R: Rows, S: Seeker<M>>(
     ensures rows { rows.new ≡ rows.old }
 {
     let across = rows.across() as u16;
-    let mut tile = next_tile(tiles, seeker.start().x / WORD_CELLS);
+    let mut tile = next_bit(tiles, seeker.start().x / WORD_CELLS);
     'right: while tile < across {
         if is_tile_far::<M, S>(seeker, band, tile, WORD_CELLS * tile) {
             return;
         }
         search_tile::<M, R, S>(rows, band, tile, seeker);
-        tile = next_tile(tiles, tile + 1);
+        tile = next_bit(tiles, tile + 1);
     }
 }
 
@@ -228,12 +196,12 @@ fn search_left<M: Metric, R: Rows, S: Seeker<M>>(
         → a / WORD_CELLS < (S.aim.begins seeker.old).x / WORD_CELLS → S.aim.settles seeker.new a b }
     ensures rows { rows.new ≡ rows.old }
 {
-    let mut after = after_last_tile(tiles, seeker.start().x / WORD_CELLS);
+    let mut after = after_last_bit(tiles, seeker.start().x / WORD_CELLS);
     'left: while 0 < after {
         if is_tile_far::<M, S>(seeker, band, after - 1, 0) {
             return;
         }
         search_tile::<M, R, S>(rows, band, after - 1, seeker);
-        after = after_last_tile(tiles, after - 1);
+        after = after_last_bit(tiles, after - 1);
     }
 }

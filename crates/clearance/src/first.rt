@@ -5,7 +5,7 @@ ghost use Rattle.bits.specs.Cells.{IsInside, IsObstacle};
 ghost use Rattle.clearance.specs.Nearest.{IsFoundBelow};
 ghost use Rattle.clearance.specs.Seekers.{ComesFirst, IsOneCell};
 
-use crate::around::search_near;
+use crate::around::search;
 use crate::found::Found;
 use crate::gaps::{cell_rect, row_apart};
 use crate::rows::{Rows, holds};
@@ -109,6 +109,6 @@ pub fn nearest<M: Metric, R: Rows>(rows: &mut R, cell: Cell, limit: u64) -> Opti
         limit,
         best: None,
     };
-    search_near::<M, R, First>(rows, &mut first);
+    search::<M, R, First>(rows, &mut first);
     first.best
 }

@@ -94,10 +94,6 @@ impl<M: Metric> Seeker<M> for FirstLine {
             tile,
             y,
         };
-        let limit = found.lines.limit;
-        if word.least_below::<M>(found.rect, limit) >= limit {
-            return;
-        }
         let end = word.first_line::<M>(found.lines, found.end);
         if found.end <= end {
             return;

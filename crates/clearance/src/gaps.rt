@@ -9,45 +9,10 @@ ghost use Rattle.clearance.specs.Spots.{AreLeftOf, AreRightFrom};
 
 use crate::bit::{highest_bit, lowest_bit};
 use crate::spot::parts_of;
-use metric::{BAND_ROWS, Cell, LAST_FRAMED, MOST_SIDE, Rect, WORD_CELLS};
+use metric::{BAND_ROWS, Cell, MOST_SIDE, Rect, WORD_CELLS};
 
 /// A limit above every distance.
 pub const NO_LIMIT: u64 = 1 << 32;
-
-/// The least number of rows that the bands before this one lie outside the rectangle, which has a
-/// row in or below it; `LAST_FRAMED` if there is none.
-#[inline(always)]
-pub fn rows_above(rect: Rect, after: u16) -> u16
-    requires { after ≤ 64 }
-    ensures few { result ≤ LAST_FRAMED }
-    ensures none { after ≡ 0 → result ≡ LAST_FRAMED }
-    ensures some { 0 < after → result < LAST_FRAMED }
-    ensures apart { (y b : ℕ) → y < rect.y1 → after ≤ y / BAND_ROWS → b / BAND_ROWS < after
-        → result ≤ row_gap rect b }
-{
-    if after == 0 {
-        LAST_FRAMED
-    } else {
-        rows_apart(rect, after - 1)
-    }
-}
-
-/// The same for this band and those after it, where the rectangle has a row in or above it.
-#[inline(always)]
-pub fn rows_below(rect: Rect, band: u16) -> u16
-    requires { band ≤ 64 }
-    ensures few { result ≤ LAST_FRAMED }
-    ensures none { band ≡ 64 → result ≡ LAST_FRAMED }
-    ensures some { band < 64 → result < LAST_FRAMED }
-    ensures apart { (y b : ℕ) → rect.y0 ≤ y → y / BAND_ROWS ≤ band → band ≤ b / BAND_ROWS
-        → b < 4096 → result ≤ row_gap rect b }
-{
-    if band < WORD_CELLS {
-        rows_apart(rect, band)
-    } else {
-        LAST_FRAMED
-    }
-}
 
 /// How many columns the nearest obstacle of a word, which has one, lies outside the rectangle.
 #[inline(always)]

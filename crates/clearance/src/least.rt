@@ -4,7 +4,7 @@ ghost use Rattle.std.specs.Prelude.{◌≡◌};
 ghost use Rattle.bits.specs.Cells.{IsObstacle};
 ghost use Rattle.clearance.specs.Search.{IsLeastInBits, IsRectIn};
 
-use crate::around::search_near;
+use crate::around::search;
 use crate::gaps::columns_outside;
 use crate::rows::Rows;
 use crate::seeker::Seeker;
@@ -64,6 +64,6 @@ pub fn least_in_bits<M: Metric, R: Rows>(rows: &mut R, rect: Rect, limit: u64) -
     ensures rows { rows.new ≡ rows.old }
 {
     let mut least = Least { rect, least: limit };
-    search_near::<M, R, Least>(rows, &mut least);
+    search::<M, R, Least>(rows, &mut least);
     least.least
 }

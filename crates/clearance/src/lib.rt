@@ -32,11 +32,8 @@ mod seeker;
 mod segment;
 mod spot;
 mod strip;
-mod tiles;
 mod walk;
 
-pub use queried::{Bordered, Queried};
-pub use queries::{
-    along, along_rows, at, at_rows, clear_of, clear_of_rows, least_in, least_in_rows,
-};
+pub use queried::Queried;
+pub use queries::{along, at, clear_of, least_in};
 pub use rows::Rows;

@@ -12,8 +12,8 @@ impl Part {
     ghost use Rattle.std.specs.Int.{bit_at};
     ghost use Rattle.bits.specs.Cells.{Cells, IsObstacle};
     ghost use Rattle.clearance.specs.Search.{row_gap};
-    ghost use Rattle.clearance.specs.Seekers.{AreFarColumns, AreObstacles, AreOutside};
-    ghost use Rattle.clearance.specs.Seekers.{IsInPart, IsOnward, IsPartIn, IsSeenFrom};
+    ghost use Rattle.clearance.specs.Seekers.{AreFarColumns, AreObstacles, IsInPart};
+    ghost use Rattle.clearance.specs.Seekers.{IsOnward, IsSeenFrom, IsSeenPart};
     ghost use Rattle.clearance.specs.Spots.{IsInWord};
 
     /// Meets the obstacles that matter, row by row from the rectangle outwards: those of the
@@ -26,9 +26,7 @@ impl Part {
         start: u16,
         seeker: &mut S,
     )
-        requires part { IsPartIn (R.cells rows.old) self }
-        requires outside { AreOutside (R.cells rows.old) self rect }
-        requires seen { IsSeenFrom S.aim seeker.old rect }
+        requires part { IsSeenPart S.aim (R.cells rows.old) self seeker.old rect }
         requires top { rect.y0 ≤ start }
         requires bottom { start < rect.y1 }
         ensures onward { IsOnward S.aim (R.cells rows.old) seeker.old seeker.new }
@@ -68,9 +66,7 @@ impl Part {
         to: u16,
         seeker: &mut S,
     ) -> bool
-        requires part { IsPartIn (R.cells rows.old) self }
-        requires outside { AreOutside (R.cells rows.old) self rect }
-        requires seen { IsSeenFrom S.aim seeker.old rect }
+        requires part { IsSeenPart S.aim (R.cells rows.old) self seeker.old rect }
         requires top { rect.y0 ≤ from }
         requires first { self.first ≤ from }
         requires end { to ≤ self.end }
@@ -107,9 +103,7 @@ impl Part {
         to: u16,
         seeker: &mut S,
     ) -> bool
-        requires part { IsPartIn (R.cells rows.old) self }
-        requires outside { AreOutside (R.cells rows.old) self rect }
-        requires seen { IsSeenFrom S.aim seeker.old rect }
+        requires part { IsSeenPart S.aim (R.cells rows.old) self seeker.old rect }
         requires bottom { to ≤ rect.y1 }
         requires first { self.first ≤ from }
         requires end { to ≤ self.end }
@@ -139,9 +133,7 @@ impl Part {
         both: u16,
         seeker: &mut S,
     ) -> bool
-        requires part { IsPartIn (R.cells rows.old) self }
-        requires outside { AreOutside (R.cells rows.old) self rect }
-        requires seen { IsSeenFrom S.aim seeker.old rect }
+        requires part { IsSeenPart S.aim (R.cells rows.old) self seeker.old rect }
         requires above { 0 < both → self.first + both ≤ rect.y0 }
         requires below { 0 < both → rect.y1 + both ≤ self.end }
         ensures onward { IsOnward S.aim (R.cells rows.old) seeker.old seeker.new }
@@ -175,9 +167,7 @@ impl Part {
         far: &mut u64,
         seeker: &mut S,
     ) -> bool
-        requires part { IsPartIn (R.cells rows.old) self }
-        requires outside { AreOutside (R.cells rows.old) self rect }
-        requires seen { IsSeenFrom S.aim seeker.old rect }
+        requires part { IsSeenPart S.aim (R.cells rows.old) self seeker.old rect }
         requires first { self.first ≤ y }
         requires end { y < self.end }
         requires gap { gap ≡ row_gap rect y }

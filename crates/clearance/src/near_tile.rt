@@ -4,11 +4,11 @@ ghost use Rattle.std.specs.Prelude.{◌≤◌, ◌<◌, ◌/◌, IfSome};
 ghost use Rattle.bits.specs.Words.{words_across};
 ghost use Rattle.clearance.specs.Seekers.{IsPlaceIn};
 
+use crate::bit::{after_last_bit, next_bit};
 use crate::gaps::columns_apart;
 use crate::outwards::Bands;
 use crate::rows::Rows;
 use crate::seeker::Seeker;
-use crate::tiles::{after_last_tile, next_tile};
 use metric::{Metric, Rect, WORD_CELLS};
 
 /// A tile of a band.
@@ -78,9 +78,9 @@ pub fn nearest_tile<M: Metric, R: Rows, S: Seeker<M>>(
             return nearest.place;
         }
         let tiles = rows.tiles(band);
-        let tile = next_tile(tiles, own);
+        let tile = next_bit(tiles, own);
         nearest = nearest.or::<M>(rect, gap, Place { band, tile }, across);
-        let after = after_last_tile(tiles, own);
+        let after = after_last_bit(tiles, own);
         if 0 < after {
             let tile = after - 1;
             nearest = nearest.or::<M>(rect, gap, Place { band, tile }, across);

@@ -1,8 +1,8 @@
 //! The bands of a map that a search hasn't met yet, from a rectangle outwards.
 
-use crate::gaps::{rows_above, rows_below};
-use crate::tiles::{after_last_tile, next_tile};
-use metric::{LAST_FRAMED, Rect};
+use crate::bit::{after_last_bit, next_bit};
+use crate::gaps::rows_apart;
+use metric::{LAST_FRAMED, Rect, WORD_CELLS};
 
 /// Which bands are marked, and those of them that are left: before the first of two, and from the
 /// second on.
@@ -39,8 +39,8 @@ impl Bands {
     {
         Bands {
             marked,
-            above: after_last_tile(marked, own),
-            below: next_tile(marked, own),
+            above: after_last_bit(marked, own),
+            below: next_bit(marked, own),
         }
     }
 
@@ -56,20 +56,27 @@ impl Bands {
         ensures next { IfSome result (λ next. IsNextBand self next.band next.left) }
         ensures gap { IfSome result (λ next. AreAsFarBands self rect next.gap) }
     {
-        let (up, down) = (rows_above(rect, self.above), rows_below(rect, self.below));
+        let up = if self.above == 0 {
+            LAST_FRAMED
+        } else {
+            rows_apart(rect, self.above - 1)
+        };
+        let down = if self.below < WORD_CELLS {
+            rows_apart(rect, self.below)
+        } else {
+            LAST_FRAMED
+        };
         let gap = up.min(down);
         if gap == LAST_FRAMED {
             return None;
         }
-        if up < down {
-            let band = self.above - 1;
-            let above = after_last_tile(self.marked, band);
-            let left = Bands { above, ..self };
-            return Some(NextBand { band, gap, left });
-        }
-        let band = self.below;
-        let below = next_tile(self.marked, band + 1);
-        let left = Bands { below, ..self };
+        let (band, left) = if up < down {
+            let above = after_last_bit(self.marked, self.above - 1);
+            (self.above - 1, Bands { above, ..self })
+        } else {
+            let below = next_bit(self.marked, self.below + 1);
+            (self.below, Bands { below, ..self })
+        };
         Some(NextBand { band, gap, left })
     }
 }

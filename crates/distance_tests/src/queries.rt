@@ -76,12 +76,12 @@ fn paths_are_answered(rt: HostRuntime) -> Result<(), Fail> {
     let bitmap = drawn(&rt, rt.alloc(), 6, 4, &[(2, 1)])?;
     for (number, (places, want)) in PATHS.iter().enumerate() {
         let points = cells(rt.alloc(), places)?;
-        let answer = along::<City>(rt.alloc(), &bitmap, Edge::Open, &points);
+        let answer = along::<City, &Bitmap>(&mut &bitmap, Edge::Open, &points);
         match want {
             Ok(found) => same(&rt, answer, Ok(Some(beside(*found))), ("path", number)),
             Err(refusal) => same(&rt, answer, Err(*refusal), ("path", number)),
         }
-        let clear = clear_of::<City>(rt.alloc(), &bitmap, Edge::Open, &points, 0);
+        let clear = clear_of::<City, &Bitmap>(&mut &bitmap, Edge::Open, &points, 0);
         match want {
             Ok(_) => same(&rt, clear, Ok(None), ("path", number)),
             Err(refusal) => same(&rt, clear, Err(*refusal), ("path", number)),
@@ -103,7 +103,7 @@ fn ties_over_tiles_are_answered(rt: HostRuntime) -> Result<(), Fail> {
         300,
         &[(250, 50), (50, 250), (250, 250), (50, 100)],
     )?;
-    let answer = at::<Chess>(alloc, &square, Edge::Open, cell);
+    let answer = at::<Chess, &Bitmap>(&mut &square, Edge::Open, cell);
     let want = beside_at((150, 150), 100, (50, 100)).1;
     same(&rt, answer, Ok(Some(want)), "chess");
     let round = drawn(
@@ -113,7 +113,7 @@ fn ties_over_tiles_are_answered(rt: HostRuntime) -> Result<(), Fail> {
         300,
         &[(230, 90), (210, 70), (70, 210), (70, 90)],
     )?;
-    let answer = at::<Euclid2>(alloc, &round, Edge::Open, cell);
+    let answer = at::<Euclid2, &Bitmap>(&mut &round, Edge::Open, cell);
     let want = beside_at((150, 150), 10000, (70, 90)).1;
     same(&rt, answer, Ok(Some(want)), "euclid2");
     let tilted = drawn(
@@ -123,7 +123,7 @@ fn ties_over_tiles_are_answered(rt: HostRuntime) -> Result<(), Fail> {
         300,
         &[(180, 80), (120, 220), (80, 180), (80, 120)],
     )?;
-    let answer = at::<City>(alloc, &tilted, Edge::Open, cell);
+    let answer = at::<City, &Bitmap>(&mut &tilted, Edge::Open, cell);
     let want = beside_at((150, 150), 100, (80, 120)).1;
     same(&rt, answer, Ok(Some(want)), "city");
     Ok(())
@@ -136,9 +136,9 @@ fn cells_are_answered(rt: HostRuntime) -> Result<(), Fail> {
         dist: 1,
         cell: Spot { x: 0, y: 0 },
     };
-    let answer = at::<Euclid2>(rt.alloc(), &row, Edge::Open, Cell { x: 1, y: 0 });
+    let answer = at::<Euclid2, &Bitmap>(&mut &row, Edge::Open, Cell { x: 1, y: 0 });
     same(&rt, answer, Ok(Some(left)), "answer");
-    let answer = at::<Euclid2>(rt.alloc(), &row, Edge::Open, Cell { x: 3, y: 0 });
+    let answer = at::<Euclid2, &Bitmap>(&mut &row, Edge::Open, Cell { x: 3, y: 0 });
     same(&rt, answer, Err(Refusal::OutOfRange), "answer");
 
     let column = drawn(&rt, rt.alloc(), 3, 2, &[(0, 0), (0, 1)])?;
@@ -146,7 +146,7 @@ fn cells_are_answered(rt: HostRuntime) -> Result<(), Fail> {
         dist: 2,
         cell: Spot { x: 0, y: 1 },
     };
-    let answer = at::<Chess>(rt.alloc(), &column, Edge::Open, Cell { x: 2, y: 1 });
+    let answer = at::<Chess, &Bitmap>(&mut &column, Edge::Open, Cell { x: 2, y: 1 });
     same(&rt, answer, Ok(Some(lower)), "answer");
     Ok(())
 }

@@ -97,7 +97,7 @@ fn expect_middle<M: Metric>(
     let cell = Cell { x, y };
     same(
         rt,
-        at::<M>(alloc, bitmap, Edge::Wall, cell)?,
+        at::<M, &Bitmap>(&mut &*bitmap, Edge::Wall, cell)?,
         Some(near),
         ("query", x, y),
     );

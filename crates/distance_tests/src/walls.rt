@@ -44,7 +44,7 @@ fn a_blank_map_is_walled(rt: HostRuntime) -> Result<(), Fail> {
     for (x, want) in FIRST {
         same(&rt, nears[x], Some(near_at(want)), ("first", x));
     }
-    let answer = at::<Chess>(rt.alloc(), &blank, Edge::Wall, Cell { x: 2, y: 1 });
+    let answer = at::<Chess, &Bitmap>(&mut &blank, Edge::Wall, Cell { x: 2, y: 1 });
     same(&rt, answer, Ok(Some(near_at((2, 0, -1)))), "at");
     Ok(())
 }
@@ -84,7 +84,7 @@ fn expect_tie<M: Metric>(
     bitmap.set(obstacle, true);
     same(
         rt,
-        at::<M>(alloc, &bitmap, Edge::Wall, cell)?,
+        at::<M, &Bitmap>(&mut &bitmap, Edge::Wall, cell)?,
         near,
         ("query", cell, obstacle),
     );
@@ -117,7 +117,7 @@ fn compare<M: Metric>(rt: &impl Abort, alloc: Global, bitmap: &Bitmap) -> Result
             assert!(rt; bitmap.holds(cell));
             let want = nearest_obstacle::<M>(bitmap, Edge::Wall, cell);
             same(rt, answers.next(), Some(&want), ("row", x, y));
-            let answer = at::<M>(alloc, bitmap, Edge::Wall, cell)?;
+            let answer = at::<M, &Bitmap>(&mut &*bitmap, Edge::Wall, cell)?;
             same(rt, answer, want, ("query", x, y));
         }
     }

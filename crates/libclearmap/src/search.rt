@@ -6,7 +6,7 @@ ghost use Rattle.bits.specs.Edges.{IsBlocked};
 ghost use Rattle.libclearmap.specs.Searches.{IsFound, search_status};
 ghost use Rattle.libclearmap.specs.Statuses.{refusal_status};
 
-use clearance::{Rows, along_rows, clear_of_rows, least_in_rows};
+use clearance::{Rows, along, clear_of, least_in};
 use metric::{Cell, Chess, City, Edge, Euclid2, Metric, MetricKind, Near, Rect, Refusal};
 
 /// The columns `x0` to `x1 - 1` and the rows `y0` to `y1 - 1`, as a call names them.
@@ -73,9 +73,9 @@ fn find<M: Metric, R: Rows>(
                 x1: x1 as u16,
                 y1: y1 as u16,
             };
-            least_in_rows::<M, R>(rows, edge, rect)
+            least_in::<M, R>(rows, edge, rect)
         }
-        Search::Path(points) => along_rows::<M, R>(rows, edge, points),
-        Search::ClearOf(points, d) => clear_of_rows::<M, R>(rows, edge, points, d),
+        Search::Path(points) => along::<M, R>(rows, edge, points),
+        Search::ClearOf(points, d) => clear_of::<M, R>(rows, edge, points, d),
     }
 }

@@ -8,7 +8,7 @@ ghost use Rattle.bits.specs.Edges.{IsBlocked};
 ghost use Rattle.clearance.specs.Answers.{IsRefusalFor};
 ghost use Rattle.libclearmap.specs.Settings.{edge_numbered, kind_numbered};
 
-use clearance::{Rows, at_rows};
+use clearance::{Rows, at};
 use metric::{Cell, Chess, City, Edge, Euclid2, MetricKind, Near, Refusal};
 
 /// The numbers by which a call chooses its metric and edge.
@@ -59,7 +59,7 @@ pub fn edge_of(edge: u32) -> Edge
     }
 }
 
-/// The nearest obstacle of the cell, by `at_rows` of `clearance`.
+/// The nearest obstacle of the cell, by `at` of `clearance`.
 pub fn at_by<R: Rows>(
     kind: MetricKind,
     rows: &mut R,
@@ -72,8 +72,8 @@ pub fn at_by<R: Rows>(
     ensures refused { IfErr result (IsRefusalFor (IsInside (R.cells rows.old) cell.x cell.y)) }
 {
     match kind {
-        MetricKind::Euclid2 => at_rows::<Euclid2, R>(rows, edge, cell),
-        MetricKind::City => at_rows::<City, R>(rows, edge, cell),
-        MetricKind::Chess => at_rows::<Chess, R>(rows, edge, cell),
+        MetricKind::Euclid2 => at::<Euclid2, R>(rows, edge, cell),
+        MetricKind::City => at::<City, R>(rows, edge, cell),
+        MetricKind::Chess => at::<Chess, R>(rows, edge, cell),
     }
 }

@@ -7,8 +7,8 @@ mod serve;
 mod server;
 mod workers;
 
-pub use answering::{answer_of, answer_query};
-pub use clearance::{Bordered, Queried};
+pub use answering::{Bordered, answer_of, answer_query};
+pub use clearance::Queried;
 pub use line_io::End;
 pub use lines::{
     Answer, CommandName, Line, MOST_COUNTED, Query, QueryKind, Text, Verb, parse_line, put_answer,

@@ -48,11 +48,11 @@ fn ask(bitmap: &Bitmap, edge: Edge, draws: &mut Draws, kind: usize, points: &mut
         2 | 3 => {
             let x = from.x.min(side - 1000);
             let path = [Cell { x, y: from.y }, Cell { x: x + 999, y: from.y }];
-            sum(if kind == 2 { least_of_path::<Euclid2, &Bitmap>(&mut rows, edge, &path) } else { first_of_path::<Euclid2, &Bitmap>(&mut rows, edge, &path, 16) })
+            sum(if kind == 2 { least_of_path::<Euclid2, &Bitmap>(&mut rows, edge, path[0], &path) } else { first_along::<Euclid2, &Bitmap>(&mut rows, edge, path[0], &path, 16) })
         }
         _ => {
             fill_walk(draws, side, points);
-            sum(least_of_path::<Euclid2, &Bitmap>(&mut rows, edge, points))
+            sum(least_of_path::<Euclid2, &Bitmap>(&mut rows, edge, points[0], points))
         }
     }
 }

@@ -44,7 +44,7 @@ fn compare_cells<M: Metric>(
 ) -> Result<(), Fail> {
     for _ in 0..12 {
         let cell = draws.cell(case.bitmap);
-        let answer = at::<M>(alloc, case.bitmap, Edge::Open, cell)?;
+        let answer = at::<M, &Bitmap>(&mut &*case.bitmap, Edge::Open, cell)?;
         same(rt, answer, case.answers.at(cell), cell);
     }
     Ok(())
@@ -58,7 +58,7 @@ fn compare_rect<M: Metric>(
     rect: Rect,
 ) -> Result<(), Fail> {
     let cells = cells_of_rect(alloc, rect)?;
-    let answer = least_in::<M>(alloc, case.bitmap, Edge::Open, rect)?;
+    let answer = least_in::<M, &Bitmap>(&mut &*case.bitmap, Edge::Open, rect)?;
     same(rt, answer, case.answers.least(&cells), rect);
     Ok(())
 }
@@ -74,12 +74,12 @@ fn compare_path<M: Metric>(
     let count = draws.below(7) + 1;
     let points = draws.path(alloc, case.bitmap, count)?;
     let cells = cells_of_path(alloc, &points)?;
-    let answer = along::<M>(alloc, case.bitmap, Edge::Open, &points)?;
+    let answer = along::<M, &Bitmap>(&mut &*case.bitmap, Edge::Open, &points)?;
     same(rt, answer, case.answers.least(&cells), &points);
     let some = draws.cell(case.bitmap);
     let dist = case.answers.at(some).map_or(3, |near| near.dist);
     for d in [0, dist, dist.saturating_add(1), u32::MAX] {
-        let answer = clear_of::<M>(alloc, case.bitmap, Edge::Open, &points, d)?;
+        let answer = clear_of::<M, &Bitmap>(&mut &*case.bitmap, Edge::Open, &points, d)?;
         let want = case.answers.first_below(&cells, d);
         same(rt, answer, want, ("clear of", &points, d));
     }

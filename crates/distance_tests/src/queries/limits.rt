@@ -27,7 +27,7 @@ fn ask_at_last<M: Metric>(
     let (cell, near) = beside_at((last.x, last.y), dist, (0, 0));
     same(
         rt,
-        at::<M>(alloc, bitmap, Edge::Open, last),
+        at::<M, &Bitmap>(&mut &*bitmap, Edge::Open, last),
         Ok(Some(near)),
         "at",
     );
@@ -35,22 +35,22 @@ fn ask_at_last<M: Metric>(
     let corner = Rect::new(last.x, last.y, last.x + 1, last.y + 1).expect(rt, "it has a cell");
     same(
         rt,
-        least_in::<M>(alloc, bitmap, Edge::Open, corner),
+        least_in::<M, &Bitmap>(&mut &*bitmap, Edge::Open, corner),
         Ok(Some((cell, near))),
         "least in",
     );
     let stay = [last; 1000];
     same(
         rt,
-        along::<M>(alloc, bitmap, Edge::Open, &stay),
+        along::<M, &Bitmap>(&mut &*bitmap, Edge::Open, &stay),
         Ok(Some((cell, near))),
         "along",
     );
-    let found = clear_of::<M>(alloc, bitmap, Edge::Open, &stay, dist.saturating_add(1));
+    let found = clear_of::<M, &Bitmap>(&mut &*bitmap, Edge::Open, &stay, dist.saturating_add(1));
     same(rt, found, Ok(Some((cell, near))), "found");
     same(
         rt,
-        clear_of::<M>(alloc, bitmap, Edge::Open, &stay, dist),
+        clear_of::<M, &Bitmap>(&mut &*bitmap, Edge::Open, &stay, dist),
         Ok(None),
         "clear of",
     );
@@ -73,7 +73,7 @@ fn the_first_cell_is_answered_from_the_last(rt: HostRuntime) -> Result<(), Fail>
     let found = beside_at((LAST, LAST), 0, (LAST, LAST));
     same(
         &rt,
-        least_in::<City>(rt.alloc(), &bitmap, Edge::Open, whole),
+        least_in::<City, &Bitmap>(&mut &bitmap, Edge::Open, whole),
         Ok(Some(found)),
         "least in",
     );
@@ -81,7 +81,7 @@ fn the_first_cell_is_answered_from_the_last(rt: HostRuntime) -> Result<(), Fail>
     let first = Cell { x: 0, y: 0 };
     same(
         &rt,
-        at::<City>(rt.alloc(), &bitmap, Edge::Open, first),
+        at::<City, &Bitmap>(&mut &bitmap, Edge::Open, first),
         Ok(Some(near)),
         "at",
     );
@@ -113,9 +113,9 @@ fn the_longest_path_is_answered(rt: HostRuntime) -> Result<(), Fail> {
         }
     }
     let found = beside_at((LAST - 1, LAST), 4096, (LAST, 0));
-    let answer = along::<City>(rt.alloc(), &bitmap, Edge::Open, &points);
+    let answer = along::<City, &Bitmap>(&mut &bitmap, Edge::Open, &points);
     same(&rt, answer, Ok(Some(found)), "answer");
-    let answer = clear_of::<City>(rt.alloc(), &bitmap, Edge::Open, &points, 4097);
+    let answer = clear_of::<City, &Bitmap>(&mut &bitmap, Edge::Open, &points, 4097);
     same(&rt, answer, Ok(Some(found)), "answer");
     Ok(())
 }

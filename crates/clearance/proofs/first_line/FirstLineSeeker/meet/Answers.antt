@@ -1,17 +1,9 @@
 -- The first line that has one of the word's obstacles near, or all that are left.
 use Rattle.std.proofs.Common.{arith}
 use Rattle.clearance.proofs.LineWordLemmas.{AreLinesFar-fewer, AreLinesFar-first}
-use Rattle.clearance.proofs.LineWordLemmas.{AreLinesFar-least, AreLinesFar-same, IsLineKept-same}
+use Rattle.clearance.proofs.LineWordLemmas.{AreLinesFar-same, IsLineKept-same}
 use Rattle.clearance.proofs.LineWordLemmas.{IsLineKept-word}
 use Rattle.clearance.proofs.first_line.FirstLineSeeker.meet.Goals as goal
-
-pub returns-then-least_below-limit-clause-met : goal.returns-then-least_below-limit-clause-met
-returns-then-least_below-limit-clause-met g c = λ a b here.
-    let self = c.args.self.now in
-    AreLinesFar-least g.M.Metric.distance self.lines self.rect self.start self.end self.limit
-    c.args.tile c.args.y
-    c.args.word c.least_below.result self.shape c.least_below.ensures c.if-least_below-limit.true a b
-    here
 
 pub returns-then-found-end-clause-met : goal.returns-then-found-end-clause-met
 returns-then-found-end-clause-met g c = λ a b here.

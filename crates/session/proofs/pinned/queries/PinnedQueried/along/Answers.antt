@@ -14,6 +14,6 @@ returns-then-asks_bitmap-clause-least g c =
 
 pub returns-else-asks_bitmap-clause-least : goal.returns-else-asks_bitmap-clause-least
 returns-else-asks_bitmap-clause-least g c =
-    asked_so (λ cells edge. IfOk c.along_rows.result
+    asked_so (λ cells edge. IfOk c.along-else-asks_bitmap.result
     (IsLeastOf g.M.Metric.distance (IsBlocked cells edge) (cells_of_path c.args.points.now))) _ _
-    _ _ refl c.edge-edge.ensures c.along_rows.ensures.least
+    _ _ refl c.edge-edge.ensures c.along-else-asks_bitmap.ensures.least

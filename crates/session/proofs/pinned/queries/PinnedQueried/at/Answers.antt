@@ -13,6 +13,6 @@ returns-then-asks_bitmap-clause-near g c =
 
 pub returns-else-asks_bitmap-clause-near : goal.returns-else-asks_bitmap-clause-near
 returns-else-asks_bitmap-clause-near g c =
-    asked_so (λ cells edge. IfOk c.at_rows.result
+    asked_so (λ cells edge. IfOk c.at-else-asks_bitmap.result
     (IsNear g.M.Metric.distance (IsBlocked cells edge) c.args.cell.x c.args.cell.y)) _ _ _ _ refl
-    c.edge-edge.ensures c.at_rows.ensures.near
+    c.edge-edge.ensures c.at-else-asks_bitmap.ensures.near

@@ -15,7 +15,7 @@ returns-then-asks_bitmap-clause-clear g c =
 
 pub returns-else-asks_bitmap-clause-clear : goal.returns-else-asks_bitmap-clause-clear
 returns-else-asks_bitmap-clause-clear g c =
-    asked_so (λ cells edge. IfOk c.clear_of_rows.result
+    asked_so (λ cells edge. IfOk c.clear_of-else-asks_bitmap.result
     (IsClearOf g.M.Metric.distance (IsBlocked cells edge)
     (cells_of_path c.args.points.now) c.args.d)) _ _ _ _ refl c.edge-edge.ensures
-    c.clear_of_rows.ensures.clear
+    c.clear_of-else-asks_bitmap.ensures.clear

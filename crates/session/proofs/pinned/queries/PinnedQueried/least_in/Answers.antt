@@ -14,7 +14,7 @@ returns-then-asks_bitmap-clause-least g c =
 
 pub returns-else-asks_bitmap-clause-least : goal.returns-else-asks_bitmap-clause-least
 returns-else-asks_bitmap-clause-least g c =
-    asked_so (λ cells edge. IfOk c.least_in_rows.result
+    asked_so (λ cells edge. IfOk c.least_in-else-asks_bitmap.result
     (IsLeastOf g.M.Metric.distance (IsBlocked cells edge)
     (cells_of_rect c.args.rect.x0 c.args.rect.y0 c.args.rect.x1 c.args.rect.y1))) _ _ _ _ refl
-    c.edge-edge.ensures c.least_in_rows.ensures.least
+    c.edge-edge.ensures c.least_in-else-asks_bitmap.ensures.least
