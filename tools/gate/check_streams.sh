@@ -182,12 +182,17 @@ check_hints() {
     hint 'a cell off the map' 1 'ERR 1 OutOfRange' '' dist --query 'AT city 3 0' < "$room/map"
     hint 'an empty input' 1 'ERR 15 BadImage Truncated' '' dist < /dev/null
     hint 'a good table' 0 "$(printf '0 1 4\n1 2 5')" '' dist < "$room/map"
-    serve --connections 1
+    serve --connections 2
     hint 'a taken port' 1 'FAULT net' "can't listen on port $port" serve --connections 1 --port "$port" < "$room/map"
     hint 'an answer' 0 BYE '' ask --port "$port" << 'LINES'
 QUIT
 LINES
-    ended; expect 'a server of one client' "$status" 0 "$text" 'SERVED 1 0'
+    hint 'a refused command' 0 "$(printf 'OK 0\nERR 9 Crooked 1\nBYE')" 'command 2, PATH city 0 0 1 1: ERR 9 Crooked 1$' ask --port "$port" << 'LINES'
+PIN
+PATH city 0 0 1 1
+QUIT
+LINES
+    ended; expect 'a server of two clients' "$status" 0 "$text" 'SERVED 2 0'
     hint 'a server that has ended' 1 'FAULT net' "no server answers on port $port" ask --port "$port" < /dev/null
     if command -v script > /dev/null; then
         { sleep 1; printf 'P1 1 1 1\n\004'; sleep 1; } | timeout 20 script -qec "'$program' dist" /dev/null > "$room/said"

@@ -11,6 +11,7 @@ ghost use Rattle.ask.specs.declared.ask.Stop.TheVariants.{Net, Standard};
 mod exchange;
 mod request;
 
+use crate::told::Hearer;
 use exchange::exchange;
 use metric::{Refusal, Sink, Source, Stream};
 use request::read_request;
@@ -29,17 +30,19 @@ pub enum Stop {
 }
 
 /// Sends the reader's lines to the stream, each with the bytes that it counts, and writes each
-/// reply, with the bytes that it counts, before it sends the next line. Returns the status.
+/// reply, with the bytes that it counts, before it sends the next line. Then the hearer hears of
+/// both. Returns the status.
 ///
 /// It ends after `BYE`, or at the reader's end; it doesn't send a last line without its LF, or
 /// without all bytes that it counts. If the stream fails, or ends before the end of a reply that is
 /// due, it writes `FAULT net`, and when out of memory `ERR 5 Memory`, with status 1. If a call of
 /// the reader or the writer fails, it writes nothing more, and the status is 1.
-pub fn ask_run<S: Stream, R: Source, W: Sink>(
+pub fn ask_run<S: Stream, R: Source, W: Sink, H: Hearer>(
     alloc: Global,
     stream: &mut S,
     reader: &mut R,
     writer: &mut W,
+    hearer: &mut H,
 ) -> u8
     requires stream_reads { CanFail (S.failed_reads stream.old) }
     requires stream_writes { CanFail (S.failed_writes stream.old) }
@@ -101,7 +104,7 @@ pub fn ask_run<S: Stream, R: Source, W: Sink>(
 {
     let mut request = Vec::new(alloc);
     let mut reply = Vec::new(alloc);
-    match ask_lines(stream, reader, writer, &mut request, &mut reply) {
+    match ask_lines(stream, reader, writer, hearer, &mut request, &mut reply) {
         Ok(()) => DONE,
         Err(stop) => end(writer, stop),
     }
@@ -139,10 +142,11 @@ fn print<W: Sink>(writer: &mut W, reply: &[u8]) -> Result<(), Stop>
 }
 
 /// Asks line after line, at most 2^64 - 1 of them.
-fn ask_lines<S: Stream, R: Source, W: Sink>(
+fn ask_lines<S: Stream, R: Source, W: Sink, H: Hearer>(
     stream: &mut S,
     reader: &mut R,
     writer: &mut W,
+    hearer: &mut H,
     request: &mut Vec<u8>,
     reply: &mut Vec<u8>,
 ) -> Result<(), Stop>
@@ -177,7 +181,7 @@ fn ask_lines<S: Stream, R: Source, W: Sink>(
         (talk_at (R.rest reader.new) (S.held stream.new) (S.rest stream.new) (W.held writer.new)) }
 {
     'lines: for _ in 0..u64::MAX {
-        if !ask_line(stream, reader, writer, request, reply)? {
+        if !ask_line(stream, reader, writer, hearer, request, reply)? {
             return Ok(());
         }
     }
@@ -186,10 +190,11 @@ fn ask_lines<S: Stream, R: Source, W: Sink>(
 
 /// Asks one line, and returns whether another may follow. The buffers are for the line and its
 /// reply.
-fn ask_line<S: Stream, R: Source, W: Sink>(
+fn ask_line<S: Stream, R: Source, W: Sink, H: Hearer>(
     stream: &mut S,
     reader: &mut R,
     writer: &mut W,
+    hearer: &mut H,
     request: &mut Vec<u8>,
     reply: &mut Vec<u8>,
 ) -> Result<bool, Stop>
@@ -233,6 +238,7 @@ fn ask_line<S: Stream, R: Source, W: Sink>(
     }
     exchange(stream, request.as_slice(), reply)?;
     print(writer, reply.as_slice())?;
+    hearer.heard(request.as_slice(), reply.as_slice());
     Ok(!is_bye(reply.as_slice()))
 }
 

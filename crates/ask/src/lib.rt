@@ -4,5 +4,7 @@
 
 mod ask;
 pub mod net;
+mod told;
 
 pub use ask::ask_run;
+pub use told::{Deaf, Hearer};

@@ -3,6 +3,7 @@
 ghost use Rattle.metric.specs.Stream.{CanFail};
 
 use crate::ask::ask_run;
+use crate::told::Hearer;
 use metric::{Refusal, Sink, Source};
 use std::alloc::Global;
 use std::net::{Net, TcpListener, TcpStream};
@@ -13,11 +14,19 @@ use streams::{NoSocket, REFUSED, Socket, local, write_net_fault, write_refusal};
 ///
 /// Without a server it writes `FAULT net`, and when out of memory for the connection's buffers `ERR
 /// 5 Memory`, with status 1.
-pub fn ask<N, R, W>(rt: &N, alloc: Global, port: u16, reader: &mut R, writer: &mut W) -> u8
+pub fn ask<N, R, W, H>(
+    rt: &N,
+    alloc: Global,
+    port: u16,
+    reader: &mut R,
+    writer: &mut W,
+    hearer: &mut H,
+) -> u8
 where
     N: Net<Listener = TcpListener, Stream = TcpStream>,
     R: Source,
     W: Sink,
+    H: Hearer,
     requires reader { CanFail (R.failed_reads reader.old) }
     requires writer { CanFail (W.failed_writes writer.old) }
 {
@@ -25,7 +34,7 @@ where
         return write_net_fault(writer).unwrap_or(REFUSED);
     };
     match Socket::new(alloc, stream) {
-        Ok(mut socket) => ask_run(alloc, &mut socket, reader, writer),
+        Ok(mut socket) => ask_run(alloc, &mut socket, reader, writer, hearer),
         Err(NoSocket::Broken) => write_net_fault(writer).unwrap_or(REFUSED),
         Err(NoSocket::Memory(_)) => write_refusal(writer, Refusal::Memory).unwrap_or(REFUSED),
     }

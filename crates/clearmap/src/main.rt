@@ -1,6 +1,7 @@
 //! The program `clearmap`: exact distances to the nearest obstacle of an occupancy grid.
 #![tactic(auto)]
 
+mod refused;
 mod run;
 mod serve;
 

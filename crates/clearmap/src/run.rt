@@ -2,6 +2,7 @@
 
 ghost use Rattle.metric.specs.Stream.{CanFail};
 
+use crate::refused::Refused;
 use crate::serve::serve;
 use ask::net::ask;
 use command_line::{
@@ -101,7 +102,16 @@ where
     let alloc = rt.alloc();
     let status = match said {
         Ok(Options::Serve(options)) => serve(rt, alloc, &options, reader, writer),
-        Ok(Options::Ask(options)) => ask(rt, alloc, options.port, reader, writer),
+        Ok(Options::Ask(options)) => {
+            ask(
+                rt,
+                alloc,
+                options.port,
+                reader,
+                writer,
+                &mut Refused::new(rt),
+            )
+        }
         said => run_said(rt, alloc, said, reader, writer, &mut ErrorSink::new(rt)),
     };
     if status != DONE {

@@ -1,7 +1,7 @@
 //! Lines that are asked: what is sent, what is printed, and servers that end early.
 
 use crate::compare::{holds, same};
-use ask::ask_run;
+use ask::{Deaf, Hearer, ask_run};
 use memory_streams::{MemorySink, MemorySource, MemoryStream};
 use metric::{Sink, Source};
 use std::process::Abort;
@@ -94,7 +94,7 @@ fn asks<R: Abort + AllocGlobal>(
     let mut stream = MemoryStream::new(MemorySource::new(said), MemorySink::new(rt.alloc()));
     let mut reader = MemorySource::new(input);
     let mut writer = MemorySink::new(rt.alloc());
-    let got = ask_run(rt.alloc(), &mut stream, &mut reader, &mut writer);
+    let got = ask_run(rt.alloc(), &mut stream, &mut reader, &mut writer, &mut Deaf);
     same(rt, (got, stream.bytes()), (status, sent), (input, said));
     same(rt, writer.bytes(), printed, (input, said));
 }
@@ -103,6 +103,39 @@ fn asks<R: Abort + AllocGlobal>(
 fn lines_are_asked(rt: HostRuntime) {
     for run in &RUNS {
         asks(&rt, *run);
+    }
+}
+
+/// Keeps what it hears, each request before its reply.
+struct Kept<'a> {
+    bytes: &'a mut Vec<u8>,
+}
+
+impl<'a> Hearer for Kept<'a> {
+    fn heard(&mut self, request: &[u8], reply: &[u8]) {
+        let _ = self.bytes.extend_from_slice(request);
+        let _ = self.bytes.extend_from_slice(reply);
+    }
+}
+
+#[test]
+fn each_exchange_is_heard_once_its_reply_is_printed(rt: HostRuntime) {
+    let mut bytes = Vec::new(rt.alloc());
+    for (write, heard) in [
+        (
+            1000,
+            b"PIN\nOK 0\nNO\nERR 11 UnknownCommand\nQUIT\nBYE\n".as_slice(),
+        ),
+        (1, b"".as_slice()),
+    ] {
+        bytes.clear();
+        let source = MemorySource::new(b"OK 0\nERR 11 UnknownCommand\nBYE\n");
+        let mut stream = MemoryStream::new(source, MemorySink::new(rt.alloc()));
+        let mut reader = MemorySource::new(b"PIN\nNO\nQUIT\nUNPIN\n");
+        let mut writer = MemorySink::new(rt.alloc()).failing_at(write);
+        let mut kept = Kept { bytes: &mut bytes };
+        ask_run(rt.alloc(), &mut stream, &mut reader, &mut writer, &mut kept);
+        same(&rt, bytes.as_slice(), heard, write);
     }
 }
 
@@ -118,7 +151,7 @@ fn told_after_failed_read<R: Abort + AllocGlobal>(rt: &R, read: u64) {
     let mut stream = MemoryStream::new(source, MemorySink::new(rt.alloc()));
     let mut reader = MemorySource::new(INPUT);
     let mut writer = MemorySink::new(rt.alloc());
-    let status = ask_run(rt.alloc(), &mut stream, &mut reader, &mut writer);
+    let status = ask_run(rt.alloc(), &mut stream, &mut reader, &mut writer, &mut Deaf);
     let printed = writer.bytes();
     match printed.strip_suffix(b"FAULT net\n".as_slice()) {
         Some(front) => holds(rt, status == 1 && SAID.starts_with(front), ("read", read)),
@@ -132,7 +165,7 @@ fn told_after_failed_write<R: Abort + AllocGlobal>(rt: &R, write: u64) {
     let mut stream = MemoryStream::new(MemorySource::new(SAID), sink);
     let mut reader = MemorySource::new(INPUT);
     let mut writer = MemorySink::new(rt.alloc());
-    let status = ask_run(rt.alloc(), &mut stream, &mut reader, &mut writer);
+    let status = ask_run(rt.alloc(), &mut stream, &mut reader, &mut writer, &mut Deaf);
     let told = status == 0 || writer.bytes().ends_with(b"FAULT net\n");
     holds(
         rt,
@@ -157,7 +190,7 @@ fn ends_the_run<R: Abort + AllocGlobal>(rt: &R, read: u64, write: u64) {
     let mut stream = MemoryStream::new(MemorySource::new(SAID), MemorySink::new(rt.alloc()));
     let mut reader = MemorySource::new(INPUT).failing_at(read);
     let mut writer = MemorySink::new(rt.alloc()).failing_at(write);
-    let status = ask_run(rt.alloc(), &mut stream, &mut reader, &mut writer);
+    let status = ask_run(rt.alloc(), &mut stream, &mut reader, &mut writer, &mut Deaf);
     let failed = reader.failed_reads() == 1 || writer.failed_writes() == 1;
     holds(
         rt,

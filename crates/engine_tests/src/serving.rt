@@ -1,8 +1,8 @@
 //! A server and its clients over loopback, in one process.
 
 use crate::compare::same;
-use ask::ask_run;
 use ask::net::ask;
+use ask::{Deaf, ask_run};
 use bits::Bitmap;
 use command_line::ServeOptions;
 use crossbeam_channel::{Receiver, Sender, bounded};
@@ -65,7 +65,7 @@ fn ask_at<R: Net<Listener = TcpListener, Stream = TcpStream>>(
     if let Ok(stream) = TcpStream::connect(rt, local(port))
         && let Ok(mut socket) = Socket::new(alloc, stream)
     {
-        status = ask_run(alloc, &mut socket, &mut reader, &mut writer);
+        status = ask_run(alloc, &mut socket, &mut reader, &mut writer, &mut Deaf);
     }
     (writer, status)
 }

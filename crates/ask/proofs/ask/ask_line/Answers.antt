@@ -131,7 +131,7 @@ returns g c =
     let reply = rw c.as_slice.ensures.value at heard.reply in
     let told = rw c.as_slice-2.ensures.value at c.in_ok-print.ensures.all in
     let asked = Asks-one _ _ _ _ c.read_request.new.request.items request taken sent in
-    let says = rw c.as_slice-3.ensures.value at c.is_bye.ensures in
+    let says = rw c.as_slice-5.ensures.value at c.is_bye.ensures in
     record {
       went = λ more. asked;
       over = λ over. AsksAll-bye _ _ _ _ _ _ c.exchange.new.reply.items c.is_bye.result
