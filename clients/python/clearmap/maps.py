@@ -176,7 +176,8 @@ class Map:
     ) -> M:
         """A map of an occupancy grid as ROS's message has it: `data` is a list, tuple or array of
         the cells, row after row with the lowest first, each -1 or 0 to 100. Cells from `occupied`
-        on are obstacles, and unknown ones, -1, unless they are said to be free.
+        on are obstacles: 50 is free, and an obstacle with `occupied=20`, as for `read_map` and the
+        nodes of ROS. So are unknown ones, -1, unless they are said to be free.
 
         `frame` is where the map lies, with its size: row 0 of the map is the top one, as the
         frame's. Without a frame say the size, and whether the rows are turned round in the same
