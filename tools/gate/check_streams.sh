@@ -83,6 +83,7 @@ check_dist() {
     # What follows a raw image is kept, so it has to fit into memory; then it is ignored.
     text=$({ printf 'P4\n1 1\n\200'; cat /dev/zero; } | (ulimit -v 200000 && clearmap dist)); expect 'endless bytes after a raw image' $? 1 "$text" 'ERR 5 Memory'
     text=$({ printf 'P4\n1 1\n\200'; head -c 400000000 /dev/zero; } | (ulimit -v 200000 && clearmap dist)); expect 'too many bytes after a raw image' $? 1 "$text" 'ERR 5 Memory'
+    text=$({ printf 'P1\n1 1\n1'; head -c 400000000 /dev/zero | tr '\0' '\n'; } | (ulimit -v 200000 && clearmap dist)); expect 'as many blank ones after a plain image' $? 0 "$text" 0
     text=$({ printf 'P4\n1 1\n\200'; head -c 100000 /dev/zero; } | (ulimit -v 200000 && clearmap dist)); expect 'some bytes after a raw image' $? 0 "$text" '0'
 }
 
