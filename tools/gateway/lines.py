@@ -15,7 +15,7 @@ PINNED = b"ERR 7 AlreadyPinned\n"
 
 CHANGES = (b"PAINT", b"CLEAR", b"PUBLISH", b"REVERT", b"COLLECT", b"CHECKPOINT")
 BARE = (b"PIN", b"UNPIN", b"DUMP", b"QUIT", b"WATCH")
-
+HTTP = b" HTTP/"  # in the first line of what a browser sends
 
 AT = re.compile(rb"AT (euclid2|city|chess) ([0-9]{1,10}) ([0-9]{1,10})\r?\n")
 
@@ -33,7 +33,10 @@ class Line(NamedTuple):
 
 
 def read_line(line: bytes) -> Line:
-    """What a line says, without its line feed."""
+    """What a line says, without its line feed. A browser's ends the connection: what comes after it
+    may be the text of any page."""
+    if HTTP in line:
+        return Line(reply=UNKNOWN, ends=True)
     if line.endswith(b"\r"):
         line = line[:-1]
     verb, *words = line.split(b" ")

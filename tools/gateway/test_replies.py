@@ -162,6 +162,24 @@ class SameReplies(unittest.TestCase):
                     line.socket.shutdown(socket.SHUT_WR)
                     self.assertEqual(line.replies.read(), said)
 
+    def test_browsers(self):
+        """A page's request ends its connection, and nothing of its body is done: that of a script,
+        of a beacon and of a plain form."""
+        lines = b"PAINT 0 0 9 9\r\nPUBLISH\r\n"
+        heads = (b"POST / HTTP/1.1\r\nHost: 127.0.0.1:7401\r\nContent-Type: text/plain\r\n\r\n",
+                 b"POST /PIN HTTP/1.0\n", b"GET /?\xff HTTP/2\r\n", b"PUBLISH HTTP/1.1\r\n")
+        with Served(post()) as server, Gate(server.port, "--links", "2") as gate:
+            for head in heads:
+                with Line(gate.port) as line:
+                    line.socket.sendall(head + lines)
+                    self.assertEqual(line.replies.read(), b"ERR 11 UnknownCommand\n", head)
+            with Line(gate.port) as line:
+                line.socket.sendall(b"PIN\n" + heads[0] + lines)
+                self.assertEqual(line.replies.read(), b"OK 0\nERR 11 UnknownCommand\n")
+            with Line(gate.port) as line:
+                self.assertEqual([line.ask("PUBLISH"), line.ask("PIN")], ["OK 1 1", "OK 1"])
+                self.assertEqual(line.ask("AT city 0 0"), "OK 12 5 7")
+
     def test_no_end_of_input(self):
         """The last reply comes also where the client goes on sending, and the connection ends."""
         with Served(post()) as server, Gate(server.port, "--links", "2") as gate:
