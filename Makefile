@@ -27,7 +27,8 @@ ros = clearmap_answers.py clearmap_costmap.py clearmap_draft.py clearmap_feed.py
     clearmap_follow.py clearmap_grid.py clearmap_layers.py clearmap_messages.py \
     clearmap_order.py clearmap_server.py
 ros_commands = clearmap_node.py clearmap_ros.py clearmap_ros2_node.py
-gateway = clients.py dumps.py limits.py lines.py links.py queries.py streams.py versions.py watch.py
+gateway = clients.py dumps.py limits.py lines.py links.py listener.py queries.py streams.py \
+    versions.py watch.py
 fleet = publisher.py scripts.py source.py store.py
 
 # The library: what is proved comes from rt, and clients/c/clearmap.c goes with it.

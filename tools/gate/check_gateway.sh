@@ -24,7 +24,7 @@ try() { # try COMMAND ..: says how it ended, and what it wrote if it failed
     echo "$*: $(tail -n 1 "$scratch/log")"
 }
 export CLEARMAP="$built"
-for test in replies pins lost waits; do try "$python" "tools/gateway/test_$test.py"; done
+for test in replies pins lost waits full; do try "$python" "tools/gateway/test_$test.py"; done
 printf '#!/bin/sh\nexec %s %s "$@"\n' "$python" "$PWD/tools/stress/served_by_gateway.py" \
     > "$scratch/program"
 chmod +x "$scratch/program"

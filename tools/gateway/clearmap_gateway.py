@@ -12,9 +12,8 @@ import importlib
 import pathlib
 import resource
 import signal
-import socket
 import sys
-from typing import TYPE_CHECKING, Callable
+from typing import TYPE_CHECKING, Callable, Set
 
 HERE = pathlib.Path(__file__).resolve().parent
 TOP = HERE.parent.parent
@@ -22,10 +21,10 @@ PACKAGES = (TOP / "clients/python", HERE.parent / "python")
 sys.path[:0] = [str(HERE), *(str(folder) for folder in PACKAGES if folder.is_dir())]
 
 if TYPE_CHECKING:
-    from clients import Desk
     from links import Server
 
 AGAIN = 1.0  # seconds between two looks for a server
+EARLY = 3.0  # seconds after which it is said that workers of the server are awaited
 OTHERS = 64  # descriptors for all but clients
 NOTES = """\
 A client speaks to it as to the server, and is answered as the server would answer it. A change \
@@ -76,7 +75,7 @@ def parser() -> argparse.ArgumentParser:
     return words
 
 
-def say(text: str) -> None:
+def say(text: object) -> None:
     """One line on standard error."""
     print(f"clearmap-gateway: {text}", file=sys.stderr, flush=True)
 
@@ -88,88 +87,75 @@ class Gateway:
         self._options = options
         self._port: int = options.listen
         self._is_first = True
-        self._said = ""  # why there is no server again
+        self._said: Set[str] = set()  # why there is no server again
 
     async def run(self) -> None:
         """Runs until it is cancelled. Raises if there is no server at first."""
         from links import Server, ServerLost
+        from listener import PortTaken
 
         while True:
             server = Server(self._options.patience)
             try:
                 await self._open(server)
                 await self._serve(server)
-            except (OSError, ServerLost, asyncio.TimeoutError) as fault:
+            except (ServerLost, PortTaken) as fault:
                 if self._is_first:
                     raise
-                self._tell(told(fault, self._options, self._port))
+                self._tell(str(fault))
             finally:
                 server.lose("the gateway ends")
             await asyncio.sleep(AGAIN)
 
     def _tell(self, why: str) -> None:
-        """Says what keeps it from serving again, each reason once after another."""
-        if why != self._said:
+        """Says what keeps it from serving, each reason once until it serves again."""
+        if why not in self._said:
             say(why)
-        self._said = why
+        self._said.add(why)
 
     async def _open(self, server: "Server") -> None:
-        """Connects to the server, whose workers answer within the patience."""
-        opening = server.open(self._options.port, self._options.links)
-        await asyncio.wait_for(opening, self._options.patience)
+        """Connects to the server, whose workers answer within the patience. That they are awaited
+        is said long before its end."""
+        from links import ServerLost
+
+        links, patience = self._options.links, self._options.patience
+        why = f"it hangs, or has fewer than {links} that are free"
+
+        def tell() -> None:
+            self._tell(f"{server.free} of {links} connections have a worker of the server: {why}")
+
+        early = asyncio.get_running_loop().call_later(EARLY, tell)
+        try:
+            await asyncio.wait_for(server.open(self._options.port, links), patience)
+        except asyncio.TimeoutError:
+            late = f"no worker of the server has answered within {patience} s: {why}"
+            raise ServerLost(late) from None
+        finally:
+            early.cancel()
 
     async def _serve(self, server: "Server") -> None:
         """Serves clients as long as the server is there."""
         from clients import Desk
+        from listener import Listener
 
         desk = Desk(server, self._options.patience)
-        listener = await self._listen(desk)
+        listener = Listener(self._port, desk, self._options.clients, say)
+        self._port = listener.port
         if self._is_first:
             print(f"LISTENING {self._port}", flush=True)
         else:
             say("there is a server again")
-        self._is_first, self._said = False, ""
+        self._is_first = False
+        self._said.clear()
         try:
             why = await asyncio.shield(server.lost)
             say(f"{why}: all clients are closed")
         finally:
-            listener.close()
             server.lose("the gateway ends")
             desk.versions.wake()
+            await listener.close()
             for client in list(desk.clients):
                 client.lose()
-
-    async def _listen(self, desk: "Desk") -> asyncio.AbstractServer:
-        """Takes connections, on the port that the first run had."""
-        from clients import Client
-
-        class Refusing(asyncio.Protocol):
-            """A connection beyond the limit."""
-
-            def connection_made(self, transport: asyncio.BaseTransport) -> None:
-                transport.close()
-
-        def accepted() -> asyncio.BaseProtocol:
-            return Client(desk) if len(desk.clients) < self._options.clients else Refusing()
-
-        made = asyncio.get_running_loop().create_server(
-            accepted, "127.0.0.1", self._port, backlog=1024
-        )
-        listener = await made
-        self._port = listener.sockets[0].getsockname()[1]
-        return listener
-
-
-def told(fault: Exception, options: argparse.Namespace, port: int) -> str:
-    """What to say of a fault at the start of a run."""
-    if isinstance(fault, asyncio.TimeoutError):
-        return (
-            f"no worker of the server has answered within {options.patience} s: it hangs, or has "
-            f"fewer than {options.links} that are free"
-        )
-    if isinstance(fault, OSError):
-        return f"port {port} can't be had: {fault.strerror}"
-    return str(fault)
 
 
 async def serve(options: argparse.Namespace) -> None:
@@ -210,6 +196,7 @@ def main() -> int:
     try:
         from clearmap.library import library, numpy
         from links import ServerLost
+        from listener import PortTaken
 
         library(), numpy()
     except ImportError as missing:
@@ -219,8 +206,8 @@ def main() -> int:
     use_fast_loop()
     try:
         asyncio.run(serve(options))
-    except (OSError, ServerLost, asyncio.TimeoutError) as fault:
-        say(told(fault, options, options.listen))
+    except (ServerLost, PortTaken) as fault:
+        say(fault)
         return 1
     return 0
 

@@ -24,7 +24,7 @@ class Desk:
         self.versions = Versions(server, patience)
         self.watchers = Watchers(self.versions)
         self.room = Room(ROOM)
-        self.clients: Dict["Client", None] = {}
+        self.clients: Dict["Client", None] = {}  # whose connections have been taken, and not ended
 
 
 class Client(Stream):
@@ -38,12 +38,9 @@ class Client(Stream):
         self._task: "Optional[asyncio.Task[None]]" = None
         self._news: Optional[int] = None
 
-    def connection_made(self, transport: asyncio.BaseTransport) -> None:
-        super().connection_made(transport)
-        self._desk.clients[self] = None
-
     def connection_lost(self, fault: Optional[Exception]) -> None:
         self._desk.watchers.remove(self)
+        self._desk.clients.pop(self, None)
         super().connection_lost(fault)
 
     def lose(self) -> None:
@@ -136,7 +133,6 @@ class Client(Stream):
         if over and self._held is not None:
             self._task = self._loop.create_task(self._do(Line(b"UNPIN"), silently=True))
         elif over:
-            self._desk.clients.pop(self, None)
             self._end()
         else:
             self._tell_news()

@@ -6,6 +6,7 @@ from typing import Callable, Deque, List, Optional, Tuple, cast
 
 from clearmap.requests import LARGEST_DUMP
 
+GONE = "the server went away"
 LONGEST_REPLY = 128  # bytes of a reply line, with its line feed
 REPLY = re.compile(rb"(?:OK(?: -?\d{1,10})+|NONE|ERR (?!1[34] )\d{1,2} [A-Za-z]+(?: \w+)*)\n")
 
@@ -42,7 +43,7 @@ class Link(asyncio.Protocol):
             self._settle()
 
     def connection_lost(self, fault: Optional[Exception]) -> None:
-        self._lose("the server went away")
+        self._lose(GONE)
 
     # ---- exchanges
 
@@ -76,10 +77,12 @@ class Link(asyncio.Protocol):
         self._stop_waiting()
         self._transport.abort()
         if self._waits is not None and not self._waits.done():
-            self._waits.set_exception(ServerLost("the server went away"))
+            self._waits.set_exception(ServerLost(GONE))
 
     def _begin(self, sent: bytes) -> None:
-        if self._busy or self._transport.is_closing():
+        if self._transport.is_closing():
+            raise self.fail(GONE)
+        if self._busy:
             raise self.fail("a connection to the server is out of step")
         self._busy = True
         self._transport.write(sent)
@@ -157,9 +160,13 @@ class Server:
         for link in self.links:
             if await link.ask(b"UNPIN\n") != b"ERR 6 NotPinned\n":
                 raise link.fail("what listens there is no clearmap server")
-        for link in self.links:
             link.patience = self._patience
-        self._free.extend(self.links)
+            self._free.append(link)
+
+    @property
+    def free(self) -> int:
+        """How many connections nobody has: while they are made, those that a worker answered."""
+        return len(self._free)
 
     def lose(self, why: str) -> None:
         """Closes all connections, for this reason. Whoever waits for one gets ServerLost."""

@@ -76,17 +76,9 @@ class SlowClients(unittest.TestCase):
             with Line(gate.port) as more:
                 self.assertTrue(more.is_closed())
             lines.pop().close()
-            self.assertTrue(until(self.answers(gate)))
+            self.assertTrue(until(gate.is_served))
             for line in lines:
                 line.close()
-
-    def answers(self, gate):
-        def asked():
-            with Line(gate.port) as line:
-                line.send("HELLO")
-                return line.replies.read(1) == b"E"
-
-        return asked
 
 
 class LostGateway(unittest.TestCase):
@@ -147,6 +139,21 @@ class Lost(unittest.TestCase):
             said = gate.end()
         self.assertIn("the server went away: all clients are closed", said)
         self.assertIn("there is a server again", said)
+
+    def test_a_line_that_comes_before_the_loss(self):
+        """The server is killed while the gateway stands still, with lines that wait: what is told
+        is the loss, not a fault of step."""
+        with Served(post()) as server, Gate(server.port, "--links", "2") as gate, \
+                Line(gate.port) as one, Line(gate.port) as other:  # fmt: skip
+            self.assertEqual(one.ask("PIN"), "OK 0")
+            stop(gate.process.pid)
+            one.send("UNPIN")
+            other.send("PUBLISH")
+            server.end()
+            gate.process.send_signal(signal.SIGCONT)
+            self.assertTrue(one.is_closed() and other.is_closed())
+            self.assertTrue(gate.process.stderr.readline().endswith(
+                b" the server went away: all clients are closed\n"))  # fmt: skip
 
     def connects(self, gate):
         try:

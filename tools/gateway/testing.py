@@ -24,11 +24,12 @@ def post(width=64, height=48):
 
 
 class Gate:
-    """A gateway to the server of a port. It is killed at the end of a `with`."""
+    """A gateway to the server of a port. It is killed at the end of a `with`. `log` is a file for
+    its standard error, `before` the words of a command that runs it."""
 
-    def __init__(self, port, *flags):
+    def __init__(self, port, *flags, log=subprocess.PIPE, before=()):
         words = [sys.executable, str(HERE / "clearmap_gateway.py"), "--port", str(port), *flags]
-        self.process = subprocess.Popen(words, stdout=subprocess.PIPE, stderr=subprocess.PIPE)
+        self.process = subprocess.Popen([*before, *words], stdout=subprocess.PIPE, stderr=log)
         said = self.process.stdout.readline().decode().split()
         self.port = int(said[1]) if said[:1] == ["LISTENING"] else None
 
@@ -41,9 +42,15 @@ class Gate:
     def end(self):
         """Kills it; what it said on standard error."""
         self.process.kill()
-        said = self.process.communicate()[1].decode()
+        said = self.process.communicate()[1] or b""
         self.process.stdout.close()
-        return said
+        return said.decode()
+
+    def is_served(self):
+        """Whether a client that connects now is answered."""
+        with Line(self.port) as line, contextlib.suppress(OSError):
+            line.send("HELLO")
+            return line.reply() == "ERR 11 UnknownCommand"
 
     def memory(self):
         """Its resident memory in MB."""
