@@ -11,6 +11,7 @@ import pathlib
 import re
 import signal
 import sys
+from contextlib import suppress
 from typing import Callable, Tuple
 
 HERE = pathlib.Path(__file__).resolve().parent
@@ -114,8 +115,9 @@ def parser() -> argparse.ArgumentParser:
 
 
 def say(text: object) -> None:
-    """One line on standard error."""
-    print("clearmap-publish:", " ".join(str(text).split()), file=sys.stderr, flush=True)
+    """One line on standard error. A log that takes nothing, as on a full disk, ends nothing."""
+    with suppress(OSError):
+        print("clearmap-publish:", " ".join(str(text).split()), file=sys.stderr, flush=True)
 
 
 def main() -> int:

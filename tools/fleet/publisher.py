@@ -131,8 +131,9 @@ class Publisher:
             self._store.publish(self._copy, look.at)
             self._shown, self._kept_at = self._copy.seen, 0.0
             if not self._has_shown:
-                print(f"PUBLISHING {self._options.name}", flush=True)
-            self._has_shown = True
+                self._has_shown = True
+                with suppress(OSError):  # that it can't be written is no fault of Redis
+                    print(f"PUBLISHING {self._options.name}", flush=True)
         elif time.monotonic() >= self._kept_at + AGAIN:
             at = look.at if look is not None and look.seen == self._shown else None
             if not self._store.keep(at):

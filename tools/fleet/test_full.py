@@ -2,10 +2,11 @@
 """Tests of clearmap-publish and followers over a Redis that takes no writes, or holds something
 else under the name."""
 import pathlib
+import time
 import unittest
 
 from test_publish import Publishes
-from testing import Keys, Redis, clearmap, until
+from testing import Keys, Publishing, Redis, clearmap, room, until
 
 KEYS = Keys("yard")
 
@@ -80,6 +81,32 @@ class Full(Publishes):
         follower = self.enterContext(clearmap.Follower(other.url, "yard"))
         for _ in range(5):
             self.has(follower, painter, painter.publish())
+
+
+class Log(Publishes):
+    """Its own log and output are on a full disk."""
+
+    def test_a_loss(self):
+        """That of the server and of Redis can't be told, and it goes on after both."""
+        server = self.serve(room(seed=1))
+        follower = self.follow()
+        with open("/dev/full", "wb") as full:
+            publisher = self.enterContext(
+                Publishing(server.port, self.redis.url, out=full, log=full)
+            )
+        painter = self.paint(server)
+        before = self.has(follower, painter, painter.publish())
+        server.end()
+        again = self.serve(room(seed=2), server.port)
+        painter = self.paint(again)
+        self.assertNotEqual(self.has(follower, painter, 0).run, before.run)
+        self.redis.kill()
+        self.assertTrue(until(lambda: follower.error is not None))
+        number = painter.publish()
+        time.sleep(1.5)
+        self.redis.start()
+        self.has(follower, painter, number)
+        self.assertEqual(publisher.end(), 0)
 
 
 class Others(Publishes):

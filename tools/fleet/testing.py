@@ -110,19 +110,19 @@ class Redis:
 
 
 class Publishing:
-    """A process of clearmap-publish; `said` gathers its standard error."""
+    """A process of clearmap-publish; `said` gathers its standard error, unless that goes into a
+    file `log`."""
 
-    def __init__(self, port, url, *words, name="yard", script=HERE / "clearmap_publish.py"):
+    def __init__(self, port, url, *words, name="yard", script=HERE / "clearmap_publish.py",
+                 out=subprocess.DEVNULL, log=subprocess.PIPE):  # fmt: skip
         line = [sys.executable, str(script), "--port", str(port), "--redis", url, "--name", name]
-        self.process = subprocess.Popen(
-            [*line, *words], stdout=subprocess.DEVNULL, stderr=subprocess.PIPE, text=True
-        )
+        self.process = subprocess.Popen([*line, *words], stdout=out, stderr=log, text=True)
         self.said = []
         self._reader = threading.Thread(target=self._read, daemon=True)
         self._reader.start()
 
     def _read(self):
-        for line in self.process.stderr:
+        for line in self.process.stderr or ():
             self.said.append(line.rstrip("\n"))
 
     def __enter__(self):
@@ -141,7 +141,8 @@ class Publishing:
             self.process.send_signal(number)
         status = self.process.wait(PATIENCE)
         self._reader.join(PATIENCE)
-        self.process.stderr.close()
+        if self.process.stderr:
+            self.process.stderr.close()
         return status
 
 

@@ -75,9 +75,22 @@ def parser() -> argparse.ArgumentParser:
     return words
 
 
+class Untold(Exception):
+    """Nobody can learn the gateway's port."""
+
+
 def say(text: object) -> None:
-    """One line on standard error."""
-    print(f"clearmap-gateway: {text}", file=sys.stderr, flush=True)
+    """One line on standard error. A log that takes nothing, as on a full disk, ends nothing."""
+    with contextlib.suppress(OSError):
+        print(f"clearmap-gateway: {text}", file=sys.stderr, flush=True)
+
+
+def announce(port: int) -> None:
+    """Says where it listens, in the one line on standard output."""
+    try:
+        print(f"LISTENING {port}", flush=True)
+    except OSError as fault:
+        raise Untold(f"the standard output can't be written: {fault.strerror}") from fault
 
 
 class Gateway:
@@ -142,7 +155,7 @@ class Gateway:
         listener = Listener(self._port, desk, self._options.clients, say)
         self._port = listener.port
         if self._is_first:
-            print(f"LISTENING {self._port}", flush=True)
+            announce(self._port)
         else:
             say("there is a server again")
         self._is_first = False
@@ -206,7 +219,7 @@ def main() -> int:
     use_fast_loop()
     try:
         asyncio.run(serve(options))
-    except (ServerLost, PortTaken) as fault:
+    except (ServerLost, PortTaken, Untold) as fault:
         say(fault)
         return 1
     return 0

@@ -1,6 +1,6 @@
 #!/usr/bin/env python3
-"""Tests of a gateway with as many clients or descriptors as there may be, and before a server with
-too few workers."""
+"""Tests of a gateway with as many clients or descriptors as there may be, before a server with too
+few workers, and with a log that takes nothing."""
 import contextlib
 import pathlib
 import resource
@@ -103,6 +103,35 @@ class Workers(unittest.TestCase):
                 self.assertLess(time.monotonic() - begun, 15)
                 self.assertIn("1 of 2 connections have a worker of the server: it hangs, or", said)
             self.assertRegex(gate.stdout.readline(), b"^LISTENING ")
+
+
+class Log(unittest.TestCase):
+    """A log on a full disk takes nothing, and ends nothing."""
+
+    def test_a_loss(self):
+        server = Served(post())
+        with open("/dev/full", "wb") as full, \
+                Gate(server.port, "--links", "2", log=full) as gate:  # fmt: skip
+            with Line(gate.port) as line:
+                self.assertEqual(line.ask("PIN"), "OK 0")
+                server.end()
+                self.assertTrue(line.is_closed())
+            with Served(post(), port=server.port):
+                self.assertTrue(until(lambda: self.is_back(gate)))
+            gate.process.send_signal(signal.SIGTERM)
+            self.assertEqual(gate.process.wait(20), 0)
+
+    def is_back(self, gate):
+        with contextlib.suppress(OSError):
+            return gate.is_served()
+
+    def test_no_port_can_be_told(self):
+        """Whoever starts it waits for that line: it says what it can't write, and ends."""
+        with Served(post()) as server, open("/dev/full", "wb") as full:
+            words = [sys.executable, str(PROGRAM), "--port", str(server.port), "--links", "2"]
+            gate = subprocess.run(words, stdout=full, stderr=subprocess.PIPE, timeout=30)
+        said = b"clearmap-gateway: the standard output can't be written: No space left on device\n"
+        self.assertEqual((gate.returncode, gate.stderr), (1, said))
 
 
 if __name__ == "__main__":
