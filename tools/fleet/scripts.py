@@ -7,11 +7,16 @@ write.
 
 # KEYS lease, publisher; ARGV token, milliseconds, place, and 1 to publish what another place has
 # published before. Takes the lease, and returns what stands for the publisher, or nothing. Else
-# returns whose lease it is, and for how long; or nothing and for whom the name is.
+# returns whose lease it is, and for how long; or nothing and for whom the name is. A lease that
+# would last longer than one lasts is cut, as its holder would: Redis' clock was set back.
 TAKE = """
 local holder = redis.call('GET', KEYS[1])
 local last = redis.call('GET', KEYS[2])
-if holder and holder ~= ARGV[1] then return {holder, redis.call('PTTL', KEYS[1])} end
+if holder and holder ~= ARGV[1] then
+    local left, most = redis.call('PTTL', KEYS[1]), tonumber(ARGV[2])
+    if left > most then redis.call('PEXPIRE', KEYS[1], most) end
+    return {holder, math.min(left, most)}
+end
 local is_own = not last or string.match(last, '^[^ ]*') == ARGV[3]
 if not is_own and ARGV[4] ~= '1' then return {'', last} end
 redis.call('SET', KEYS[1], ARGV[1], 'PX', ARGV[2])

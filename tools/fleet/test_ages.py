@@ -1,8 +1,6 @@
 #!/usr/bin/env python3
 """Tests of how old a follower says that its version is, and what it says of who isn't there."""
-import os
 import signal
-import socket
 import threading
 import time
 import unittest
@@ -84,35 +82,25 @@ class Ages(Publishes):
 
     def test_a_copy_that_took_long(self):
         """Its version is as old as the look before it."""
-        Direct(self.redis).show(np.eye(300, 400) > 0, ago=5)
-        version = self.follow().wait(timeout=PATIENCE)
+        direct, follower = Direct(self.redis), self.follow()
+        direct.show(np.eye(300, 400) > 0)
+        before = follower.wait(timeout=PATIENCE)
+        direct.show(np.eye(300, 400) < 1, ago=5)
+        version = follower.wait(before, timeout=PATIENCE)
         self.assertTrue(4.9 < version.stale < 7, version.stale)
         self.assertTrue(4.9 < version.age < 7, version.age)
 
-    def test_a_clock_of_redis_that_was_set_back(self):
-        """A time that isn't yet is taken as now."""
-        direct = Direct(self.redis)
-        direct.show(np.eye(300, 400) > 0)
-        direct.store._clock = int(1e6 * (time.time() + 3600)), clock.now()
-        direct.store.keep(clock.now())
-        seen = int(self.redis.client.get(KEYS.seen))
-        self.assertLess(abs(seen / 1e6 - time.time()), 60)
-
-    def test_a_time_that_isnt_yet(self):
-        """It is taken as now once: by a clock that was set back it stays one that isn't yet."""
-        direct = Direct(self.redis)
-        direct.show(np.eye(300, 400) > 0)
-        follower = self.follow()
-        follower.wait(timeout=PATIENCE)
-        self.redis.client.set(KEYS.seen, int(1e6 * (time.time() + 3600)))
-        time.sleep(4)
-        self.assertGreater(follower.stale, 2.5)
-
-        def is_fresh():  # a follower looks about once a second: by then the time is new again
-            direct.store.keep(clock.now())
-            return follower.stale < 1
-
-        self.assertTrue(until(is_fresh))
+    def test_who_starts_while_all_is_well(self):
+        """It learns within some two seconds that the version is the newest."""
+        self.publish(self.server.port)
+        self.has(self.follow(), self.painter, 0)
+        for _ in range(3):
+            with clearmap.Follower(self.redis.url, "yard") as follower:
+                follower.wait(timeout=PATIENCE)
+                self.assertTrue(until(lambda: follower.error is None, 5))
+                for _ in range(60):
+                    self.assertLess(follower.stale, 3)
+                    time.sleep(0.04)
 
     def test_each_version_has_its_own(self):
         """A version that was replaced goes on ageing, whatever the follower has by then."""

@@ -12,7 +12,7 @@ import threading
 import time
 import unittest
 
-from testing import Direct, HERE, Keys, PATIENCE, Redis, clearmap, free_port, np, until
+from testing import Direct, HERE, Keys, PATIENCE, Redis, clearmap, clock, free_port, np, until
 
 KEYS = Keys("yard")
 PACKAGE = str(HERE.parent.parent / "clients/python")
@@ -29,6 +29,14 @@ class Follows(unittest.TestCase):
 
     def follow(self, **settings):
         return self.enterContext(clearmap.Follower(self.redis.url, "yard", **settings))
+
+    def follow_known(self):
+        """A follower that knows that its version is the newest."""
+        follower = self.follow()
+        follower.wait(timeout=PATIENCE)
+        self.direct.store.keep(clock.now())
+        self.assertTrue(until(lambda: follower.error is None))
+        return follower
 
     def has(self, follower, record, grid):
         self.assertTrue(until(lambda: follower.version.hash == record.hash), follower.error)

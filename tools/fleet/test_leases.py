@@ -136,7 +136,7 @@ class Names(Publishes):
         painter = self.paint(self.other)
         self.publish(self.other.port, "--take-over")
         self.has(here[0], painter, painter.publish())
-        self.assertTrue(until(lambda: here[1].error is not None))
+        self.assertTrue(until(lambda: "isn't taken" in (here[1].error or "")))
         self.assertRegex(here[1].error, f"isn't taken: it is from {self.host}:{self.other.port}")
         self.assertIs(here[1].version, versions[1])
         self.assertTrue(until(lambda: here[1].stale > 1.5))

@@ -28,7 +28,7 @@ class Killed(Publishes):
             self.assertTrue(publisher.says("Redis: "))
             self.redis.start()
             version = self.has(follower, painter, number)
-            self.assertIsNone(follower.error)
+            self.assertTrue(until(lambda: follower.error is None, 5), follower.error)
             orders.append(version.order)
             orders.append(self.has(follower, painter, painter.publish()).order)
             self.redis.stored("yard")

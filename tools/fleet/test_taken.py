@@ -16,8 +16,8 @@ class Damaged(Follows):
         """A version whose keys are damaged before the follower is told of it, and one after it."""
         first = grid_of(1)
         self.direct.show(first)
-        follower = self.follow()
-        before = follower.wait(timeout=PATIENCE)
+        follower = self.follow_known()
+        before = follower.version
         self.hidden(grid_of(2), damage)
         self.assertTrue(until(lambda: follower.error is not None))
         self.assertRegex(follower.error, f"^'yard' at 127.* the newest version isn't taken: {said}")
@@ -110,8 +110,8 @@ class Taken(Follows):
         first, second = grid_of(1), grid_of(2)
         old = self.direct.show(first)
         new = self.direct.show(second)
-        follower = self.follow()
-        self.assertEqual(follower.wait(timeout=PATIENCE).hash, new.hash)
+        follower = self.follow_known()
+        self.assertEqual(follower.version.hash, new.hash)
         self.redis.client.set(KEYS.newest, old.order)
         self.redis.client.publish(KEYS.news, old.order)
         self.assertTrue(until(lambda: follower.error is not None))

@@ -1,4 +1,5 @@
 """What a follower reads from Redis: which version is the newest, and what it lacks of it."""
+import math
 import socket
 from contextlib import suppress
 from typing import Any, Dict, List, NamedTuple, Optional
@@ -11,6 +12,7 @@ from .followed import Version, missing, put_together, stock_of
 from .library import redis
 from .records import MOVED, Keys, Record, Tile, order_of, read_record, read_tile
 
+AHEAD = 1.0  # seconds by which a replica's clock may be late
 BATCH = 64  # tiles that are asked for at once
 LONGEST_REPLY = 2**20  # bytes, more than twice those of `BATCH` tiles
 LOOKS = 5  # at the newest version, until none comes during one
@@ -19,8 +21,9 @@ MICRO = 1_000_000
 
 class State(NamedTuple):
     """The newest version's order, 0 if there is none; when its publisher last found it to be the
-    server's newest, by `clock.now`, and as it stands in Redis, 0 if unknown; the publisher's host
-    and server's port, "" if unknown; and whether it took the name over."""
+    server's newest, by `clock.now`, -inf if unknown, and as it stands in Redis, 0 if unknown; the
+    publisher's place, "" if unknown: its host and server's port, and its machine; and whether it
+    took the name over."""
 
     newest: int
     seen: float
@@ -96,7 +99,8 @@ class Fetcher:
             if newest == again:
                 order, told = order_of(newest, keys.newest), order_of(seen, keys.seen)
                 place, moved, _ = (publisher or b"").decode("utf-8", "replace").partition(MOVED)
-                return State(order, _when(told, now, begun), told, place, bool(moved))
+                seen_at = _when(told, now, begun) if told else -math.inf
+                return State(order, seen_at, told, place, bool(moved))
         raise ClearmapError("versions come faster than Redis tells of them")
 
     def version(self, order: int, before: Optional[Version]) -> Version:
@@ -150,7 +154,8 @@ def _answered(asked: Any) -> List[Any]:
 
 def _when(told: int, now: Any, begun: float) -> float:
     """Converts a time of Redis to `clock.now`; Redis answered at its time `now` a question
-    asked here at `begun`. A slow answer makes the result too early, never too late; a time in the
-    future of Redis' clock is now."""
+    asked here at `begun`. A slow answer makes the result too early, never too late. Nobody knows
+    when a time was that isn't yet: Redis' clock was set back."""
     seconds, micros = now
-    return begun - max(0.0, int(seconds) + int(micros) / MICRO - told / MICRO)
+    since = int(seconds) + (int(micros) - told) / MICRO
+    return -math.inf if since < -AHEAD else begun - max(0.0, since)

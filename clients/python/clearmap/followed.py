@@ -1,4 +1,5 @@
 """A followed version: its map, which nobody changes, and how it is assembled from tiles."""
+import math
 from dataclasses import dataclass, field
 from typing import Any, Dict, NoReturn, Optional, Sequence
 
@@ -10,6 +11,7 @@ from .records import Record, Tile, cells_of, tiles_of, words_of
 from .requests import Whole
 from .words import copied, marked, rows_for
 
+LOST = 3.0  # seconds after which a version that nobody has confirmed is told by `error`
 FIXED = "the map of a version isn't changed: paint on a copy, as version.map.copy()"
 
 
@@ -22,9 +24,10 @@ class FixedMap(Map):
 
 @dataclass
 class Known:
-    """When a version was last known to be the server's newest, by `clock.now`."""
+    """When a version was last known to be the server's newest, by `clock.now`; -inf if that isn't
+    known."""
 
-    at: float
+    at: float = -math.inf
 
 
 @dataclass(frozen=True, eq=False)
@@ -54,13 +57,37 @@ class Version:
     @property
     def age(self) -> float:
         """Seconds since the publisher found it on the server, by Redis' clock up to when it came,
-        and then by this machine's."""
+        and then by this machine's. It is too small where that clock was set back in between, and
+        infinite as long as that shows."""
         return max(0.0, clock.now() - self._published)
 
     @property
     def stale(self) -> float:
-        """Seconds since it was last known to be the server's newest."""
+        """Seconds since it was last known to be the server's newest; infinite if the follower
+        hasn't learnt that it was."""
         return max(0.0, clock.now() - self._known.at)
+
+
+class Signs:
+    """The publisher's signs that the newest version was the server's, as they come into Redis."""
+
+    def __init__(self) -> None:
+        self._told = 0  # the last one, as it stands there
+        self._latest = self._looked = -math.inf  # what it is of at the latest, and the last look
+
+    def watch(self, told: int) -> None:
+        """What stands there now. How old a sign is, Redis' clock tells, which may have been set
+        back since: so one that came since a look isn't taken to be much newer than that look, and
+        the first one tells nothing."""
+        if told != self._told:
+            self._told, self._latest = told, self._looked + LOST
+        self._looked = clock.now()
+
+    def confirm(self, version: Optional[Version], newest: int, seen: float) -> None:
+        """A version, if it is the newest, was the server's when the last sign was given, which
+        Redis' clock tells to be then."""
+        if version is not None and version.order == newest:
+            version._known.at = max(version._known.at, min(seen, self._latest))
 
 
 def stock_of(version: Optional[Version]) -> Dict[bytes, Tile]:
@@ -86,7 +113,7 @@ def put_together(
         raise BadVersion("a tile has cells beyond the map's right side")
     area = FixedMap._of(marked(words, width), record.edge)
     told = record.number, record.run, record.order, record.hash
-    return Version(area, *told, published, record, Known(published))
+    return Version(area, *told, published, record, Known())
 
 
 def _words(record: Record, before: Optional[Version], fetched: Dict[bytes, bytes]) -> Any:

@@ -8,15 +8,15 @@ from typing import NoReturn, Optional
 from . import clock
 from .errors import BadVersion, ClearmapError, NoVersion, Size, WrongMap
 from .fetching import Fetcher, News, State, connected, place_of
-from .followed import Version
+from .followed import LOST, Signs, Version
 from .library import library, numpy, redis
 from .size import size_of
 
 LOOK = 1.0  # seconds without news after which Redis is asked
 PAUSES = 0.1, 2.0  # seconds before Redis is tried again, at first and at most
 TRIES = 3  # looks one after another while newer versions take the place of the one that is read
-LOST = 3.0  # seconds after which a version that nobody has confirmed is told by `error`
 UNSEEN = "nobody tells that its version is the newest: the server or clearmap-publish is lost"
+UNTOLD = "nobody has told yet that its version is the newest"
 
 
 class Follower:
@@ -56,7 +56,7 @@ class Follower:
             connected(url, float(timeout)), name, None if size is None else size_of(size)
         )
         self._host, self._place = host, ""  # of the version's publisher
-        self._told = 0  # when that found it to be the newest, as it stood in Redis last
+        self._signs = Signs()
         self._version: Optional[Version] = None
         self._error: Optional[str] = None
         self._news: Optional[News] = None
@@ -94,7 +94,8 @@ class Follower:
     @property
     def stale(self) -> float:
         """That of `version`: seconds since it was last known to be the server's newest. While all
-        is well it stays below three; it is infinite without a version."""
+        is well it stays below three. It is infinite without a version, and until the publisher has
+        given a sign since the follower was made: within some two seconds, if it lives."""
         version = self._version
         return math.inf if version is None else version.stale
 
@@ -140,8 +141,10 @@ class Follower:
 
     def _why(self) -> Optional[str]:
         """What is wrong, if anything is."""
-        is_unseen = self._error is None and LOST < self.stale < math.inf
-        return UNSEEN if is_unseen else self._error
+        stale = self.stale
+        if self._error is not None or self._version is None or stale <= LOST:
+            return self._error
+        return UNSEEN if stale < math.inf else UNTOLD
 
     def _check_process(self) -> None:
         if self._process != os.getpid():
@@ -184,13 +187,13 @@ class Follower:
         refused = -1
         for _ in range(TRIES):
             state = self._fetcher.state()
+            self._signs.watch(state.told)
             newest = state.newest
             if newest == refused or not self._wants(newest) or self._is_from_elsewhere(state):
-                self._confirm(state)
+                self._signs.confirm(self._version, state.newest, state.seen)
                 return False
             try:
                 self._take(state)
-                self._confirm(state)
                 return True
             except (BadVersion, WrongMap) as fault:  # it may be that a newer one took its place
                 self._error = f"the newest version isn't taken: {fault}"
@@ -225,14 +228,7 @@ class Follower:
     def _take(self, state: State) -> None:
         """Fetches the newest version, and shows it to all."""
         version = self._fetcher.version(state.newest, self._version)
+        self._signs.confirm(version, state.newest, state.seen)
         with self._changed:
             self._version, self._place, self._error = version, state.place, None
             self._changed.notify_all()
-
-    def _confirm(self, state: State) -> None:
-        """The publisher has found at that time that this is the newest. The same time again tells
-        nothing, wherever Redis' clock has gone since."""
-        mine = self._version
-        if mine is None or mine.order != state.newest or state.told in (0, self._told):
-            return
-        mine._known.at, self._told = max(mine._published, state.seen), state.told
