@@ -29,7 +29,7 @@ ros = clearmap_answers.py clearmap_costmap.py clearmap_draft.py clearmap_feed.py
 ros_commands = clearmap_node.py clearmap_ros.py clearmap_ros2_node.py
 gateway = clients.py dumps.py limits.py lines.py links.py listener.py queries.py streams.py \
     versions.py watch.py
-fleet = publisher.py scripts.py source.py store.py
+fleet = places.py publisher.py scripts.py source.py store.py
 
 # The library: what is proved comes from rt, and clients/c/clearmap.c goes with it.
 library = crates/libclearmap/out

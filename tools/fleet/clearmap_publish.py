@@ -29,9 +29,10 @@ the name are printed. clearmap.Follower of the package in Python is a follower; 
 says what others need.
 
 One publisher of a name is live at a time: a second one says so and ends with status 1. A killed \
-one's lease ends after 10 seconds. Then too a publisher on another host, or of a server on another \
-port, ends with a line and status 1, so that no other map comes under the name by mistake; \
---take-over is for a map that has moved.
+one's lease ends after 10 seconds. Then too a publisher on another host or machine, or of a server \
+on another port, ends with a line and status 1, so that no other map comes under the name by \
+mistake; --take-over is for a map that has moved. Machines are told apart by /etc/machine-id; where \
+they have that and their host name from one image, as containers may, by another --place for each.
 
 Where the server or Redis goes away, one line says so, and it goes on once they are there again. A \
 server that was started anew is published as newer than the one before it, though its numbers begin \
@@ -86,6 +87,15 @@ def named(word: str) -> str:
     return word
 
 
+def placed(word: str) -> str:
+    """A reader of a place's word."""
+    from places import WORD
+
+    if not WORD.fullmatch(word):
+        raise argparse.ArgumentTypeError(f"'{word}' isn't 1 to 64 letters, digits, '_', '.' and '-'")
+    return word
+
+
 def parser() -> argparse.ArgumentParser:
     """The command line."""
     words = argparse.ArgumentParser(
@@ -100,9 +110,12 @@ def parser() -> argparse.ArgumentParser:
     add("--name", type=named, required=True, help="the map's name in Redis")
     add("--size", metavar="COLUMNSxROWS", type=sized, default=None,
         help="the map's size, as 400x300: one of another size isn't published")  # fmt: skip
+    add("--place", metavar="WORD", type=placed, default=None,
+        help="what names this machine to followers, in place of its host name and "
+        "/etc/machine-id")  # fmt: skip
     add("--take-over", action="store_true",
-        help="publish though the name's last versions came from another host or port: once and by "
-        "hand, not in a service")  # fmt: skip
+        help="publish though the name's last versions came from another host, machine or port: once "
+        "and by hand, not in a service")  # fmt: skip
     add("--redis", metavar="URL", default=None,
         help=f"where Redis is (default: the variable CLEARMAP_REDIS, or {REDIS})")  # fmt: skip
     add("--keep", metavar="VERSIONS", type=number(1, 64), default=8,

@@ -7,6 +7,7 @@ from typing import Any, Callable, NamedTuple, Optional, Tuple
 
 from clearmap import ClearmapError
 from clearmap.library import redis
+from places import place_here
 from source import Copy, Seen, Source
 from store import LEASE, Elsewhere, LeaseLost, Store
 
@@ -55,7 +56,8 @@ class Publisher:
     ) -> None:
         self._options = options
         self._source = Source(options.port, options.size)
-        self._store = Store(redis, options.name, options.keep, options.port, options.take_over)
+        place = place_here(options.port, options.place)
+        self._store = Store(redis, options.name, options.keep, place, options.take_over)
         self._server = Trouble(say, "there is a server again")
         self._redis = Trouble(say, "Redis takes versions again")
         self._lease = Trouble(say, "the lease has ended")

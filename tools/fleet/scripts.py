@@ -5,10 +5,11 @@ lease another has taken meanwhile, changes nothing. What may be refused is read 
 write.
 """
 
-# KEYS lease, publisher; ARGV token, milliseconds, place, and 1 to publish what another place has
-# published before. Takes the lease, and returns what stands for the publisher, or nothing. Else
-# returns whose lease it is, and for how long; or nothing and for whom the name is. A lease that
-# would last longer than one lasts is cut, as its holder would: Redis' clock was set back.
+# KEYS lease, publisher; ARGV token, milliseconds, host with port, machine, and 1 to publish what
+# another place has published before. Takes the lease, and returns what stands for the publisher, or
+# nothing. Else returns whose lease it is, and for how long; or nothing and for whom the name is. A
+# lease that would last longer than one lasts is cut, as its holder would: Redis' clock was set
+# back. A publisher whose machine isn't told may be any of its host.
 TAKE = """
 local holder = redis.call('GET', KEYS[1])
 local last = redis.call('GET', KEYS[2])
@@ -17,8 +18,9 @@ if holder and holder ~= ARGV[1] then
     if left > most then redis.call('PEXPIRE', KEYS[1], most) end
     return {holder, math.min(left, most)}
 end
-local is_own = not last or string.match(last, '^[^ ]*') == ARGV[3]
-if not is_own and ARGV[4] ~= '1' then return {'', last} end
+local host, machine = string.match(last or '', '^([^ ]*) ?(%x*)')
+local is_own = not last or host == ARGV[3] and (machine == '' or machine == ARGV[4])
+if not is_own and ARGV[5] ~= '1' then return {'', last} end
 redis.call('SET', KEYS[1], ARGV[1], 'PX', ARGV[2])
 return {is_own and last or ''}
 """

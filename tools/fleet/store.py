@@ -6,7 +6,9 @@ from typing import Any, Dict, Iterable, List, NamedTuple, Optional, Set, Tuple
 
 import scripts
 from clearmap import BadVersion, ClearmapError, clock
-from clearmap.records import MOVED, Keys, Record, compressed_tiles, order_of, read_record
+from clearmap.records import (
+    MOVED, Keys, Record, compressed_tiles, order_of, read_record, told_apart,
+)  # fmt: skip
 from source import Copy
 
 LEASE = 10.0  # seconds that a publisher's lease lasts after its last sign
@@ -42,10 +44,10 @@ class Store:
     names it the newest. After that the tiles go that no kept version names. What Redis refuses is
     raised, and can be tried again at any time."""
 
-    def __init__(self, redis: Any, name: str, keep: int, port: int, takes_over: bool) -> None:
+    def __init__(self, redis: Any, name: str, keep: int, place: str, takes_over: bool) -> None:
         self._redis, self._keys, self._keep = redis, Keys(name), keep
-        self._place, self._takes_over = f"{socket.gethostname()}:{port}", takes_over
-        self._publisher = self._place + MOVED * takes_over  # as followers read it
+        self._place, self._takes_over = place, takes_over
+        self._publisher = place + MOVED * takes_over  # as followers read it
         self._token = f"{socket.gethostname()}:{os.getpid()}:{token_hex(8)}"
         self._clock: Optional[Tuple[int, float]] = None  # a time of Redis, and of `clock.now`
         self._last = 0  # the order of what was published last from here
@@ -58,16 +60,18 @@ class Store:
         """Takes the lease. If it is another's, returns whose, and for how many more seconds.
         Elsewhere if another place has published last, and this one doesn't take over."""
         keys = [self._keys.lease, self._keys.publisher]
-        words = [int(1000 * LEASE), self._place, int(self._takes_over)]
+        host, _, machine = self._place.partition(" ")
+        words = [int(1000 * LEASE), host, machine, int(self._takes_over)]
         first, *rest = self._run(scripts.TAKE, keys, words)
         told = first.decode("utf-8", "replace")
         if not rest:
-            if told and not self._takes_over:
-                self._publisher = told
+            if told.endswith(MOVED):
+                self._publisher = self._place + MOVED
             self.doubt()
             return None
         if isinstance(rest[0], bytes):
-            raise Elsewhere(rest[0].decode("utf-8", "replace").split(" ")[0], self._place)
+            last = rest[0].decode("utf-8", "replace").partition(MOVED)[0]
+            raise Elsewhere(*told_apart(last, self._place))
         if rest[0] < 0:
             raise ClearmapError(f"the key {self._keys.lease} holds something else: it never ends")
         return told.rpartition(":")[0], rest[0] / 1000

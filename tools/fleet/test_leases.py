@@ -9,6 +9,7 @@ import sys
 import time
 import unittest
 
+from places import place_here
 from test_publish import Publishes
 from testing import HERE, PATIENCE, Direct, Keys, Redis, clearmap, np, room, until
 
@@ -114,10 +115,10 @@ class Names(Publishes):
         self.publish(self.server.port)
         self.has(self.follower, self.painter, 0)
         self.redis.client.delete(KEYS.publisher)
-        told = lambda: self.redis.client.get(KEYS.publisher)
-        self.assertTrue(until(lambda: told() == f"{self.host}:{self.server.port}".encode()))
+        told, mine = lambda: self.redis.client.get(KEYS.publisher), place_here(self.server.port)
+        self.assertTrue(until(lambda: told() == mine.encode()))
         self.redis.client.set(KEYS.publisher, "hall:7400")
-        self.assertTrue(until(lambda: told() == f"{self.host}:{self.server.port}".encode()))
+        self.assertTrue(until(lambda: told() == mine.encode()))
 
     def test_a_host_that_is_expected(self):
         """A follower takes what this host publishes, and says of others who they are."""
@@ -187,7 +188,9 @@ class Words(unittest.TestCase):
                       (*good, "--keep", "65"), (*good, "--interval", "0"),
                       (*good, "--interval", "nan"), (*good, "--interval", "61"),
                       (*good, "--size", "40"), (*good, "--size", "0x5"),
-                      (*good, "--size", "4097x5"), (*good, "--size", "5 x 5")):  # fmt: skip
+                      (*good, "--size", "4097x5"), (*good, "--size", "5 x 5"),
+                      (*good, "--place", "a b"), (*good, "--place", "a:1"),
+                      (*good, "--place", "")):  # fmt: skip
             status, line = self.told(*words)
             self.assertEqual(status, 2, words)
             self.assertRegex(line, "^clearmap-publish: error: ")

@@ -21,7 +21,7 @@ trap 'for test in $running; do kill "$test" 2> /dev/null; done; rm -rf "$scratch
 trap 'exit 1' INT TERM
 failed=0
 tests='records publish leases ages clocks replies lost full killed follower taken links
-    networks users'
+    networks users places'
 
 # The tests wait more than they work, so they run side by side.
 for test in $tests; do

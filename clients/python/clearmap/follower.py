@@ -10,6 +10,7 @@ from .errors import BadVersion, ClearmapError, NoVersion, Size, WrongMap
 from .fetching import Fetcher, News, State, connected, place_of
 from .followed import LOST, Signs, Version
 from .library import library, numpy, redis
+from .records import told_apart
 from .size import size_of
 
 LOOK = 1.0  # seconds without news after which Redis is asked
@@ -30,7 +31,7 @@ class Follower:
     than one before it. What isn't whole, or doesn't match its hashes, isn't taken, and `error` says
     so. Without Redis the version stays: its `age` and `stale` grow. With `size` a map of another
     size isn't taken, and with `host` none but those that this host publishes: "depot", or
-    "depot:7400" with its server's port.
+    "depot:7400" with its server's port, or the word of `clearmap-publish --place`.
 
     Ask a version, not the follower, for answers that belong together. Any thread may use all of
     this, and a signal's handler `version`, `stale` and `error`. A forked process makes a follower
@@ -213,15 +214,22 @@ class Follower:
         return newest > mine
 
     def _is_from_elsewhere(self, state: State) -> bool:
-        """Whether another host than the expected one has published the newest version; or, where
-        none is expected, one that didn't take the name over from that of the version here."""
-        place, wanted = state.place, self._host
-        if wanted is None and (not self._place or state.has_moved):
+        """Whether another host than the expected one has published the newest version; or another
+        place than that of the version here, which didn't take the name over. With an expected host
+        its server's port may be another one, but its machine may not."""
+        place, mine, wanted = state.place, self._place, self._host
+        host, _, machine = place.partition(" ")
+        own, _, own_machine = mine.partition(" ")
+        if wanted is not None and wanted not in (host, host.rpartition(":")[0]):
+            why = f"and {wanted} is expected"
+        elif not mine or state.has_moved:
             return False
-        if (wanted or self._place) in (place, place.rpartition(":")[0]):
+        elif (wanted or host == own) and (machine == own_machine or "" in (machine, own_machine)):
             return False
-        told = f"is from {place:.80}" if place else "doesn't tell its publisher"
-        why = f"and {wanted} is expected" if wanted else f"and that here from {self._place:.80}"
+        else:
+            host, own = told_apart(place, mine)
+            why = f"and that here from {own:.80}"
+        told = f"is from {host:.80}" if host else "doesn't tell its publisher"
         self._error = f"the newest version isn't taken: it {told}, {why}"
         return True
 

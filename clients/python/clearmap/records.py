@@ -51,6 +51,13 @@ class Tile(NamedTuple):
         return 8 * (self.y1 - self.y0) * (self.end - self.first)
 
 
+def told_apart(one: str, other: str) -> Tuple[str, str]:
+    """Two places of publishers as they are told: with their machines only if nothing else differs.
+    """
+    short = one.split(" ")[0], other.split(" ")[0]
+    return short if short[0] != short[1] else (one, other)
+
+
 def tiles_of(size: Size) -> List[Tile]:
     """The tiles of a map of this size, by rows of tiles from the top, each from the left."""
     width, height = size
