@@ -7,7 +7,7 @@ from typing import Any, Callable, NamedTuple, Optional, Tuple
 
 from clearmap import ClearmapError
 from clearmap.library import redis
-from places import place_here
+from places import here_of
 from source import Copy, Seen, Source
 from store import LEASE, Elsewhere, LeaseLost, Store
 
@@ -56,8 +56,8 @@ class Publisher:
     ) -> None:
         self._options = options
         self._source = Source(options.port, options.size)
-        place = place_here(options.port, options.place)
-        self._store = Store(redis, options.name, options.keep, place, options.take_over)
+        here = here_of(options.port, options.place)
+        self._store = Store(redis, options.name, options.keep, here, options.take_over)
         self._server = Trouble(say, "there is a server again")
         self._redis = Trouble(say, "Redis takes versions again")
         self._lease = Trouble(say, "the lease has ended")
@@ -167,8 +167,11 @@ class Publisher:
             return self._store.take()
         except Elsewhere as fault:
             last, mine = fault.args
-            told = f"'{self._options.name}' was published last from {last:.80}, and this is {mine}"
-            raise Taken(f"{told}: take another name, or --take-over") from fault
+            told, cure = f"from {last:.80}, and this is {mine}", "take another name"
+            if last == mine:
+                told, cure = f"from a twin of this machine, {mine} too", "give each a --place"
+            said = f"'{self._options.name}' was published last {told}: {cure}, or --take-over"
+            raise Taken(said) from fault
 
     def _leave(self) -> None:
         """Gives the lease up, if Redis is there."""

@@ -5,23 +5,32 @@ lease another has taken meanwhile, changes nothing. What may be refused is read 
 write.
 """
 
-# KEYS lease, publisher; ARGV token, milliseconds, host with port, machine, and 1 to publish what
-# another place has published before. Takes the lease, and returns what stands for the publisher, or
-# nothing. Else returns whose lease it is, and for how long; or nothing and for whom the name is. A
-# lease that would last longer than one lasts is cut, as its holder would: Redis' clock was set
-# back. A publisher whose machine isn't told may be any of its host.
+# KEYS lease, publisher, boot, seen; ARGV token, milliseconds, host with port, machine, boot,
+# microseconds since then, and 1 to publish what another place has published before. Takes the
+# lease, and returns what stands for the publisher, or nothing. Else returns whose lease it is, and
+# for how long; or nothing and for whom the name is. A lease that would last longer than one lasts
+# is cut, as its holder would: Redis' clock was set back. A publisher whose machine isn't told may
+# be any of its host. Of another boot it is another machine if this one was up at its last sign.
 TAKE = """
 local holder = redis.call('GET', KEYS[1])
 local last = redis.call('GET', KEYS[2])
+local boot = redis.call('GET', KEYS[3])
+local seen = tonumber(redis.call('GET', KEYS[4]) or '') or 0
+local clock = redis.call('TIME')
+local now = tonumber(clock[1]) * 1000000 + tonumber(clock[2])
 if holder and holder ~= ARGV[1] then
     local left, most = redis.call('PTTL', KEYS[1]), tonumber(ARGV[2])
     if left > most then redis.call('PEXPIRE', KEYS[1], most) end
     return {holder, math.min(left, most)}
 end
 local host, machine = string.match(last or '', '^([^ ]*) ?(%x*)')
-local is_own = not last or host == ARGV[3] and (machine == '' or machine == ARGV[4])
-if not is_own and ARGV[5] ~= '1' then return {'', last} end
+local is_other_boot = boot and boot ~= '' and ARGV[5] ~= '' and boot ~= ARGV[5]
+local is_twin = is_other_boot and seen <= now and seen > now - tonumber(ARGV[6])
+local is_own = not last or
+    host == ARGV[3] and (machine == '' or machine == ARGV[4]) and not is_twin
+if not is_own and ARGV[7] ~= '1' then return {'', last} end
 redis.call('SET', KEYS[1], ARGV[1], 'PX', ARGV[2])
+redis.call('SET', KEYS[3], ARGV[5])
 return {is_own and last or ''}
 """
 

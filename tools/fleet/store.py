@@ -9,6 +9,7 @@ from clearmap import BadVersion, ClearmapError, clock
 from clearmap.records import (
     MOVED, Keys, Record, compressed_tiles, order_of, read_record, told_apart,
 )  # fmt: skip
+from places import Here
 from source import Copy
 
 LEASE = 10.0  # seconds that a publisher's lease lasts after its last sign
@@ -44,10 +45,10 @@ class Store:
     names it the newest. After that the tiles go that no kept version names. What Redis refuses is
     raised, and can be tried again at any time."""
 
-    def __init__(self, redis: Any, name: str, keep: int, place: str, takes_over: bool) -> None:
+    def __init__(self, redis: Any, name: str, keep: int, here: Here, takes_over: bool) -> None:
         self._redis, self._keys, self._keep = redis, Keys(name), keep
-        self._place, self._takes_over = place, takes_over
-        self._publisher = place + MOVED * takes_over  # as followers read it
+        self._here, self._takes_over = here, takes_over
+        self._publisher = here.place + MOVED * takes_over  # as followers read it
         self._token = f"{socket.gethostname()}:{os.getpid()}:{token_hex(8)}"
         self._clock: Optional[Tuple[int, float]] = None  # a time of Redis, and of `clock.now`
         self._last = 0  # the order of what was published last from here
@@ -59,19 +60,20 @@ class Store:
     def take(self) -> Optional[Tuple[str, float]]:
         """Takes the lease. If it is another's, returns whose, and for how many more seconds.
         Elsewhere if another place has published last, and this one doesn't take over."""
-        keys = [self._keys.lease, self._keys.publisher]
-        host, _, machine = self._place.partition(" ")
-        words = [int(1000 * LEASE), host, machine, int(self._takes_over)]
-        first, *rest = self._run(scripts.TAKE, keys, words)
+        keys, (place, boot, started) = self._keys, self._here
+        host, _, machine = place.partition(" ")
+        words = [int(1000 * LEASE), host, machine, boot, int(MICRO * (clock.now() - started))]
+        names = [keys.lease, keys.publisher, keys.boot, keys.seen]
+        first, *rest = self._run(scripts.TAKE, names, [*words, int(self._takes_over)])
         told = first.decode("utf-8", "replace")
         if not rest:
             if told.endswith(MOVED):
-                self._publisher = self._place + MOVED
+                self._publisher = place + MOVED
             self.doubt()
             return None
         if isinstance(rest[0], bytes):
             last = rest[0].decode("utf-8", "replace").partition(MOVED)[0]
-            raise Elsewhere(*told_apart(last, self._place))
+            raise Elsewhere(*told_apart(last, place))
         if rest[0] < 0:
             raise ClearmapError(f"the key {self._keys.lease} holds something else: it never ends")
         return told.rpartition(":")[0], rest[0] / 1000

@@ -9,7 +9,7 @@ import sys
 import time
 import unittest
 
-from places import place_here
+from places import here_of
 from test_publish import Publishes
 from testing import HERE, PATIENCE, Direct, Keys, Redis, clearmap, np, room, until
 
@@ -115,7 +115,7 @@ class Names(Publishes):
         self.publish(self.server.port)
         self.has(self.follower, self.painter, 0)
         self.redis.client.delete(KEYS.publisher)
-        told, mine = lambda: self.redis.client.get(KEYS.publisher), place_here(self.server.port)
+        told, mine = lambda: self.redis.client.get(KEYS.publisher), here_of(self.server.port).place
         self.assertTrue(until(lambda: told() == mine.encode()))
         self.redis.client.set(KEYS.publisher, "hall:7400")
         self.assertTrue(until(lambda: told() == mine.encode()))

@@ -22,7 +22,7 @@ import clearmap
 import store
 from clearmap import clock
 from clearmap.records import Keys, read_record, read_tile, tiles_of
-from places import place_here
+from places import here_of
 from served import PROGRAM, Served, blank
 from source import Copy, Seen
 
@@ -217,8 +217,8 @@ class Direct:
     """Publishes grids without a server, as a publisher does."""
 
     def __init__(self, redis, name="yard", keep=8, port=7400, takes_over=False):
-        self.place, self.count = place_here(port), 0
-        self.store = store.Store(redis.client, name, keep, self.place, takes_over)
+        self.store = store.Store(redis.client, name, keep, here_of(port), takes_over)
+        self.count = 0
         self.store.take()
 
     def show(self, grid, edge="open", ago=0):

@@ -34,7 +34,7 @@ class Keys:
             stem + key for key in ("newest", "versions", "tiles")
         )
         self.lease, self.seen, self.news = (stem + key for key in ("lease", "seen", "news"))
-        self.publisher = stem + "publisher"
+        self.publisher, self.boot = stem + "publisher", stem + "boot"
 
 
 class Tile(NamedTuple):
