@@ -213,7 +213,8 @@ class Asking:
         except ValueError:
             cells = -1.0
         if not cells >= 0:
-            raise BadRequest("a radius is a number from 0 on")
+            word = str(radius)[:40]
+            raise BadRequest(f"a radius is a number from 0 on, as 0.22, and '{word}' is none")
         if cells > MOST_RADIUS:
             raise BadRequest("the radius is larger than any map")
         try:

@@ -50,7 +50,8 @@ def radius(word: str) -> str:
         if not 0 <= ros.exact(word) <= 10_000:
             raise ros.RosError("out of range")
     except ros.RosError:
-        raise argparse.ArgumentTypeError(f"'{word}' is no radius: 0 to 10000") from None
+        wanted = "a number from 0 to 10000, as 0.22"
+        raise argparse.ArgumentTypeError(f"'{word}' is no radius: {wanted}") from None
     return word
 
 

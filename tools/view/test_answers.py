@@ -128,6 +128,28 @@ class Answers(InBrowser):
         field.send_keys("\n")
         self.until(lambda: not self.shown("marker"))
 
+    def test_a_radius_that_is_no_number(self):
+        """It isn't taken for none, nor for 0: the page says what is wanted until it is one."""
+        self.open(view=["--radius", "1.5"])
+        self.mode("path")
+        self.to(5, 3).click().perform()
+        self.until(lambda: self.text("path").endswith("the robot has room"))
+        field = self.driver.find_element(By.ID, "radius")
+        said = "a radius is a number from 0 on, as 0.22, and '0,22' is none"
+        why = "The scale ends at the farthest cell (3.6 cells): "
+        for word, end, unread, way in (
+            ("0,22", why + "the radius can't be read.", said, said),
+            ("0", why + "the radius is 0.", "", "the robot has room"),
+            ("", why + "no radius is given.", "", "3.61 cells"),
+            ("0.22", "The scale ends at 4 radii (0.9 cells).", "", "the robot has room"),
+        ):
+            field.clear()
+            field.send_keys(word + "\n")
+            self.until(lambda: self.text("end") == end)
+            self.assertEqual((self.text("unread"), self.shown("unread")), (unread, bool(unread)))
+            self.assertEqual(field.get_attribute("aria-invalid"), str(bool(unread)).lower())
+            self.until(lambda: self.text("path").endswith(way))
+
     def test_off_the_map(self):
         """Nothing is read out there, and nothing moves."""
         self.open()

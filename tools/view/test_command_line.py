@@ -35,6 +35,8 @@ class CommandLine(unittest.TestCase):
         self.assertIn("no 'image'", said)
         for words in (("--port", "0"), (), ("--port", "7400", "--radius", "wide")):
             self.assertEqual(self.refused(*words)[0], 2)
+        said = self.refused("--port", "7400", "--radius", "0,22")[1]
+        self.assertIn("'0,22' is no radius: a number from 0 to 10000, as 0.22", said)
 
     def test_no_server_yet(self):
         with socket.create_server(("127.0.0.1", 0)) as listener:

@@ -116,6 +116,7 @@ class Requests(Viewing):
             ("GET", "/at?metric=city&x=-1&y=0", None, 400, "two whole numbers"),
             ("GET", "/at?metric=city&x=6&y=0", None, 409, "isn't wholly on the map (ERR 1"),
             ("GET", "/room?metric=city&radius=wide", None, 400, "a radius is a number"),
+            ("GET", "/room?metric=city&radius=0,22", None, 400, "as 0.22, and '0,22' is none"),
             ("GET", "/room?metric=city&radius=1&unit=m", None, 400, "told in m, and the map isn't"),
             ("GET", "/piece/99/city/0/0/0", None, 404, "no such picture"),
             ("POST", "/path", "[]", 400, "no JSON object"),

@@ -33,11 +33,18 @@ export function endOf(picture, room, position) {
   return position >= WHOLE || !room.radius ? whole : (room.radius * position) / 2;
 }
 
+/** Why the scale can't end at some radii; an empty text if it can. */
+function whyWithout({ fault, radius }) {
+  if (fault) return ": the radius can't be read";
+  if (radius === null) return ": no radius is given";
+  return radius === 0 ? ": the radius is 0" : "";
+}
+
 /** How the slider's position is told. */
 function endSaid(picture, room, position, resolution) {
   const end = told(endOf(picture, room, position), picture.metric, resolution);
-  if (!room.radius) return `at the farthest cell (${end}): no radius is given`;
-  if (position >= WHOLE) return `at the farthest cell (${end})`;
+  const why = whyWithout(room);
+  if (why || position >= WHOLE) return `at the farthest cell (${end})${why}`;
   return `at ${position === 2 ? "1 radius" : `${position / 2} radii`} (${end})`;
 }
 
@@ -60,9 +67,17 @@ function spanOf(text) {
   return span;
 }
 
+/** Says at the radius why it can't be read, as long as it can't. */
+function tellRadius({ fault }) {
+  by("unread").textContent = fault;
+  by("unread").hidden = !fault;
+  by("radius").setAttribute("aria-invalid", String(Boolean(fault)));
+}
+
 /** Shows what the colours mean. */
 export function drawLegend(picture, room, scale, position, resolution) {
   by("legend").hidden = by("swatches").hidden = false;
+  tellRadius(room);
   drawScale(picture, scale);
   const parts = [0, 0.5, 1].map((part) => told(part * scale.end, picture.metric, resolution));
   by("ticks").replaceChildren(...parts.map(spanOf));

@@ -75,14 +75,13 @@ function resize() {
 
 const asked = () => `${page.metric} ${page.radius} ${page.unit}`;
 
-/** The room that the robot needs; none if its radius is no number, which is said. */
+/** The room that the robot needs; none if its radius can't be read, and the fault says why. */
 async function room() {
   const of = asked();
   try {
-    return { of, ...(await roomOf(page.metric, page.radius, page.unit)) };
-  } catch (fault) {
-    say(fault.message, true);
-    return { of, needed: null, radius: null, said: "" };
+    return { of, fault: "", ...(await roomOf(page.metric, page.radius, page.unit)) };
+  } catch ({ message }) {
+    return { of, fault: message, needed: null, radius: null, said: "" };
   }
 }
 
