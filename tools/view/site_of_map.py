@@ -28,6 +28,8 @@ SAFE = {
     "Referrer-Policy": "no-referrer",
     "Cache-Control": "no-store",
 }
+PORT_OF_HTTP = 80  # which browsers leave out of Host and Origin
+NAMES = ("127.0.0.1", "localhost")
 Handler = Callable[[web.Request], Awaitable[web.StreamResponse]]
 
 
@@ -35,7 +37,9 @@ class Site:
     """The routes, and who may ask them."""
 
     def __init__(self, own: int, wanted: Wanted) -> None:
-        self.hosts = {f"{name}:{own}" for name in ("127.0.0.1", "localhost")}
+        self.hosts = {f"{name}:{own}" for name in NAMES}
+        if own == PORT_OF_HTTP:
+            self.hosts.update(NAMES)
         self.following = Following(wanted)
         self.changing = Changing(self.following)
         self.ending = False

@@ -8,6 +8,28 @@ import unittest
 from testing import Viewing
 
 import clearmap
+from aiohttp.test_utils import make_mocked_request
+from following import Wanted
+from site_of_map import Site
+
+
+class Addresses(unittest.TestCase):
+    def test_the_port_of_http(self):
+        """A browser leaves port 80 out of Host and Origin, and no other one."""
+        wanted = Wanted(7400, None, False)
+        for own, host, origin, is_own in (
+            (80, "127.0.0.1", "http://127.0.0.1", True),
+            (80, "localhost", "http://localhost", True),
+            (80, "127.0.0.1:80", "http://127.0.0.1:80", True),
+            (80, "127.0.0.1", "http://127.0.0.1:7480", False),
+            (80, "example.org", "http://example.org", False),
+            (80, "127.0.0.1", "http://example.org", False),
+            (7480, "127.0.0.1", "http://127.0.0.1", False),
+            (7480, "127.0.0.1:7480", "http://127.0.0.1", False),
+        ):
+            headers = {"Host": host, "Origin": origin}
+            request = make_mocked_request("POST", "/change", headers)
+            self.assertEqual(Site(own, wanted).is_own(request), is_own, (own, headers))
 
 
 class Changes(Viewing):
