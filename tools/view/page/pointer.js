@@ -19,20 +19,22 @@ export function choose(name) {
 }
 
 /** Listens to the pointer on a canvas. `tell` has what is called: `moved`, `pointed` with a cell or
- * null, `clicked` with a cell, `dragged` and `drawn` with a rectangle's command and sides. */
+ * null, `clicked` with a cell, `dragged` and `drawn` with a rectangle's command and sides. What is
+ * returned ends a press, so that the pointer does nothing until the next, and says whether one is
+ * on. */
 export function followPointer(canvas, sight, tell) {
-  let press = null;
+  let press = null; // does what the mode was when it began
   const cellAt = (event) => sight.cell(event.offsetX, event.offsetY);
-  const draws = () => press?.button !== MIDDLE && ["paint", "clear"].includes(mode());
-  const drawn = (cell) => ({ command: mode(), rect: rectOf(press.cell, cell) });
+  const draws = () => ["paint", "clear"].includes(press.does);
+  const drawn = () => ({ command: press.does, rect: rectOf(press.cell, press.last) });
 
   /** The middle button moves the map, whatever the pointer does otherwise. */
   function pressed(event) {
     if (!event.isPrimary || event.button > MIDDLE) return;
     canvas.setPointerCapture(event.pointerId);
     const cell = cellAt(event);
-    const { offsetX: x, offsetY: y, button } = event;
-    press = { x, y, button, cell, last: cell, moved: false };
+    const does = event.button === MIDDLE ? "look" : mode();
+    press = { x: event.offsetX, y: event.offsetY, does, cell, last: cell, moved: false };
     tell.pointed(cell);
   }
 
@@ -46,18 +48,19 @@ export function followPointer(canvas, sight, tell) {
   function moved(event) {
     if (!event.isPrimary) return;
     const cell = cellAt(event);
+    if (press && event.buttons === 0) ended(); // its end wasn't heard of
     if (press && !draws()) pans(event);
     else if (press?.cell && cell) {
       press.last = cell;
-      tell.dragged(drawn(cell));
+      tell.dragged(drawn());
     }
     tell.pointed(cell);
   }
 
-  function released() {
-    const clicks = press?.button !== MIDDLE && mode() === "path" && !press?.moved;
-    if (press?.cell && draws()) tell.drawn(drawn(press.last));
-    else if (press?.cell && clicks) tell.clicked(press.cell);
+  function released(event) {
+    if (!event.isPrimary || !press) return;
+    if (press.cell && draws()) tell.drawn(drawn());
+    else if (press.cell && press.does === "path" && !press.moved) tell.clicked(press.cell);
     ended();
   }
 
@@ -68,7 +71,7 @@ export function followPointer(canvas, sight, tell) {
 
   canvas.addEventListener("pointerdown", pressed);
   canvas.addEventListener("pointermove", moved);
-  canvas.addEventListener("pointerup", released);
+  document.addEventListener("pointerup", released);
   canvas.addEventListener("pointercancel", ended);
   canvas.addEventListener("mousedown", (event) => {
     if (event.button === MIDDLE) event.preventDefault(); // no scrolling by itself
@@ -81,7 +84,7 @@ export function followPointer(canvas, sight, tell) {
     sight.zoom(2 ** (-event.deltaY / 300), event.offsetX, event.offsetY);
     tell.moved();
   }, { passive: false });
-  return ended;
+  return { end: ended, isOn: () => press !== null };
 }
 
 /** What a key is called here. */
@@ -95,14 +98,16 @@ function isTyped({ key, target, ctrlKey, metaKey, altKey }, name) {
   return target.matches("[type=range]") && key.startsWith("Arrow");
 }
 
-/** Listens to the keys and to the buttons of the same names. `others` has more keys. */
-export function followKeys(sight, moved, others) {
+/** Listens to the keys and to the buttons of the same names. `others` has more keys. While a press
+ * of the pointer is on, no key does anything but Escape, which ends it. */
+export function followKeys(sight, pressing, moved, others) {
   const keys = {
     ArrowLeft: () => sight.move(STEP, 0), ArrowRight: () => sight.move(-STEP, 0),
     ArrowUp: () => sight.move(0, STEP), ArrowDown: () => sight.move(0, -STEP),
     "+": () => sight.zoom(1.5), "-": () => sight.zoom(1 / 1.5), 0: () => sight.fit(),
   };
   keys["="] = keys["+"];
+  others.Escape = pressing.end;
   for (const button of modes()) others[button.dataset.key] = () => choose(button.dataset.mode);
   const press = (key) => {
     keys[key]?.();
@@ -113,7 +118,7 @@ export function followKeys(sight, moved, others) {
     const name = named(event);
     if (isTyped(event, name) || !(keys[name] || others[name])) return;
     event.preventDefault();
-    press(name);
+    if (!pressing.isOn() || name === "Escape") press(name);
   });
   for (const button of document.querySelectorAll("[data-key]"))
     button.addEventListener("click", () => press(button.dataset.key));

@@ -112,6 +112,7 @@ function fitTo({ width, height }) {
   const other = sight.mapWidth !== width || sight.mapHeight !== height;
   Object.assign(sight, { mapWidth: width, mapHeight: height });
   if (other) sight.fit();
+  if (other) pressing.end(); // it began on another map
   if (other && page.picture) page.path = { points: [] };
   if (!page.linked) takeLink();
 }
@@ -147,9 +148,11 @@ function fillFields({ radius, resolution, width, height }) {
   if (metrics.includes(found.metric)) by("metric").value = found.metric;
 }
 
-/** Leaves the modes that want a server. */
+/** Leaves the modes that want a server, and what was begun in them. */
 function stopDrawing() {
-  if (["paint", "clear"].includes(mode())) choose("look");
+  if (!["paint", "clear"].includes(mode())) return;
+  pressing.end();
+  choose("look");
 }
 
 function lose(seconds) {
@@ -205,7 +208,7 @@ async function copyLink() {
   say(copied ? `The link is copied: ${what}` : `Copy the page's address: ${what}`);
 }
 
-const stop = followPointer(by("marks"), sight, {
+const pressing = followPointer(by("marks"), sight, {
   moved: seen,
   pointed(cell) {
     if (cell?.x === page.pointed?.cell.x && cell?.y === page.pointed?.cell.y) return;
@@ -221,7 +224,7 @@ const stop = followPointer(by("marks"), sight, {
   drawn: ({ command, rect }) => give(command, rect),
 });
 const shorter = () => walk(page.path.points.slice(0, -1));
-followKeys(sight, seen, { Escape: stop, Backspace: shorter, Undo: undo });
+followKeys(sight, pressing, seen, { Backspace: shorter, Undo: undo });
 by("metric").addEventListener("change", () => { showNewest(); keep(); });
 by("radius").addEventListener("change", fieldsChanged);
 by("position").addEventListener("input", seen);
