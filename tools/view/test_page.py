@@ -99,6 +99,22 @@ class Page(InBrowser):
         self.to(3, 2, dragged).release().perform()
         self.until(lambda: self.middle(2, 1)[0] > before[0])
 
+    def test_a_map_of_one_row(self):
+        """It stays in sight where one goes nearer, by keys or by the wheel far from it."""
+        self.open(b"P1\n4096 1\n" + b"1" * 4096)
+        marks = self.driver.find_element(By.ID, "marks")
+        origin = webdriver.common.actions.wheel_input.ScrollOrigin.from_element(marks, 0, -200)
+        wheel = ActionChains(self.driver).scroll_from_origin(origin, 0, -4000)
+        for nearer in (lambda: [self.press_key("+") for _ in range(20)], wheel.perform):
+            self.press_key("0")
+            far = self.middle(2048, 0)
+            nearer()
+            self.until(lambda: self.middle(2048, 0) != far)
+            (left, row), (right, _) = self.middle(0, 0), self.middle(4095, 0)
+            self.assertTrue(0 < row < marks.size["height"], row)
+            seen = round((300 - left) / (right - left) * 4095)
+            self.until(lambda: self.colour(seen, 0) == OBSTACLE)
+
     def test_modes_have_keys(self):
         self.open()
         for key, name in (("p", "path"), ("b", "paint"), ("e", "clear"), ("m", "look")):

@@ -26,13 +26,16 @@ export class Sight {
     Object.assign(this, { scale, fitted: true });
   }
 
+  /** Goes nearer or farther; the place under this pixel stays there, if the map stays in sight. */
   zoom(factor, px = this.width / 2, py = this.height / 2) {
     const scale = Math.min(Math.max(this.scale * factor, this.whole() / 4), CLOSEST);
     this.left += px / this.scale - px / scale;
     this.top += py / this.scale - py / scale;
-    Object.assign(this, { scale, fitted: false });
+    this.scale = scale;
+    this.move(0, 0);
   }
 
+  /** Moves the map by pixels, but never off the window's middle. */
   move(dx, dy) {
     const [wide, high] = [this.width / this.scale / 2, this.height / this.scale / 2];
     const kept = (at, half, size) => Math.min(Math.max(at, -half), size - half);

@@ -68,6 +68,7 @@ function resize() {
     canvas.height = Math.round(height * devicePixelRatio);
   }
   if (sight.fitted) sight.fit();
+  else sight.move(0, 0);
   redraw();
 }
 
