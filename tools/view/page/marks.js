@@ -9,6 +9,7 @@ const DRAWN = { paint: "#7b1fa2", clear: "#006a5f" };
 const DASHES = [7, 5];
 const FONT = "600 13px system-ui, sans-serif";
 const HIGH = 22; // pixels of a label
+const AIM = 6; // pixels from the middle of an aim to its frame, at least
 const WITHIN = { left: LEFT + 6, top: 56, right: 6, below: BELOW + 6 }; // where labels stand
 const NARROW = { width: 700, below: BELOW + 54 }; // a window that has tools below, too
 
@@ -98,6 +99,13 @@ function drawPath(context, sight, middle, path, uncounted) {
   return label(context, sight, cell, path.length + uncounted, inRed);
 }
 
+/** A frame around the cell that is aimed at by keys. */
+function drawAim(context, [x, y], half) {
+  const [left, top, right, below] = [x - half, y - half, x + half, y + half];
+  const corners = [[left, top], [right, top], [right, below], [left, below], [left, top]];
+  edged(context, corners, LIGHT, DARK, 2);
+}
+
 function drawPointed(context, sight, middle, { cell, obstacle, length }, uncounted, other) {
   if (!obstacle) return;
   const ends = [middle([cell.x, cell.y]), middle(obstacle)];
@@ -113,5 +121,7 @@ export function drawMarks(context, sight, { drafts, lost, dragged, path, pointed
   for (const drawn of lost) rectangle(context, sight, drawn, true);
   for (const drawn of dragged ? [...drafts, dragged] : drafts) rectangle(context, sight, drawn);
   const other = drawPath(context, sight, middle, path, of(path));
+  if (pointed?.byKeys)
+    drawAim(context, middle([pointed.cell.x, pointed.cell.y]), Math.max(sight.scale / 2, AIM));
   if (pointed) drawPointed(context, sight, middle, pointed, of(pointed), other);
 }

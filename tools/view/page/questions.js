@@ -26,7 +26,7 @@ export class Questions {
     const fault = ({ message }) => ({ said: message });
     const told = await askAt(this.page.metric, cell).catch(fault);
     if (this.again) return;
-    this.page.pointed = { cell, ...told };
+    this.page.pointed = { cell, byKeys: this.page.pointed.byKeys, ...told };
     this.tellPoint();
   }
 

@@ -62,6 +62,19 @@ export class Sight {
     return [(x - this.left) * this.scale, (y - this.top) * this.scale];
   }
 
+  /** The cell of a place in cells, or the nearest one on the map. */
+  nearest(x, y) {
+    const within = (at, size) => Math.min(Math.max(Math.floor(at), 0), size - 1);
+    return { x: within(x, this.mapWidth), y: within(y, this.mapHeight) };
+  }
+
+  /** Whether a cell's centre is in the window, and under none of its rulers. */
+  sees({ x, y }) {
+    const [px, py] = this.pixel(x + 0.5, y + 0.5);
+    const { left, top, right, bottom } = MARGIN;
+    return px >= left && py >= top && px <= this.width - right && py <= this.height - bottom;
+  }
+
   /** The cell under a pixel; null outside the map. */
   cell(px, py) {
     const x = Math.floor(px / this.scale + this.left);

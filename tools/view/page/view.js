@@ -2,12 +2,14 @@
 import { askPicture, follow } from "./ask.js";
 import { dark, fading, Scale } from "./colours.js";
 import { followButtons, give, undo } from "./commands.js";
+import { followKeys } from "./keys.js";
 import { drawLegend, endOf, firstRadius, roomOf } from "./legend.js";
 import { read, written } from "./link.js";
 import { drawMarks } from "./marks.js";
 import { say, tellLost, tellState, unitOf, wait } from "./panel.js";
 import { Picture } from "./pieces.js";
-import { choose, followKeys, followPointer, mode } from "./pointer.js";
+import { followPointer } from "./pointer.js";
+import { choose, isDrawing, Press } from "./press.js";
 import { Questions } from "./questions.js";
 import { drawPicture } from "./raster.js";
 import { drawRulers, Frame } from "./rulers.js";
@@ -113,7 +115,7 @@ function fitTo({ width, height }) {
   const other = sight.mapWidth !== width || sight.mapHeight !== height;
   Object.assign(sight, { mapWidth: width, mapHeight: height });
   if (other) sight.fit();
-  if (other) pressing.end(); // it began on another map
+  if (other) press.drop(); // it began on another map
   if (other && page.picture) page.path = { points: [] };
   if (!page.linked) takeLink();
 }
@@ -151,8 +153,8 @@ function fillFields({ radius, resolution, width, height }) {
 
 /** Leaves the modes that want a server, and what was begun in them. */
 function stopDrawing() {
-  if (!["paint", "clear"].includes(mode())) return;
-  pressing.end();
+  if (!isDrawing()) return;
+  press.drop();
   choose("look");
 }
 
@@ -209,14 +211,7 @@ async function copyLink() {
   say(copied ? `The link is copied: ${what}` : `Copy the page's address: ${what}`);
 }
 
-const pressing = followPointer(by("marks"), sight, {
-  moved: seen,
-  pointed(cell) {
-    if (cell?.x === page.pointed?.cell.x && cell?.y === page.pointed?.cell.y) return;
-    page.pointed = cell && { cell };
-    redraw("marks");
-    questions.point();
-  },
+const press = new Press({
   clicked: (cell) => walk([...page.path.points, cell]),
   dragged(rectangle) {
     page.dragged = rectangle;
@@ -224,8 +219,21 @@ const pressing = followPointer(by("marks"), sight, {
   },
   drawn: ({ command, rect }) => give(command, rect),
 });
+const tell = {
+  moved: seen,
+  cell: () => page.pointed?.cell ?? null,
+  pointed(cell, byKeys = false) {
+    const { pointed } = page;
+    const same = cell?.x === pointed?.cell.x && cell?.y === pointed?.cell.y;
+    if (same && byKeys === Boolean(pointed?.byKeys)) return;
+    page.pointed = cell && { cell, byKeys };
+    redraw("marks");
+    questions.point();
+  },
+};
+followPointer(by("marks"), sight, press, tell);
 const shorter = () => walk(page.path.points.slice(0, -1));
-followKeys(sight, pressing, seen, { Backspace: shorter, Undo: undo });
+followKeys(by("marks"), sight, press, tell, { Backspace: shorter, Undo: undo });
 by("metric").addEventListener("change", () => { showNewest(); keep(); });
 by("radius").addEventListener("change", fieldsChanged);
 by("position").addEventListener("input", seen);
