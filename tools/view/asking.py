@@ -1,16 +1,22 @@
 """What the page asks of a version: a cell, a path, and how much room a robot needs."""
+import asyncio
+import json
 import math
 from fractions import Fraction
-from typing import Callable, Dict, List, NamedTuple, Optional, Sequence
+from typing import TYPE_CHECKING, Callable, Dict, List, NamedTuple, Optional, Sequence
 
 from aiohttp import web
 
 import clearmap
 import clearmap_ros as ros
+import paths
 import picture
 from bodies import BadRequest, Cell, body_of, cell_of_query, metric_of, points_of
-from following import Answers, Following, Shown
+from following import Answers, Following
 from wording import counted
+
+if TYPE_CHECKING:
+    from paths import Walk
 
 MOST_RADIUS = 10_000  # cells
 UNKNOWN = "unknown, counted as an obstacle"
@@ -38,14 +44,10 @@ def way(corners: Sequence[Cell], metric: str, needed: Optional[int]) -> Callable
     return question
 
 
-def cells_of(corners: Sequence[Cell]) -> List[Cell]:
-    """All cells of a path that is given by its corners."""
-    cells = [corners[0]]
-    for (x0, y0), (x1, y1) in zip(corners, corners[1:]):
-        steps = max(abs(x1 - x0), abs(y1 - y0))
-        dx, dy = (x1 > x0) - (x1 < x0), (y1 > y0) - (y1 < y0)
-        cells += [(x0 + dx * k, y0 + dy * k) for k in range(1, steps + 1)]
-    return cells
+def tight_parts(made: picture.Picture, cells: "Walk", needed: int) -> List[List[Cell]]:
+    """The parts of a path without room, each by its corners."""
+    runs = picture.tight_runs(cells, made.distance(cells), needed)
+    return [paths.corners(run) for run in runs]
 
 
 def root_above(number: int) -> Fraction:
@@ -60,10 +62,12 @@ def label(length: str) -> str:
 
 
 class Asking:
-    """The handlers of questions."""
+    """The handlers of questions. One path is worked out at a time, off the event loop: several, of
+    many cells each, would leave no thread for anything else."""
 
     def __init__(self, following: Following) -> None:
         self.following = following
+        self.walking = asyncio.Lock()
 
     # ---- words
 
@@ -131,15 +135,28 @@ class Asking:
         """The tightest cell along points that were clicked, and where a robot has no room."""
         body = await body_of(request)
         metric, points = metric_of(body.get("metric")), points_of(body)
-        corners = self.corners(points)
         needed = self.needed(body.get("radius"), metric, body.get("unit"))
+        async with self.walking:
+            told = await self.walked(points, metric, needed)
+            text = await asyncio.to_thread(json.dumps, told)
+        return web.Response(text=text, content_type="application/json")
+
+    async def walked(
+        self, points: Sequence[Cell], metric: str, needed: Optional[int]
+    ) -> Dict[str, object]:
+        """What is told of a path."""
         shown = self.following.newest()
+        if not all(0 <= x < shown.width and 0 <= y < shown.height for x, y in points):
+            raise BadRequest("a point isn't on the map")
+        cells = await asyncio.to_thread(paths.walk, points)
+        corners = await asyncio.to_thread(paths.corners, cells)
         version, found = await self.following.asked(way(corners, metric, needed))
         told = {"version": version, "corners": corners, **self.answer(found, needed, metric)}
         told["long"] = self.long(points)
         if found.near is not None and version == shown.version:
-            told["tight"] = await self.tight(shown, metric, corners, needed or 0)
-        return web.json_response(told)
+            made = await self.following.picture_of(shown, metric)
+            told["tight"] = await asyncio.to_thread(tight_parts, made, cells, needed or 0)
+        return told
 
     def long(self, points: Sequence[Cell]) -> str:
         """How long the straight lines between the points are, in metres if they are known."""
@@ -147,25 +164,6 @@ class Asking:
         cells = sum(math.dist(*pair) for pair in zip(points, points[1:]))
         length = f"{cells * float(frame.resolution):.2f} m" if frame else f"{cells:.2f} cells"
         return f"{counted(len(points), 'point')}, {length} long"
-
-    def corners(self, points: List[Cell]) -> List[Cell]:
-        """The staircase from centre to centre of the clicked cells."""
-        shown = self.following.newest()
-        half, one = Fraction(1, 2), Fraction(1)
-        try:
-            frame = ros.Frame(shown.width, shown.height, one, Fraction(0), Fraction(0))
-            return frame.staircase([(x + half, shown.height - 1 - y + half) for x, y in points])
-        except ros.RosError:
-            raise BadRequest("a point isn't on the map") from None
-
-    async def tight(
-        self, shown: Shown, metric: str, corners: Sequence[Cell], needed: int
-    ) -> List[List[Cell]]:
-        """The parts of a path without room, each by its corners."""
-        made = await self.following.picture_of(shown, metric)
-        cells = cells_of(corners)
-        runs = picture.tight_runs(cells, made.distance(cells), needed)
-        return [ros.corners(run) for run in runs]
 
     def answer(self, found: Way, needed: Optional[int], metric: str) -> Dict[str, object]:
         """What the page shows of a path's answers."""

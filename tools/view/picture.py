@@ -14,6 +14,7 @@ from clearmap.copies import read_dump
 
 if TYPE_CHECKING:
     from numpy.typing import NDArray
+    from paths import Walk
 
     Numbers = NDArray[numpy.uint32]
     Cells = NDArray[numpy.bool_]
@@ -56,9 +57,9 @@ class Picture:
         while max(self.levels[-1].shape) > SIDE:
             self.levels.append(halved(self.levels[-1]))
 
-    def distance(self, cells: Sequence[Tuple[int, int]]) -> "Numbers":
+    def distance(self, cells: "Walk") -> "Numbers":
         """The distances of cells."""
-        columns, rows = numpy.array(cells).T
+        columns, rows = cells.T
         found = self.levels[0][rows, columns]
         return numpy.where(found == NO_OBSTACLE, found, found - (found > 0))
 
@@ -121,9 +122,7 @@ def telling_cell(bits: "Cells") -> Optional[Tuple[int, int]]:
     return None
 
 
-def tight_runs(
-    cells: List[Tuple[int, int]], distances: "Numbers", needed: int
-) -> List[List[Tuple[int, int]]]:
+def tight_runs(cells: "Walk", distances: "Numbers", needed: int) -> "List[Walk]":
     """The parts of a path, as runs of neighbouring cells, whose distance is less than needed."""
     near = numpy.pad(distances < needed, 1)
     starts = numpy.flatnonzero(near[1:] & ~near[:-1])

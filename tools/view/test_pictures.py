@@ -65,14 +65,14 @@ class Pictures(unittest.TestCase):
         made = picture.Picture(table(POST, "euclid2"))
         self.assertEqual((made.width, made.height, made.most), (6, 4, 13))
         self.assertEqual(numbers(made.piece(0, 0, 0), 6)[1], [5, 2, 0, 2, 5, 10])
-        self.assertEqual(made.distance([(2, 1), (3, 1), (5, 3)]).tolist(), [0, 1, 13])
+        self.assertEqual(made.distance(numpy.array([(2, 1), (3, 1), (5, 3)])).tolist(), [0, 1, 13])
         self.assertFalse(made.has_unknown)
 
     def test_no_obstacle(self):
         made = picture.Picture(table(b"P1\n2 1\n00\n", "chess"))
         self.assertEqual(made.most, None)
         self.assertEqual(numbers(made.piece(0, 0, 0), 2), [[picture.FAR] * 2])
-        self.assertEqual(made.distance([(1, 0)]).tolist(), [clearmap.NO_OBSTACLE])
+        self.assertEqual(made.distance(numpy.array([(1, 0)])).tolist(), [clearmap.NO_OBSTACLE])
 
     def test_unknown(self):
         """A cell that the yaml's image doesn't know is hatched just where it is an obstacle."""
@@ -81,7 +81,7 @@ class Pictures(unittest.TestCase):
         made = picture.Picture(table(POST, "city"), unknown)
         self.assertEqual(numbers(made.piece(0, 0, 0), 6)[1], [3, 2, 1, 2, 3, 4])
         self.assertEqual(numbers(made.piece(0, 0, 0), 6)[0][0], 4)
-        self.assertEqual(made.distance([(2, 1), (3, 1)]).tolist(), [0, 1])
+        self.assertEqual(made.distance(numpy.array([(2, 1), (3, 1)])).tolist(), [0, 1])
         self.assertTrue(made.has_unknown)
         unknown[1, 2] = False
         self.assertFalse(picture.Picture(table(POST, "city"), unknown).has_unknown)
@@ -103,7 +103,7 @@ class Pictures(unittest.TestCase):
                 made.piece(*place)
 
     def test_tight_runs(self):
-        cells = [(x, 0) for x in range(7)]
+        cells = numpy.array([(x, 0) for x in range(7)])
         rows = (
             ([9, 9, 9, 9, 9, 9, 9], []),
             ([1, 1, 1, 1, 1, 1, 1], [(0, 6)]),

@@ -5,7 +5,8 @@ import { tellPath, tellPointed } from "./panel.js";
 /** The questions of a page. An answer to a question that isn't the last one is dropped. */
 export class Questions {
   constructor(page, redraw) {
-    Object.assign(this, { page, redraw, pointing: false, again: false, ways: 0 });
+    Object.assign(this, { page, redraw, pointing: false, again: false });
+    Object.assign(this, { walking: false, stale: false });
   }
 
   /** Asks for the cell under the pointer; while an answer is on its way, only that one is asked
@@ -55,21 +56,27 @@ export class Questions {
     if (this.page.path.said) this.tellWay();
   }
 
-  /** Asks about the path, and forgets what was known of it. */
+  /** Asks about the path, and forgets what was known of it; while an answer is on its way, only
+   * that path is asked about which is the last. */
   async way() {
-    const { page } = this;
-    const { points } = page.path;
-    this.ways += 1;
-    const asked = this.ways;
-    page.path = { points };
-    if (points.length) {
-      const fault = ({ message }) => ({ said: message });
-      const { metric, radius, unit } = page;
-      const told = await askPath(metric, points, radius, unit).catch(fault);
-      if (asked !== this.ways) return;
-      page.path = { points, ...told };
-    }
+    this.stale = true;
+    this.page.path = { points: this.page.path.points };
+    if (!this.page.path.points.length) this.tellWay();
+    this.redraw();
+    if (this.walking) return;
+    this.walking = true;
+    while (this.stale) await this.walk();
+    this.walking = false;
     this.tellWay();
     this.redraw();
+  }
+
+  async walk() {
+    const { metric, radius, unit, path: { points } } = this.page;
+    const fault = ({ message }) => ({ said: message });
+    this.stale = false;
+    const told = points.length ? await askPath(metric, points, radius, unit).catch(fault) : {};
+    this.stale ||= this.page.path.points !== points;
+    if (!this.stale) this.page.path = { points, ...told };
   }
 }

@@ -1,0 +1,76 @@
+#!/usr/bin/env python3
+"""Tests of the paths that clearmap-view asks about: which cells they have, and that a long one
+holds nothing up. CLEARMAP names the built program."""
+import json
+import random
+import sys
+import threading
+import time
+import unittest
+from fractions import Fraction
+
+from testing import Viewing
+
+import clearmap_ros as ros
+import paths
+from served import Served, blank
+
+SIDE = 4096
+HELD_UP = 2.0  # seconds that an answer may take on a busy machine while a long path is asked
+
+
+def staircase(points, width, height):
+    """The corners that the nodes of ROS find between cells' middles, in fractions."""
+    frame = ros.Frame(width, height, 1, 0, 0)
+    half = Fraction(1, 2)
+    return frame.staircase([(x + half, height - 1 - y + half) for x, y in points])
+
+
+class Cells(unittest.TestCase):
+    def test_the_cells_of_a_path(self):
+        """They are those that the nodes of ROS find, also through corners and back."""
+        chance = random.Random(48)
+        for _ in range(500):
+            width, height = chance.randint(1, 12), chance.randint(1, 12)
+            points = [
+                (chance.randrange(width), chance.randrange(height))
+                for _ in range(chance.randint(1, 5))
+            ]
+            cells = paths.walk(points)
+            self.assertEqual(paths.corners(cells), staircase(points, width, height), points)
+            steps = abs(cells[1:] - cells[:-1]).sum(axis=1).tolist()
+            self.assertEqual(steps, [1] * len(steps))
+
+    def test_through_corners(self):
+        cells = paths.walk([(0, 2), (2, 0), (2, 0)]).tolist()
+        self.assertEqual(cells, [[0, 2], [1, 2], [1, 1], [2, 1], [2, 0]])
+
+
+class LongPaths(Viewing):
+    def setUp(self):
+        self.served = Served(blank(SIDE, SIDE))
+        self.addCleanup(self.served.end)
+
+    def test_a_long_path_holds_nothing_up(self):
+        """While one of 200 points is asked, other questions are answered."""
+        viewed, _ = self.view()
+        chance = random.Random(48)
+        points = [[chance.randrange(SIDE), chance.randrange(SIDE)] for _ in range(200)]
+        body = json.dumps({"metric": "euclid2", "points": points, "radius": "2"})
+        told = []
+        asking = threading.Thread(target=lambda: told.append(viewed.ask("POST", "/path", body)))
+        asking.start()
+        took = []
+        while asking.is_alive():
+            start = time.monotonic()
+            self.assertEqual(viewed.ask("GET", "/at?metric=city&x=0&y=0")[0], 200)
+            took.append(time.monotonic() - start)
+            time.sleep(0.02)
+        [(status, said)] = told
+        self.assertEqual(status, 200)
+        self.assertGreater(len(json.loads(said)["corners"]), 200_000)
+        self.assertLess(max(took), HELD_UP)
+
+
+if __name__ == "__main__":
+    sys.exit(unittest.main())
