@@ -99,7 +99,7 @@ class Changing:
             raise BadRequest("This page is read-only.", 403)
         token = request.headers.get("X-Clearmap-Token", "")
         if not hmac.compare_digest(token.encode(), self.token.encode()):
-            raise BadRequest("A change wants the page's own token.", 403)
+            raise BadRequest("A change wants the token of this run: load the page again.", 403)
 
     async def give(self, name: str, call: Command) -> str:
         """Gives a command, and what it answers."""

@@ -1,5 +1,6 @@
 """Follows the newest version of a server: what each page shows, and what it is sent."""
 import asyncio
+import secrets
 import time
 from typing import Callable, Dict, List, NamedTuple, Optional, Sequence, Tuple, TypeVar, Union
 
@@ -35,10 +36,11 @@ class NothingShown(Exception):
 
 
 class Following:
-    """What is shown, and whether the server is there. `turn` counts its changes."""
+    """What is shown, and whether the server is there. `turn` counts its changes, and `run` is a
+    name of this run of the program, by which a page notices another one."""
 
     def __init__(self, wanted: Wanted) -> None:
-        self.wanted = wanted
+        self.wanted, self.run = wanted, secrets.token_urlsafe(9)
         self.draft = Draft()
         self.watched = Watched(wanted.port, self.draft.lost)
         self.shown: List[Shown] = []  # the newest, and the one before it
@@ -61,7 +63,7 @@ class Following:
         """What each page is sent when it changes."""
         wanted = self.wanted
         told: Dict[str, object] = {"fault": self.fault, "readOnly": wanted.read_only}
-        told.update(port=wanted.port, draft=self.draft.state())
+        told.update(run=self.run, port=wanted.port, draft=self.draft.state())
         told["name"] = wanted.map.name if wanted.map else f"port {wanted.port}"
         if self.shown:
             told.update(self.state_of(self.shown[0]), age=clock() - self.seen)

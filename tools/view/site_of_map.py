@@ -114,9 +114,9 @@ class Site:
     # ---- what a browser gets
 
     async def index(self, _: web.Request) -> web.Response:
-        """The page, with its token."""
+        """The page, with its token and the name of this run."""
         text = (PAGE / "index.html").read_text(encoding="utf-8")
-        text = text.replace("@TOKEN@", self.changing.token)
+        text = text.replace("@TOKEN@", self.changing.token).replace("@RUN@", self.following.run)
         return web.Response(text=text, content_type="text/html")
 
     async def file(self, request: web.Request) -> web.Response:

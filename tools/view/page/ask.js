@@ -2,6 +2,8 @@
 const token = document.querySelector("meta[name=token]").content;
 const SILENCE = 7000; // milliseconds, in which some heartbeats come
 const NO_ANSWER = "clearmap-view answered something else.";
+const UNREACHED = "clearmap-view can't be reached";
+const UNKNOWN = "whether this was done isn't known";
 
 /** The JSON that answers a request. A refusal or a fault is thrown with its sentence. */
 async function answer(path, options) {
@@ -9,7 +11,7 @@ async function answer(path, options) {
   try {
     response = await fetch(path, options);
   } catch {
-    throw new Error("clearmap-view can't be reached.");
+    throw new Error(path === "change" ? `${UNREACHED}: ${UNKNOWN}.` : `${UNREACHED}.`);
   }
   const told = await response.json().catch(() => ({ fault: NO_ANSWER }));
   if (!response.ok) throw new Error(told.fault ?? NO_ANSWER);

@@ -1,6 +1,7 @@
 // The commands of the panel's buttons, and of rectangles that are drawn.
 import { change, forgetLost } from "./ask.js";
 import { say } from "./panel.js";
+import { forgetRuns } from "./runs.js";
 
 const by = (id) => document.getElementById(id);
 
@@ -10,6 +11,7 @@ const tell = (doing) => doing.then((text) => say(text), ({ message }) => say(mes
 async function given(command, rect) {
   let told = await change(command, rect);
   if (told.asks && confirm(told.asks)) told = await change(command, rect, true);
+  if (told.said && command === "revert") forgetRuns();
   return told.said ?? (command === "publish" ? "Nothing was published." : "Nothing was changed.");
 }
 

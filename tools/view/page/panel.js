@@ -1,4 +1,5 @@
 // The panel next to the map: what is known of the server and of the draft, and the toast.
+import { saidOfRuns } from "./runs.js";
 import { tellNew, tellNoView, tellOld } from "./strip.js";
 
 const by = (id) => document.getElementById(id);
@@ -68,6 +69,7 @@ export function tellState(state, picture) {
   by("server").classList.toggle("lost", Boolean(state.fault));
   put("notice", state.notice ?? "");
   put("another", state.draft.another);
+  put("again", saidOfRuns(state));
   by("unit").textContent = unitOf(state);
   if (state.fault && picture) tellOld("Server lost", picture.version, state.age);
   else tellNew();

@@ -13,6 +13,7 @@ import { choose, isDrawing, Press } from "./press.js";
 import { Questions } from "./questions.js";
 import { drawPicture } from "./raster.js";
 import { drawRulers, Frame } from "./rulers.js";
+import { isAnotherRun, newsOfRun } from "./runs.js";
 import { Sight } from "./sight.js";
 
 const by = (id) => document.getElementById(id);
@@ -164,6 +165,7 @@ function lose(seconds) {
 }
 
 function take(state) {
+  if (isAnotherRun(state, page.state)) return;
   if (state.serial !== undefined && page.unit !== unitOf(state)) fillFields(state);
   page.state = state;
   page.drafts = state.draft.drawn;
@@ -243,4 +245,6 @@ followButtons();
 dark.addEventListener("change", () => redraw());
 new ResizeObserver(resize).observe(by("marks"));
 window.clearmapView = { pixel: (x, y) => sight.pixel(x, y) }; // where a cell is, for tests
+const news = newsOfRun();
+if (news) say(news);
 follow(take, lose);
