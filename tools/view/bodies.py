@@ -1,6 +1,6 @@
 """Reads what requests of the page carry, and refuses what can't be answered."""
 import json
-from typing import Dict, List, Sequence, Tuple
+from typing import Dict, List, Optional, Sequence, Tuple
 
 from aiohttp import web
 
@@ -8,6 +8,7 @@ import clearmap_ros as ros
 
 Cell = Tuple[int, int]
 MOST_POINTS = 200  # that are clicked
+LONGEST_NAME = 40
 
 
 class BadRequest(Exception):
@@ -58,6 +59,22 @@ def points_of(body: Dict[str, object]) -> List[Cell]:
     if not isinstance(points, list) or not 1 <= len(points) <= MOST_POINTS:
         raise BadRequest(f"a path has 1 to {MOST_POINTS} points")
     return [cell_of(point) if isinstance(point, list) else cell_of(()) for point in points]
+
+
+def page_of(body: Dict[str, object]) -> str:
+    """The name that the page gave itself when it was loaded."""
+    name = body.get("page", "")
+    if not isinstance(name, str) or len(name) > LONGEST_NAME:
+        raise BadRequest(f"a page's name is a text of at most {LONGEST_NAME} characters")
+    return name
+
+
+def place_of(body: Dict[str, object]) -> Optional[int]:
+    """The place of the rectangle to undo; None is the last one's."""
+    place = body.get("place")
+    if place is not None and type(place) is not int:
+        raise BadRequest("a place of the log is a whole number")
+    return place
 
 
 def rectangle_of(rect: object) -> Sequence[int]:

@@ -2,12 +2,12 @@
 import asyncio
 import hmac
 import secrets
-from typing import Callable, Dict, Sequence
+from typing import Callable, Dict, Optional, Sequence
 
 from aiohttp import web
 
 import clearmap
-from bodies import BadRequest, body_of, rectangle_of
+from bodies import BadRequest, body_of, page_of, place_of, rectangle_of
 from draft import Draft
 from following import Following
 from wording import counted
@@ -17,9 +17,10 @@ UNDO = (
     "undo makes the last rectangle's cells what they were in the newest version with the earlier"
     " rectangles from here"
 )
+FOREIGN = "The last rectangle was drawn on another page, or before this one was loaded"
 
 
-def drawing(draft: Draft, name: str, sides: Sequence[int]) -> Command:
+def drawing(draft: Draft, name: str, sides: Sequence[int], page: str) -> Command:
     """A paint or a clear of a rectangle."""
     paints = name == "paint"
     draw = clearmap.Client.paint if paints else clearmap.Client.clear
@@ -27,7 +28,7 @@ def drawing(draft: Draft, name: str, sides: Sequence[int]) -> Command:
     def call(client: clearmap.Client) -> str:
         x0, y0, x1, y1 = sides
         done = draw(client, x0, y0, x1, y1)
-        draft.drew(name, sides, done.place)
+        draft.drew(name, sides, done.place, page)
         changed = f"{counted(done.changed, 'cell')} of the draft {name}ed"
         return f"{changed}, place {done.place} of the log."
 
@@ -62,11 +63,14 @@ def commands(draft: Draft) -> Dict[str, Command]:
     return {"publish": publish, "revert": revert, "collect": collect, "checkpoint": checkpoint}
 
 
-def undoing(following: Following) -> Command:
-    """What takes the last rectangle back: no command does, so its cells are stamped as they were.
-    """
+def undoing(following: Following, place: Optional[int]) -> Command:
+    """What takes the last rectangle back, if it is the one of this place: no command does, so its
+    cells are stamped as they were."""
 
     def undo(client: clearmap.Client) -> str:
+        last = following.draft.last
+        if place is not None and last is not None and last.place != place:
+            raise BadRequest("Another rectangle is the last one now: nothing was undone.", 409)
         (x, y), image = following.before_last()
         done = client.stamp(x, y, image)
         following.draft.undid(done.place)
@@ -86,9 +90,9 @@ class Changing:
         """The command that a request names."""
         name, draft = str(body.get("command")), self.following.draft
         if name in ("paint", "clear"):
-            return drawing(draft, name, rectangle_of(body.get("rect")))
+            return drawing(draft, name, rectangle_of(body.get("rect")), page_of(body))
         if name == "undo":
-            return undoing(self.following)
+            return undoing(self.following, place_of(body))
         if name not in commands(draft):
             raise BadRequest("no such command")
         return commands(draft)[name]
@@ -119,28 +123,35 @@ class Changing:
         if draft.replaced != known:
             raise BadRequest("Another server runs now: nothing else was done there.", 409)
 
-    def question(self, name: str) -> str:
-        """What the page asks before a command; an empty text if it does it at once."""
+    def question(self, name: str, page: str) -> str:
+        """What a page asks before a command; an empty text if it does it at once."""
         draft = self.following.draft
         if name == "revert":
             ours = counted(draft.count, "rectangle")
             return f"Revert drops {ours} from here, and what others changed in the draft. Revert?"
         if name == "publish" and draft.asks:
             return f"{draft.hidden}. Publish all of it?"
-        if name == "undo" and draft.asks:
-            return f"{draft.hidden}, and {UNDO}. Undo?"
-        return ""
+        return self.question_of_undo(page) if name == "undo" else ""
+
+    def question_of_undo(self, page: str) -> str:
+        """What a page asks before an undo."""
+        draft = self.following.draft
+        last = draft.last
+        words = [f"{FOREIGN}."] if last is not None and last.page != page else []
+        if draft.asks:
+            words.append(f"{draft.hidden}, and {UNDO}.")
+        return " ".join([*words, "Undo?"]) if words else ""
 
     async def change(self, request: web.Request) -> web.Response:
         """A command."""
         self.check(request)
         body = await body_of(request)
         name, sure = str(body.get("command")), body.get("sure") is True
-        call = self.command(body)
+        call, page = self.command(body), page_of(body)
         try:
             if name == "undo" or (name == "publish" and (sure or not self.following.draft.asks)):
                 await self.look()
-            asks = "" if sure else self.question(name)
+            asks = "" if sure else self.question(name, page)
             if asks:
                 return web.json_response({"asks": asks})
             return web.json_response({"said": await self.give(name, call)})

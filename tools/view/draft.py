@@ -12,16 +12,18 @@ OTHERS = " Changes of others may be in the draft, which no request shows."
 
 
 class Drawn(NamedTuple):
-    """A rectangle that was painted or cleared from here, and its place in the log."""
+    """A rectangle that was painted or cleared from here, its place in the log, and the name of the
+    page that drew it."""
 
     command: str
     rect: Tuple[int, ...]
     place: int
+    page: str
 
 
 def sent_of(drawn: Sequence[Drawn]) -> List[Dict[str, object]]:
     """Rectangles as a page is sent them."""
-    return [it._asdict() for it in drawn]
+    return [{"command": it.command, "rect": it.rect, "place": it.place} for it in drawn]
 
 
 class Draft:
@@ -84,11 +86,11 @@ class Draft:
 
     # ---- what was done, and what happened
 
-    def drew(self, command: str, rect: Sequence[int], place: int) -> None:
-        """A paint or a clear was accepted."""
+    def drew(self, command: str, rect: Sequence[int], place: int, page: str = "") -> None:
+        """A paint or a clear of a page was accepted."""
         with self._lock:
             self._take(place)
-            self._drawn.append(Drawn(command, tuple(rect), place))
+            self._drawn.append(Drawn(command, tuple(rect), place, page))
 
     def undid(self, place: int) -> None:
         """The cells of the last rectangle became what they were before it."""
@@ -173,6 +175,12 @@ class Draft:
         with self._lock:
             drawn = [] if self._overtaken else self._drawn
         return [(it.rect, it.command == "paint") for it in drawn]
+
+    @property
+    def last(self) -> Optional[Drawn]:
+        """The last rectangle from here that wasn't published from here."""
+        with self._lock:
+            return self._drawn[-1] if self._drawn else None
 
     @property
     def version(self) -> Optional[int]:

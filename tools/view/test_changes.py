@@ -68,6 +68,9 @@ class Changes(Viewing):
             ({"command": "paint", "rect": [0, 0, 0, 1]}, "one cell at least"),
             ({"command": "paint", "rect": [0, 0, 1]}, "four whole numbers"),
             ({"command": "quit"}, "no such command"),
+            ({"command": "paint", "rect": [0, 0, 1, 1], "page": 7}, "at most 40 characters"),
+            ({"command": "publish", "page": "x" * 41}, "at most 40 characters"),
+            ({"command": "undo", "place": "last"}, "a place of the log is a whole number"),
         ):
             said = viewed.ask("POST", "/change", json.dumps(body), X_Clearmap_Token=self.token)[1]
             self.assertIn(text, json.loads(said)["fault"])

@@ -72,6 +72,31 @@ class Undo(Viewing):
         self.assertEqual((status, told["fault"]), (503, "There is no rectangle to undo."))
         self.assertEqual(self.publish(), PAINTED)
 
+    def test_a_rectangle_of_another_page(self):
+        """A page is asked before it takes back what another one drew, and not for its own."""
+        viewed, _ = self.view()
+        self.give(viewed, "paint", rect=[3, 2, 5, 3], page="ours")
+        self.give(viewed, "paint", rect=[0, 3, 1, 4], page="theirs")
+        asked = self.give(viewed, "undo", page="ours")[1]["asks"]
+        said = "The last rectangle was drawn on another page, or before this one was loaded. Undo?"
+        self.assertEqual(asked, said)
+        self.assertEqual(len(next(viewed.events())["draft"]["drawn"]), 2)
+        for page in ("theirs", "ours"):
+            self.assertIn("is undone", self.give(viewed, "undo", page=page)[1]["said"])
+        self.assertEqual(self.publish(), POST)
+
+    def test_a_rectangle_that_is_not_the_last_any_more(self):
+        """It isn't mixed up with the one that was drawn meanwhile, whatever one is sure of."""
+        viewed, _ = self.view()
+        self.give(viewed, "paint", rect=[3, 2, 5, 3], page="ours")
+        self.give(viewed, "paint", rect=[0, 3, 1, 4], page="theirs")
+        status, told = self.give(viewed, "undo", page="ours", place=1, sure=True)
+        said = "Another rectangle is the last one now: nothing was undone."
+        self.assertEqual((status, told["fault"]), (409, said))
+        self.assertEqual(len(next(viewed.events())["draft"]["drawn"]), 2)
+        self.assertEqual(self.give(viewed, "undo", page="theirs", place=2)[0], 200)
+        self.assertEqual(self.publish(), PAINTED)
+
     def test_another_server(self):
         """A rectangle of an earlier server isn't undone on the next one of the same port."""
         viewed, _ = self.view()
@@ -92,6 +117,12 @@ class Tools(InBrowser):
     def drag(self, name, start, end):
         self.mode(name)
         self.to(*end, self.to(*start).click_and_hold()).release().perform()
+
+    def paint(self, cell, publish):
+        """Paints a cell, after which the button to publish says this."""
+        self.mode("paint")
+        self.to(*cell).click().perform()
+        self.until(lambda: self.button("publish").text == publish)
 
     def test_the_middle_button_moves_the_map(self):
         """In every mode, and it draws nothing and adds no point."""
@@ -135,6 +166,34 @@ class Tools(InBrowser):
             self.until(lambda: self.text("said").startswith(said))
             self.until(lambda: self.button("publish").text == left)
         self.assertFalse(undo.is_enabled())
+
+    def test_two_pages(self):
+        """One asks before it takes back what the other drew."""
+        self.open()
+        self.paint((4, 2), "Publish 1 change")
+        ours = self.driver.current_window_handle
+        self.driver.switch_to.new_window("window")
+        self.addCleanup(self.driver.switch_to.window, ours)
+        self.addCleanup(self.driver.close)
+        theirs = self.driver.current_window_handle
+        self.addCleanup(self.driver.switch_to.window, theirs)
+        self.driver.get(self.viewed.url)
+        self.until(lambda: self.text("version") == "version 0")
+        self.paint((5, 2), "Publish 2 changes")
+        self.driver.switch_to.window(ours)
+        self.until(lambda: self.button("publish").text == "Publish 2 changes")
+        self.driver.find_element(By.ID, "undo").click()
+        self.assertIn("was drawn on another page", self.asked().text)
+        self.asked().dismiss()
+        self.until(lambda: self.text("said") == "Nothing was changed.")
+        for page, before, left in (
+            (theirs, "Publish 2 changes", "Publish 1 change"),
+            (ours, "Publish 1 change", "Publish"),
+        ):
+            self.driver.switch_to.window(page)
+            self.until(lambda: self.button("publish").text == before)
+            self.driver.find_element(By.ID, "undo").click()
+            self.until(lambda: self.button("publish").text == left)
 
     def test_how_long_a_path_is(self):
         self.open()

@@ -1,5 +1,6 @@
 // What the page asks of its own server, and the commands that it sends.
 const token = document.querySelector("meta[name=token]").content;
+const page = crypto.randomUUID(); // so that what this page draws is told from what others do
 const SILENCE = 7000; // milliseconds, in which some heartbeats come
 const NO_ANSWER = "clearmap-view answered something else.";
 const UNREACHED = "clearmap-view can't be reached";
@@ -30,7 +31,7 @@ export const askAt = (metric, { x, y }) => answer(`at?${words({ metric, x, y })}
 export const askRoom = (metric, radius, unit) => answer(`room?${words({ metric, radius, unit })}`);
 export const askPath = (metric, cells, radius, unit) =>
   post("path", { metric, radius, unit, points: cells.map(({ x, y }) => [x, y]) });
-export const change = (command, rect, sure) => post("change", { command, rect, sure });
+export const change = (command, of, sure) => post("change", { page, command, ...of, sure });
 export const forgetLost = () => post("forget", {});
 
 /** Follows the state that the page is told, while the page is seen; `lost` is called where nothing

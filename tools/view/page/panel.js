@@ -46,6 +46,7 @@ function tellDraft({ drawn, lost, undo, said }, hasServer) {
   publish.textContent = count ? `Publish ${changes}` : "Publish";
   by("draft").textContent = said;
   by("undo").disabled = !undo || !hasServer;
+  by("undo").dataset.place = drawn.at(-1)?.place;
   by("forget-lost").hidden = by("forget-lost").disabled = lost.length === 0;
   by("gone").hidden = lost.length === 0;
 }

@@ -219,7 +219,7 @@ const press = new Press({
     page.dragged = rectangle;
     redraw("marks");
   },
-  drawn: ({ command, rect }) => give(command, rect),
+  drawn: ({ command, rect }) => give(command, { rect }),
 });
 const tell = {
   moved: seen,
