@@ -9,7 +9,8 @@ from aiohttp import web
 import clearmap
 from bodies import BadRequest, body_of, page_of, place_of, rectangle_of
 from draft import Draft
-from following import Following
+from following import Following, NothingShown
+from watched import PATIENCE, in_words
 from wording import counted
 
 Command = Callable[[clearmap.Client], str]
@@ -79,12 +80,17 @@ def undoing(following: Following, place: Optional[int]) -> Command:
     return undo
 
 
+class Late(BadRequest):
+    """A command whose reply hasn't come yet."""
+
+
 class Changing:
     """The handler of commands."""
 
     def __init__(self, following: Following) -> None:
         self.following = following
         self.token = "" if following.wanted.read_only else secrets.token_urlsafe(24)
+        self.late: "Optional[asyncio.Task[None]]" = None  # has the name of a late command
 
     def command(self, body: Dict[str, object]) -> Command:
         """The command that a request names."""
@@ -106,12 +112,45 @@ class Changing:
             raise BadRequest("A change wants the token of this run: load the page again.", 403)
 
     async def give(self, name: str, call: Command) -> str:
-        """Gives a command, and what it answers."""
+        """Gives a command, and what it answers. A reply that comes late is told to each page: what
+        was accepted is our own, however late that was."""
+        work = asyncio.create_task(self.replied(name, call))
+        done, _ = await asyncio.wait({work}, timeout=PATIENCE)
+        if done:
+            return work.result()
+        self.following.draft.tell_late(f"The server hasn't answered the {name} yet.")
+        self.late = asyncio.create_task(self.take_late(name, work), name=name)
+        raise Late(f"The server hasn't answered the {name} yet: it is waited for.", 504)
+
+    async def replied(self, name: str, call: Command) -> str:
+        """What a command answers, once it does."""
         try:
             return await asyncio.to_thread(self.following.watched.change, call)
         except clearmap.TimedOut:
             self.following.draft.unanswered(name)
             raise
+
+    async def take_late(self, name: str, work: "asyncio.Task[str]") -> None:
+        """Tells each page of a reply that was late."""
+        try:
+            said = f"The {name} was answered late: {await work}"
+        except clearmap.Refused as refusal:
+            said = f"The {name} was answered late: {in_words(refusal)}"
+        except clearmap.TimedOut:
+            said = ""  # the draft tells it
+        except clearmap.ClearmapError as fault:
+            said = f"Whether the {name} was accepted isn't known: {fault}."
+        except (BadRequest, NothingShown) as fault:
+            said = f"The {name} wasn't sent: {fault}"
+        self.following.draft.tell_late(said)
+        await self.following.tell(self.following.fault)
+
+    def check_late(self) -> None:
+        """Refuses a command before the reply of a late one."""
+        if self.late is not None and not self.late.done():
+            name = self.late.get_name()
+            raise BadRequest(f"The server hasn't answered the {name} yet: nothing was sent.", 409)
+        self.following.draft.tell_late("")
 
     async def look(self) -> None:
         """Takes a place of the log, which tells whether others gave commands since our last one,
@@ -119,7 +158,10 @@ class Changing:
         before. A collect changes no map."""
         draft = self.following.draft
         known = draft.replaced
-        await self.give("collect", commands(draft)["collect"])
+        try:
+            await self.give("collect", commands(draft)["collect"])
+        except Late:
+            raise BadRequest("The server hasn't answered yet: nothing was done.", 504) from None
         if draft.replaced != known:
             raise BadRequest("Another server runs now: nothing else was done there.", 409)
 
@@ -148,6 +190,7 @@ class Changing:
         body = await body_of(request)
         name, sure = str(body.get("command")), body.get("sure") is True
         call, page = self.command(body), page_of(body)
+        self.check_late()
         try:
             if name == "undo" or (name == "publish" and (sure or not self.following.draft.asks)):
                 await self.look()

@@ -41,6 +41,7 @@ class Draft:
         self._is_gone, self._has_ended = False, False  # the server of `lost`; the last one
         self._before = 0  # the last place before the connection was lost
         self._another, self._replaced = "", 0
+        self._late = ""  # what is told of a reply that came late, or hasn't come
         self._forget()
 
     def _forget(self) -> None:
@@ -128,6 +129,11 @@ class Draft:
         with self._lock:
             self._alone, self._unanswered = False, command
 
+    def tell_late(self, said: str) -> None:
+        """A reply came late, or hasn't come yet: this is told of it."""
+        with self._lock:
+            self._late = said
+
     def found(self, version: int, cells: int) -> None:
         """This many cells of a version that was published from here were changed by others."""
         with self._lock:
@@ -210,8 +216,7 @@ class Draft:
     def hidden(self) -> str:
         """What the draft may hold, and how many commands of others are known to have come."""
         with self._lock:
-            count = counted(self._others, "command")
-            return HIDDEN + (f": {count} of others came meanwhile" if self._others else "")
+            return HIDDEN + (f": {self._said_of_others()} came meanwhile" if self._others else "")
 
     def state(self) -> Dict[str, object]:
         """What each page is sent."""
@@ -234,9 +239,15 @@ class Draft:
         if self._unanswered:
             unknown = "whether it was accepted isn't known."
             words.append(f"The server didn't answer the {self._unanswered} in time: {unknown}")
+        if self._late:
+            words.append(self._late)
         if self._others:
-            words.append(f"{counted(self._others, 'command')} of others came meanwhile.")
+            words.append(f"{self._said_of_others()} came meanwhile.")
         return " ".join(words) + self._found + OTHERS
+
+    def _said_of_others(self) -> str:
+        ours = f", or the {self._unanswered} without an answer," if self._unanswered else ""
+        return f"{counted(self._others, 'command')} of others{ours}"
 
     def _said_of_lost(self) -> str:
         count = len(self._lost)

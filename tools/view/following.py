@@ -10,7 +10,7 @@ import picture
 import tables
 from draft import Draft
 from shown import Copy, Shown, clock
-from watched import AFTER_A_QUESTION, Watched
+from watched import AFTER_A_QUESTION, PATIENCE, Watched
 from yaml_map import YamlMap
 
 T = TypeVar("T")
@@ -137,9 +137,9 @@ class Following:
         """Moves to the newest version, and reports a lost server."""
         start = clock()
         try:
-            pinned = await asyncio.to_thread(self.watched.renew, self.draft.saw)
+            pinned = await self.answered(self.watched.renew, self.draft.saw)
             if pinned != self.pinned or not self.shown:
-                await self.take(await asyncio.to_thread(self.copied))
+                await self.take(await self.answered(self.copied))
                 self.pinned = pinned
             elif self.fault:
                 await self.tell("")
@@ -147,10 +147,23 @@ class Following:
         except clearmap.ClearmapError as fault:
             refused = isinstance(fault.__cause__, ConnectionRefusedError)
             why = "nobody listens there" if refused else fault
-            said = f"The server at port {self.wanted.port} can't be asked: {why}."
-            said += " It is tried again."
-            if said != self.fault:
-                await self.tell(said)
+            await self.tell_fault(f"{why}. It is tried again.")
+
+    async def tell_fault(self, why: str) -> None:
+        """Tells each page why the server can't be asked."""
+        said = f"The server at port {self.wanted.port} can't be asked: {why}"
+        if said != self.fault:
+            await self.tell(said)
+
+    async def answered(self, call: Callable[..., T], *words: object) -> T:
+        """What a call of another thread answers. If the server takes its time, pages are told."""
+        work = asyncio.create_task(asyncio.to_thread(call, *words))
+        work.add_done_callback(lambda it: it.cancelled() or it.exception())  # if nobody waits now
+        done, _ = await asyncio.wait({work}, timeout=PATIENCE)
+        if not done:
+            why = f"it hasn't answered for {PATIENCE:.0f} s, and is waited for"
+            await self.tell_fault(f"{why}. Are all its workers taken?")
+        return await work
 
     def copied(self) -> Copy:
         """The pinned version, and whether its edge is open or a wall, as cells with free neighbours
@@ -215,7 +228,7 @@ class Following:
         async with self.looking:  # so that no look leaves the connection meanwhile
             if not self.watched.is_pinned:
                 await self.renew()
-            return await asyncio.to_thread(self.watched.ask, question)
+            return await self.answered(self.watched.ask, question)
 
     async def picture_of(self, shown: Shown, metric: str) -> picture.Picture:
         """A version's picture by a metric, once it is made."""

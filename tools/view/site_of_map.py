@@ -70,7 +70,7 @@ class Site:
         task = asyncio.create_task(self.following.watch())
         yield
         task.cancel()
-        self.following.watched.rest()
+        self.following.watched.end()
 
     async def end(self, _: web.Application) -> None:
         """Lets go of the pages that wait for news."""

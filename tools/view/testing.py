@@ -112,9 +112,14 @@ class Viewing(unittest.TestCase):
         self.served = Served(POST)
         self.addCleanup(self.served.end)
 
+    @property
+    def port(self):
+        """The port that the page's server is given."""
+        return self.served.port
+
     def view(self, *words):
         """A page's server that has a version, and the first state that has it."""
-        viewed = Viewed(self.served.port, *words, library=self.library)
+        viewed = Viewed(self.port, *words, library=self.library)
         self.addCleanup(viewed.end)
         states = viewed.events()
         state = next(states)

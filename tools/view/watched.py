@@ -8,7 +8,9 @@ from typing import Callable, Iterator, Optional, Tuple, TypeVar
 import clearmap
 
 T = TypeVar("T")
-PATIENCE = 5.0  # seconds for a reply
+PATIENCE = 5.0  # seconds for a reply, after which pages are told that there is none
+TURN = 4.0  # seconds for the reply of the request before, less than that
+LATE = 60.0  # seconds for a reply, after which it isn't taken any more
 AFTER_A_QUESTION = 5.0  # seconds for which the connection stays
 AFTER_A_CHANGE = 60.0
 
@@ -30,8 +32,13 @@ def in_words(refusal: clearmap.Refused) -> str:
     return f"Refused: {why} (ERR {refusal.number} {refusal.name})."
 
 
+class Busy(clearmap.ClearmapError):
+    """An earlier request has no reply yet, so nothing was sent."""
+
+
 class Watched:
-    """The connection and its pin. Whatever fails drops both, and the next call connects again.
+    """The connection and its pin. Whatever fails drops both, and the next call connects again. A
+    call waits long for its reply, so that one which comes late is known; others don't wait for it.
 
     `lost` is called if the server may have ended, with whether nobody listens at its port.
     """
@@ -45,20 +52,26 @@ class Watched:
         self._pinned: Optional[clearmap.Pinned] = None
         self._connections = 0
         self._until = 0.0
+        self._is_over = False
 
     @contextlib.contextmanager
     def _connected(self) -> Iterator[clearmap.Client]:
-        with self._lock:
-            try:
-                if self._client is None:
-                    self._client = clearmap.Client(self._port, timeout=PATIENCE)
-                    self._connections += 1
-                yield self._client
-            except (clearmap.ConnectionLost, clearmap.WrongAnswer) as fault:
-                self._client = self._pinned = None
-                if not isinstance(fault, clearmap.TimedOut):
-                    self._lost(isinstance(fault.__cause__, ConnectionRefusedError))
-                raise
+        if not self._lock.acquire(timeout=TURN):
+            raise Busy("an earlier request has no reply yet, so nothing was sent")
+        try:
+            if self._is_over:
+                raise clearmap.ConnectionLost("clearmap-view ends")
+            if self._client is None:
+                self._client = clearmap.Client(self._port, timeout=LATE)
+                self._connections += 1
+            yield self._client
+        except (clearmap.ConnectionLost, clearmap.WrongAnswer) as fault:
+            self._client = self._pinned = None
+            if not isinstance(fault, clearmap.TimedOut):
+                self._lost(isinstance(fault.__cause__, ConnectionRefusedError))
+            raise
+        finally:
+            self._lock.release()
 
     # ---- how long the connection stays: these wait for no reply of the server
 
@@ -84,6 +97,13 @@ class Watched:
             if self._client is not None:
                 self._client.close()
             self._client = self._pinned = None
+
+    def end(self) -> None:
+        """Ends the connection for good, whatever waits for a reply on it or for its turn."""
+        self._is_over, client = True, self._client
+        if client is not None and self._lock.locked():
+            client.abort()
+        self.rest()
 
     # ---- what is asked
 
