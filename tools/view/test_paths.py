@@ -1,6 +1,6 @@
 #!/usr/bin/env python3
-"""Tests of the paths that clearmap-view asks about: which cells they have, and that a long one
-holds nothing up. CLEARMAP names the built program."""
+"""Tests of the paths that clearmap-view asks about: which cells they have, that a long one holds
+nothing up, and what is drawn of it. CLEARMAP names the built program."""
 import json
 import random
 import sys
@@ -9,7 +9,7 @@ import time
 import unittest
 from fractions import Fraction
 
-from testing import Viewing
+from testing import InBrowser, Viewing
 
 import clearmap_ros as ros
 import paths
@@ -70,6 +70,36 @@ class LongPaths(Viewing):
         self.assertEqual(status, 200)
         self.assertGreater(len(json.loads(said)["corners"]), 200_000)
         self.assertLess(max(took), HELD_UP)
+
+
+class Drawn(InBrowser):
+    def parts(self, cells, scale):
+        """The parts of a line that are seen in a window of 800 by 600 pixels at the map's corner,
+        with this many pixels per cell."""
+        return self.driver.execute_async_script(
+            """const [cells, scale, done] = arguments;
+            Promise.all([import("/lines.js"), import("/sight.js")]).then(([lines, { Sight }]) => {
+              const sight = Object.assign(new Sight(), { width: 800, height: 600, scale });
+              done(lines.partsSeen(cells, sight));
+            });""",
+            cells, scale,
+        )  # fmt: skip
+
+    def test_what_is_drawn(self):
+        """Of cells off the window nothing, and of many next to one pixel few."""
+        self.open()
+        stairs = [(k // 2 + k % 2, k // 2) for k in range(8001)]
+        [part] = self.parts(stairs, 0.125)
+        self.assertTrue(250 < len(part) < 510, len(part))  # a line of 500 by 500 pixels
+        self.assertEqual((part[0], part[-1]), ([0.0625, 0.0625], [500.0625, 500.0625]))
+        [part] = self.parts(stairs, 100)
+        self.assertEqual((part[:3], len(part)), ([[50, 50], [150, 50], [150, 150]], 13))
+        away = [[1, 1], [1, 9], [3, 9], [3, 1]]
+        there, back = self.parts(away, 100)
+        self.assertEqual(there, [[150, 150], [150, 950]])
+        self.assertEqual(back, [[350, 950], [350, 150]])
+        self.assertEqual(self.parts([[2, 2]], 100), [[[250, 250]]])
+        self.assertEqual(self.parts([[9, 9]], 100), [])
 
 
 if __name__ == "__main__":

@@ -1,5 +1,6 @@
 // What is drawn over the picture: rectangles of the draft, the path, and what is pointed at.
 import { NO_ROOM } from "./colours.js";
+import { edged, partsSeen } from "./lines.js";
 import { BELOW, LEFT } from "./rulers.js";
 
 const DARK = "#12151c";
@@ -12,21 +13,6 @@ const HIGH = 22; // pixels of a label
 const AIM = 6; // pixels from the middle of an aim to its frame, at least
 const WITHIN = { left: LEFT + 6, top: 56, right: 6, below: BELOW + 6 }; // where labels stand
 const NARROW = { width: 700, below: BELOW + 54 }; // a window that has tools below, too
-
-function line(context, points, colour, width) {
-  context.beginPath();
-  points.forEach(([x, y], k) => (k ? context.lineTo(x, y) : context.moveTo(x, y)));
-  if (points.length === 1) context.lineTo(points[0][0] + 0.01, points[0][1]); // a dot, by its ends
-  Object.assign(context, { strokeStyle: colour, lineWidth: width, lineJoin: "round" });
-  context.lineCap = "round";
-  context.stroke();
-}
-
-/** A line that is seen on every colour. */
-function edged(context, points, colour, edge, width) {
-  line(context, points, edge, width + 2.5);
-  line(context, points, colour, width);
-}
 
 function dot(context, [x, y], radius, colour, edge) {
   context.beginPath();
@@ -86,13 +72,14 @@ function rectangle(context, sight, { rect: [x0, y0, x1, y1], command }, isLost =
 
 /** A path: red just where the robot has no room. The box of its label is returned. */
 function drawPath(context, sight, middle, path, uncounted) {
-  if (path.corners) edged(context, path.corners.map(middle), LIGHT, DARK, 2.5);
+  edged(context, partsSeen(path.corners ?? [], sight), LIGHT, DARK, 2.5);
   const without = path.tight ?? (path.clear === false ? [path.corners] : []);
-  for (const cells of without) edged(context, cells.map(middle), NO_ROOM, LIGHT, 5);
+  const parts = without.flatMap((cells) => partsSeen(cells, sight));
+  edged(context, parts, NO_ROOM, LIGHT, 5);
   for (const cell of path.points) dot(context, middle([cell.x, cell.y]), 4.5, LIGHT, DARK);
   if (!path.tightest) return null;
   const [cell, obstacle] = [middle(path.tightest), middle(path.obstacle)];
-  edged(context, [cell, obstacle], DARK, LIGHT, 2);
+  edged(context, [[cell, obstacle]], DARK, LIGHT, 2);
   const colour = path.clear === false ? NO_ROOM : DARK;
   dot(context, cell, 5.5, colour, LIGHT);
   const inRed = path.clear === false ? { colour: NO_ROOM } : {};
@@ -103,13 +90,13 @@ function drawPath(context, sight, middle, path, uncounted) {
 function drawAim(context, [x, y], half) {
   const [left, top, right, below] = [x - half, y - half, x + half, y + half];
   const corners = [[left, top], [right, top], [right, below], [left, below], [left, top]];
-  edged(context, corners, LIGHT, DARK, 2);
+  edged(context, [corners], LIGHT, DARK, 2);
 }
 
 function drawPointed(context, sight, middle, { cell, obstacle, length }, uncounted, other) {
   if (!obstacle) return;
   const ends = [middle([cell.x, cell.y]), middle(obstacle)];
-  edged(context, ends, DARK, LIGHT, 2);
+  edged(context, [ends], DARK, LIGHT, 2);
   dot(context, ends[1], 4.5, "#ffc233", DARK);
   label(context, sight, ends[0], length + uncounted, { other });
 }
