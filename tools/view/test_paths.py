@@ -85,6 +85,17 @@ class Drawn(InBrowser):
             cells, scale,
         )  # fmt: skip
 
+    def test_a_path_that_takes_its_time(self):
+        """Until there is an answer, the page says that it is asked about."""
+        self.open(blank(SIDE, SIDE))
+        chance = random.Random(48)
+        way = ";".join(f"{chance.randrange(SIDE)},{chance.randrange(SIDE)}" for _ in range(200))
+        self.driver.get("about:blank")
+        self.driver.get(f"{self.viewed.url}#path={way}")
+        self.until(lambda: self.text("path") == "The path is being asked about ..")
+        self.until(lambda: self.text("path") == "the map has no obstacle")
+        self.assertTrue(self.text("long").startswith("200 points, "))
+
     def test_what_is_drawn(self):
         """Of cells off the window nothing, and of many next to one pixel few."""
         self.open()

@@ -2,6 +2,9 @@
 import { askAt, askPath } from "./ask.js";
 import { tellPath, tellPointed } from "./panel.js";
 
+const SOON = 300; // milliseconds for an answer before which the one before stays
+const ASKED = "The path is being asked about ..";
+
 /** The questions of a page. An answer to a question that isn't the last one is dropped. */
 export class Questions {
   constructor(page, redraw) {
@@ -65,7 +68,10 @@ export class Questions {
     this.redraw();
     if (this.walking) return;
     this.walking = true;
+    const ask = () => tellPath({ ...this.page.path, said: ASKED }, "", false);
+    const waiting = setTimeout(ask, SOON);
     while (this.stale) await this.walk();
+    clearTimeout(waiting);
     this.walking = false;
     this.tellWay();
     this.redraw();
