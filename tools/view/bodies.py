@@ -1,5 +1,4 @@
 """Reads what requests of the page carry, and refuses what can't be answered."""
-import json
 from typing import Dict, List, Optional, Sequence, Tuple
 
 from aiohttp import web
@@ -23,7 +22,7 @@ async def body_of(request: web.Request) -> Dict[str, object]:
     """The request's JSON object."""
     try:
         body = await request.json()
-    except (json.JSONDecodeError, UnicodeDecodeError):
+    except (ValueError, RecursionError):  # no JSON, or with numbers or lists that have no end
         body = None
     if not isinstance(body, dict):
         raise BadRequest("the request is no JSON object")

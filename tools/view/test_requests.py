@@ -121,6 +121,8 @@ class Requests(Viewing):
             ("GET", "/piece/99/city/0/0/0", None, 404, "no such picture"),
             ("POST", "/path", "[]", 400, "no JSON object"),
             ("POST", "/path", "\xff", 400, "no JSON object"),
+            ("POST", "/path", "7" * 5000, 400, "no JSON object"),
+            ("POST", "/path", "[" * 100_000, 400, "no JSON object"),
             ("POST", "/path", path % ("[]", ""), 400, "1 to 200 points"),
             ("POST", "/path", path % ("[[0, 0.5]]", ""), 400, "two whole numbers"),
             ("POST", "/path", path % ("[[0, true]]", ""), 400, "two whole numbers"),
@@ -133,7 +135,7 @@ class Requests(Viewing):
             ("POST", "/path", path % ("[[0, 0]]", "nan"), 400, "a radius is a number"),
         )
         for method, place, body, status, text in rows:
-            with self.subTest(place=place, body=body):
+            with self.subTest(place=place, body=body and body[:80]):
                 got, said = viewed.ask(method, place, body)
                 self.assertEqual(got, status)
                 self.assertIn(text, json.loads(said)["fault"])
