@@ -18,6 +18,7 @@ UNDO = (
     "undo makes the last rectangle's cells what they were in the newest version with the earlier"
     " rectangles from here"
 )
+LEAVING = ("collect", "checkpoint")  # commands that leave the draft and the versions' maps
 FOREIGN = "The last rectangle was drawn on another page, or before this one was loaded"
 
 
@@ -123,11 +124,13 @@ class Changing:
         raise Late(f"The server hasn't answered the {name} yet: it is waited for.", 504)
 
     async def replied(self, name: str, call: Command) -> str:
-        """What a command answers, once it does."""
+        """What a command answers, once it does. Its reply may be lost with the connection, too."""
         try:
             return await asyncio.to_thread(self.following.watched.change, call)
-        except clearmap.TimedOut:
-            self.following.draft.unanswered(name)
+        except clearmap.ConnectionLost as fault:
+            refused = isinstance(fault.__cause__, ConnectionRefusedError)
+            if name not in LEAVING and not refused:
+                self.following.draft.unanswered(name)
             raise
 
     async def take_late(self, name: str, work: "asyncio.Task[str]") -> None:
@@ -136,10 +139,8 @@ class Changing:
             said = f"The {name} was answered late: {await work}"
         except clearmap.Refused as refusal:
             said = f"The {name} was answered late: {in_words(refusal)}"
-        except clearmap.TimedOut:
+        except clearmap.ClearmapError:
             said = ""  # the draft tells it
-        except clearmap.ClearmapError as fault:
-            said = f"Whether the {name} was accepted isn't known: {fault}."
         except (BadRequest, NothingShown) as fault:
             said = f"The {name} wasn't sent: {fault}"
         self.following.draft.tell_late(said)

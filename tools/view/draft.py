@@ -125,7 +125,7 @@ class Draft:
         return between
 
     def unanswered(self, command: str) -> None:
-        """A command had no reply in time: whether it was accepted isn't known."""
+        """A command's reply was lost, or too late: whether it was accepted isn't known."""
         with self._lock:
             self._alone, self._unanswered = False, command
 
@@ -238,7 +238,7 @@ class Draft:
             words.append("Nothing changed from here.")
         if self._unanswered:
             unknown = "whether it was accepted isn't known."
-            words.append(f"The server didn't answer the {self._unanswered} in time: {unknown}")
+            words.append(f"The server didn't answer the {self._unanswered}: {unknown}")
         if self._late:
             words.append(self._late)
         if self._others:

@@ -1,6 +1,7 @@
 #!/usr/bin/env python3
 """Tests of replies that come later than clearmap-view's page waits for them, or don't come.
 CLEARMAP names the built program."""
+import contextlib
 import json
 import signal
 import socket
@@ -19,10 +20,11 @@ PAINTED = b"P1\n6 4\n000000\n001000\n000110\n000000\n"
 
 class Holding:
     """A port in front of a server's. Replies are held back from the command on that starts with the
-    word `held`, until `go_on`."""
+    word `held`, until `go_on`; with `cuts` its reply ends the connection."""
 
     def __init__(self, port):
         self.server, self.held, self.passes = port, None, threading.Event()
+        self.cuts = False
         self.passes.set()
         self.listener = socket.create_server(("127.0.0.1", 0))
         self.port = self.listener.getsockname()[1]
@@ -30,12 +32,10 @@ class Holding:
 
     def accept(self):
         """Takes connections until the listener is closed."""
-        try:
+        with contextlib.suppress(OSError):
             while True:
                 near = self.listener.accept()[0]
                 threading.Thread(target=self.serve, args=(near,), daemon=True).start()
-        except OSError:
-            pass
 
     def serve(self, near):
         """Passes on what a connection carries, both ways."""
@@ -48,23 +48,24 @@ class Holding:
 
     def pass_on(self, look, source, target):
         """Passes on what comes, once it was looked at, and then the end."""
-        try:
+        with contextlib.suppress(OSError):
             while data := source.recv(65536):
                 look(data)
                 target.sendall(data)
+        with contextlib.suppress(OSError):
             target.shutdown(socket.SHUT_WR)
-        except OSError:
-            pass
 
     def asked(self, data):
         if self.held and data.startswith(self.held):
             self.passes.clear()
 
     def answered(self, _):
+        if self.cuts and not self.passes.is_set():
+            raise ConnectionError("cut")
         self.passes.wait()
 
     def go_on(self):
-        self.held = None
+        self.held, self.cuts = None, False
         self.passes.set()
 
 
@@ -150,6 +151,20 @@ class Late(Viewing):
         state = next(it for it in self.states if not it["fault"])
         self.assertEqual([it["command"] for it in state["draft"]["drawn"]], ["paint"])
         self.assertIn("place 2 of the log", self.give(viewed, "paint", rect=[0, 0, 1, 1])[1])
+
+    def test_a_reply_that_is_lost(self):
+        """A gateway may end the connection: the draft may have what was painted."""
+        viewed, _ = self.view()
+        self.before.held, self.before.cuts = b"PAINT", True
+        status, said = self.give(viewed, "paint", rect=[3, 2, 5, 3])
+        self.assertEqual(status, 503, said)
+        said = "The server didn't answer the paint: whether it was accepted isn't known."
+        self.assertIn(said, next(viewed.events())["draft"]["said"])
+        self.before.go_on()
+        self.assertEqual(self.give(viewed, "publish", sure=True), (200, "Published as version 1."))
+        self.assertNotIn(said, next(viewed.events())["draft"]["said"])
+        with clearmap.Client(self.served.port) as other, other.pin() as pinned:
+            self.assertEqual(pinned.dump(), PAINTED)
 
     def test_the_end_while_a_reply_is_late(self):
         """clearmap-view doesn't wait for it."""

@@ -99,7 +99,7 @@ class Places(unittest.TestCase):
         draft.unanswered("publish")
         self.assertTrue(draft.asks)
         state = draft.state()
-        self.assertIn("didn't answer the publish in time: whether it was accepted", state["said"])
+        self.assertIn("didn't answer the publish: whether it was accepted isn't", state["said"])
         self.assertEqual((len(state["drawn"]), state["lost"]), (1, []))
 
 
