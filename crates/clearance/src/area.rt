@@ -62,6 +62,7 @@ fn first_row<M: Metric, R: Rows>(rows: &mut R, edge: Edge, rect: Rect, limit: u6
         first: 0,
         limit,
     };
+    // If no line before the last is near, the last is, whose number this end is.
     top + lines.first_near::<M, R>(rows, edge, bottom - top)
 }
 
@@ -88,8 +89,7 @@ fn first_column<M: Metric, R: Rows>(rows: &mut R, edge: Edge, rect: Rect, y: u16
     left + lines.first_near::<M, R>(rows, edge, right - left)
 }
 
-/// The cell, which has an obstacle below the limit, with its nearest; `None` where there is no
-/// obstacle.
+/// The cell, which has an obstacle below the limit, with its nearest.
 pub fn with_nearest<M: Metric, R: Rows>(
     rows: &mut R,
     edge: Edge,

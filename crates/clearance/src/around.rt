@@ -22,8 +22,8 @@ use metric::{BAND_ROWS, Metric, Rect, WORD_CELLS};
 
 /// Meets all obstacles that matter: band by band and tile by tile from the rectangle outwards.
 ///
-/// It begins with what is likely to be near, so that few others matter: the rectangle's first row,
-/// or, if the start's tile has no obstacle, the nearest tile.
+/// It begins with what is likely to be near, so that few others matter: the start's row, as far as
+/// the rectangle's last tile, or, if the start's tile has no obstacle, the nearest tile.
 pub fn search<M: Metric, R: Rows, S: Seeker<M>>(rows: &mut R, seeker: &mut S)
     requires { IsRectIn (R.cells rows.old) (S.aim.from seeker.old) }
     ensures onward { IsOnward S.aim (R.cells rows.old) seeker.old seeker.new }
@@ -33,6 +33,7 @@ pub fn search<M: Metric, R: Rows, S: Seeker<M>>(rows: &mut R, seeker: &mut S)
     let start = seeker.start();
     let own = start.y / BAND_ROWS;
     let bands = Bands::of(rows.bands(), own);
+    // The start's own band is left if it is marked.
     if bands.below == own && has_bit(rows.tiles(own), start.x / WORD_CELLS) {
         search_row::<M, R, S>(rows, seeker);
         search_others::<M, R, S>(rows, bands, None, seeker);
@@ -46,7 +47,7 @@ pub fn search<M: Metric, R: Rows, S: Seeker<M>>(rows: &mut R, seeker: &mut S)
     search_others::<M, R, S>(rows, bands, Some(first), seeker);
 }
 
-/// Meets the obstacles of the start's row in the rectangle's columns, if it is wider than a tile.
+/// Meets the obstacles of the start's row from its tile to the rectangle's last, if not the same.
 fn search_row<M: Metric, R: Rows, S: Seeker<M>>(rows: &mut R, seeker: &mut S)
     requires { IsRectIn (R.cells rows.old) (S.aim.from seeker.old) }
     ensures onward { IsOnward S.aim (R.cells rows.old) seeker.old seeker.new }
@@ -69,7 +70,7 @@ fn search_row<M: Metric, R: Rows, S: Seeker<M>>(rows: &mut R, seeker: &mut S)
     }
 }
 
-/// Meets all obstacles of these bands that matter, but those of a tile that was met before.
+/// Meets all obstacles of these bands that matter, except those of a tile that was met before.
 fn search_others<M: Metric, R: Rows, S: Seeker<M>>(
     rows: &mut R,
     bands: Bands,
@@ -114,7 +115,7 @@ fn tiles_but(tiles: u64, band: u16, but: Option<Place>) -> u64
     }
 }
 
-/// Meets the obstacles of a tile that matter, row by row from the rectangle outwards. But in the
+/// Meets the obstacles of a tile that matter, row by row from the rectangle outwards. Except in the
 /// start's own tile, the columns of all rows that may matter are looked at first.
 fn search_tile<M: Metric, R: Rows, S: Seeker<M>>(rows: &mut R, band: u16, tile: u16, seeker: &mut S)
     requires rect { IsRectIn (R.cells rows.old) (S.aim.from seeker.old) }
@@ -155,7 +156,8 @@ fn is_tile_far<M: Metric, S: Seeker<M>>(seeker: &S, band: u16, tile: u16, x: u16
     seeker.is_far(M::of(columns, gap), x, gap)
 }
 
-/// Meets the obstacles of a band that matter in the start's tile and to the right of it.
+/// Meets the obstacles of a band that matter in the start's tile and to the right of it. Columns
+/// further right lose where distances are equal: a tie may end it.
 fn search_right<M: Metric, R: Rows, S: Seeker<M>>(
     rows: &mut R,
     band: u16,
@@ -181,7 +183,8 @@ fn search_right<M: Metric, R: Rows, S: Seeker<M>>(
     }
 }
 
-/// Meets those to the left of the start's tile.
+/// Meets those to the left of the start's tile. Tiles further left have lesser columns, which win
+/// where distances are equal: only a greater distance ends it.
 fn search_left<M: Metric, R: Rows, S: Seeker<M>>(
     rows: &mut R,
     band: u16,

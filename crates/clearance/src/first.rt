@@ -23,8 +23,8 @@ struct First {
     ghost one_cell: { IsOneCell rect limit best },
 }
 
-/// Whether what is found comes before obstacles equally near in columns from `x` on, and no fewer
-/// rows away. Those in more rows do if none left of it is as near.
+/// Whether what is found comes before obstacles equally near in columns from `x` on, at least `gap`
+/// rows away: it is left of them, or in fewer rows where those left of it are too far.
 #[inline(always)]
 fn comes_first<M: Metric>(best: Option<Found>, rect: Rect, limit: u64, x: u16, gap: u16) -> bool
     requires { gap ≤ LAST_FRAMED }
@@ -39,6 +39,7 @@ fn comes_first<M: Metric>(best: Option<Found>, rect: Rect, limit: u64, x: u16, g
     if gap <= row_apart(rect, best.cell.y) {
         return false;
     }
+    // How many columns away those left of it are at least.
     let left = (rect.x0 + 1).saturating_sub(best.cell.x);
     best.cell.x == x || u64::from(M::of(left, gap)) >= limit
 }

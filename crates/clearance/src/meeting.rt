@@ -17,7 +17,8 @@ impl Part {
     ghost use Rattle.clearance.specs.Spots.{IsInWord};
 
     /// Meets the obstacles that matter, row by row from the rectangle outwards: those of the
-    /// rectangle's rows from the start's row on, and then above and below it in turns.
+    /// rectangle's rows from the start's row down, then from it up, then above and below the
+    /// rectangle in turns, and last those of the longer side.
     #[inline(always)]
     pub fn meet<M: Metric, R: Rows, S: Seeker<M>>(
         self,
@@ -155,7 +156,7 @@ impl Part {
         true
     }
 
-    /// Meets the obstacles of a row that matter, but in columns that are too far. Returns whether
+    /// Meets the obstacles of a row that matter, except those in far columns. Returns whether
     /// those of rows farther away may matter.
     #[inline(always)]
     fn see<M: Metric, R: Rows, S: Seeker<M>>(

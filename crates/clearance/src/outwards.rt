@@ -4,8 +4,8 @@ use crate::bit::{after_last_bit, next_bit};
 use crate::gaps::rows_apart;
 use metric::{LAST_FRAMED, Rect, WORD_CELLS};
 
-/// Which bands are marked, and those of them that are left: before the first of two, and from the
-/// second on.
+/// Which bands are marked, and those of them that are left: the ones before `above`, and from
+/// `below` on.
 #[derive(Clone, Copy)]
 pub struct Bands {
     pub marked: u64,
@@ -26,7 +26,7 @@ impl Bands {
     ghost use Rattle.std.specs.Int.{bit_at};
     ghost use Rattle.clearance.specs.Seekers.{AreAsFarBands, IsLeft, IsNextBand};
 
-    /// All marked bands, from this one on.
+    /// All marked bands, from this one outwards.
     #[inline(always)]
     pub fn of(marked: u64, own: u16) -> Bands
         requires { own < 64 }

@@ -34,7 +34,8 @@ pub trait Seeker<M: Metric> {
         ensures { result ≡ true → (a b : ℕ) → IsBeyond M.distance (aim.from self.now) dist x gap
             a b → aim.settles self.now a b };
 
-    /// Meets the obstacles of a word of row `y`, which lies `gap` rows outside.
+    /// Meets the obstacles of a word of row `y`, which lies `gap` rows outside the rectangle, or
+    /// outside one that it was before.
     fn meet(&mut self, word: u64, tile: u16, y: u16, gap: u16)
         requires tile { tile < 64 }
         requires row { y < 4096 }
