@@ -24,7 +24,7 @@ pub enum PartStop {
     Memory,
 }
 
-/// An allocation that was refused.
+/// An allocation that was refused, of a value that the caller still has.
 impl From<AllocFailed<u8>> for PartStop {
     ghost use Rattle.streams.specs.declared.gather.PartStop.TheVariants.{Memory};
 
@@ -35,7 +35,7 @@ impl From<AllocFailed<u8>> for PartStop {
     }
 }
 
-/// An allocation that was refused, of a value that the caller still has.
+/// An allocation that was refused.
 impl From<AllocError> for PartStop {
     ghost use Rattle.streams.specs.declared.gather.PartStop.TheVariants.{Memory};
 
