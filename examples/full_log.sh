@@ -8,7 +8,7 @@ head -c 4096 /dev/zero | tr '\0' 0 >> "$scratch/blank.pbm"
 start_server "$scratch/blank.pbm" --connections 2 --blocks 2 --versions 2 --log 2
 
 ask() {
-    printf '%s\n' "$@" QUIT | clearmap ask --port "$port" | sed '$d' | paste -d: <(printf '%s\n' "$@") - | sed 's/:/: /'
+    printf '%s\n' "$@" QUIT | clearmap ask --port "$port" 2> /dev/null | sed '$d' | paste -d: <(printf '%s\n' "$@") - | sed 's/:/: /'
 }
 ask 'PAINT 0 0 1 1' 'PUBLISH' 'COLLECT' 'CHECKPOINT' 'COLLECT' 'PAINT 1 0 2 1' 'PUBLISH' 'CHECKPOINT' 'PUBLISH'
 
