@@ -7,6 +7,7 @@ pub trait Hearer {
 }
 
 /// Hears nothing.
+#[derive(Drop)]
 pub struct Deaf;
 
 impl Hearer for Deaf {

@@ -107,6 +107,7 @@ fn lines_are_asked(rt: HostRuntime) {
 }
 
 /// Keeps what it hears, each request before its reply.
+#[derive(Drop)]
 struct Kept<'a> {
     bytes: &'a mut Vec<u8>,
 }

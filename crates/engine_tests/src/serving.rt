@@ -198,7 +198,7 @@ fn no_server_is_told(rt: HostRuntime) -> Result<(), Fail> {
     drop(listener);
     let mut reader = MemorySource::new(b"PIN\n");
     let mut writer = MemorySink::new(alloc);
-    let status = ask(&rt, alloc, port, &mut reader, &mut writer);
+    let status = ask(&rt, alloc, port, &mut reader, &mut writer, &mut Deaf);
     same(&rt, status, 1, "status");
     same(&rt, writer.bytes(), b"FAULT net\n".as_slice(), "bytes");
     Ok(())
