@@ -10,7 +10,7 @@ import numpy as np
 import clearmap
 from footprint_model import CELL, axes_of, corners_at, draw_case, nearest
 
-FINE = 1 << 40  # parts of a cell, so many that rounding to them is none
+FINE = 1 << 40  # parts of a cell, too many for rounding to show
 FEW = 60  # obstacles of a map that the model goes through
 
 

@@ -1,4 +1,4 @@
-//! What hears of a run of `ask`, beside the writer of its replies.
+//! What hears of a run of `ask`, besides the writer of its replies.
 
 /// What hears of the exchanges of a run. No clause speaks of what it does with them.
 pub trait Hearer {

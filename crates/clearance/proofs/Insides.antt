@@ -66,13 +66,13 @@ own_black cells Wall x y inside obstacle = elim obstacle [
   | inr frame ↦ absurd (frame.outside x y inside refl refl)
 ]
 
--- and the other way round
+-- an obstacle of the map is one of its spots
 black_blocked : (cells : Cells) (edge : Edge) (x y : ℕ) → IsObstacle cells x y
     → IsBlocked cells edge (pos x) (pos y)
 black_blocked cells Open x y obstacle = obstacle
 black_blocked cells Wall x y obstacle = inl obstacle
 
--- a cell with an obstacle nearer than those beside it is an obstacle
+-- a cell with an obstacle nearer than those next to it is an obstacle
 own_of_near : (distance : ℕ → ℕ → ℕ) → Grows distance → StaysNearer distance
     → (cells : Cells) (edge : Edge) (limit x y : ℕ) → IsBitmap cells → IsInside cells x y
     → limit ≤ distance 1 0 → limit ≤ distance 0 1
@@ -172,7 +172,7 @@ IsFirstRow-own distance grows stays cells edge rect limit first within beside be
       below cell (is.above a b cell less);
 }
 
--- and in the first column of that row
+-- the first obstacle is in the first column of the first row
 pub IsFirstColumn-own : (distance : ℕ → ℕ → ℕ) → Grows distance → StaysNearer distance
     → (cells : Cells) (edge : Edge) (rect : Rect) (limit : ℕ) (first : Cell) → IsRectIn cells rect
     → limit ≤ distance 1 0 → limit ≤ distance 0 1

@@ -214,7 +214,7 @@ AreLinesFar-same distance lines same end line a b lines_is end_is far =
     subst (λ (l : Lines). AreLinesFar distance l line a b) (sym lines_is)
     (subst (λ (n : ℕ). AreLinesFar distance lines n a b) (sym end_is) far)
 
--- the same of what is kept
+-- what is kept of lines is kept of the same ones
 pub IsLineKept-same : (distance : ℕ → ℕ → ℕ) (cells : Cells) (whole : Lines) (last : ℕ)
     (lines same : Lines) (end line : ℕ) → same ≡ lines → line ≡ end
     → IsLineKept distance cells whole last lines end

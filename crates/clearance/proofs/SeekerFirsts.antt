@@ -17,7 +17,7 @@ use Rattle.clearance.specs.declared.found.Found.{Found}
 use Rattle.std.proofs.lemmas.Grind.{common_steps}
 use Rattle.std.proofs.lemmas.Bool.Decides.{nat_tests}
 
--- once all obstacles are behind it, what is kept is the first
+-- once all obstacles come after it, what is kept is the first
 pub IsSpotBelow-kept : (distance : ℕ → ℕ → ℕ) (cells : Cells) (rect : Rect) (limit : ℕ)
     (last : Rect) (lower : ℕ) (best : Option Found)
     → IsFirstKept distance cells rect limit last lower best

@@ -57,7 +57,7 @@ row_gap-part whole part b within =
     let bottom = within.bottom in
     omega arith
 
--- a seeker that went on twice went on
+-- a seeker is onward of one that it is onward of by two steps
 pub IsOnward-twice : {S : Type 0} (aim : Aim S) (cells : Cells) (first middle last : S)
     → IsOnward aim cells first middle → IsOnward aim cells middle last
     → IsOnward aim cells first last
@@ -138,7 +138,7 @@ apart_right rect tile columns x a apart inside from right =
       | inr own ↦ apart a (omega arith)
     ]
 
--- the same for those to the left of it, and a column right of the tile
+-- columns to the left of a tile lie as far outside a rectangle that has a column right of it
 pub apart_left : (rect : Rect) (tile columns x a : ℕ)
     → ((i : ℕ) → i / 64 ≡ tile → columns ≤ column_gap rect i)
     → x < rect.x1 → tile < x / 64 → a / 64 ≤ tile → columns ≤ column_gap rect a

@@ -81,7 +81,7 @@ word_far distance stays rect tile y word columns gap limit few row apart gap_is 
     (omega arith) in
     record { not_below = rw (sym gap_there) (omega arith); is_limit = small }
 
--- the least so far, lowered by the distance of a word's nearest obstacle
+-- the least so far is lowered by the distance of a word's nearest obstacle
 pub IsLeastKept-word : (distance : ℕ → ℕ → ℕ) (cells : Cells) (whole : Rect) (limit : ℕ)
     (rect : Rect) (least tile y word columns gap lower : ℕ) → AreObstacles cells tile y word
     → IsColumnOf rect tile word columns → gap ≡ row_gap rect y

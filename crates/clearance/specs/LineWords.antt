@@ -40,7 +40,7 @@ AreLinesFar distance lines end a b =
     (k x y : ℕ) → lines.first ≤ k → k < end → IsOnLine lines.strip k x y
     → lines.limit ≤ distance_between distance x y a b
 
--- the first line so far, of a search that began with some lines and an end
+-- the first line so far, of a search of some lines before an end
 pub record IsLineKept (distance : ℕ → ℕ → ℕ) (cells : Cells) (whole : Lines) (last : ℕ)
     (lines : Lines) (end : ℕ) : Type 0 where
   pub lines_is : lines ≡ whole

@@ -42,7 +42,7 @@ AreObstacles cells tile y word =
 
 -- what a seeker is after: the rectangle from which it looks (all that is left of what it was), those
 -- from which it may count how many rows others lie outside, the cell at which it begins, which
--- obstacles change nothing of what it keeps, and that this, after a search that began with the first
+-- obstacles change nothing of what it keeps, and that this, after a search that started as the first
 -- seeker, comes from obstacles of the map
 pub record Aim (S : Type 0) : Type 1 where
   pub from : S → Rect
@@ -111,7 +111,7 @@ pub record IsSameRows (one other : Part) : Type 0 where
   pub first : other.first ≡ one.first
   pub end : other.end ≡ one.end
 
--- obstacles in these columns of a tile, where they are at least so many rows outside a rectangle,
+-- obstacles in these columns of a tile, where they are at least that many rows outside a rectangle,
 -- are settled
 abbrev pub AreFarColumns : ℕ → ℕ → Rect → ℕ → (ℕ → ℕ → Type 0) → Type 0
 AreFarColumns tile far rect gap Settled =
@@ -123,7 +123,7 @@ abbrev pub IsPlace : Option Place → ℕ → ℕ → Type 0
 IsPlace None band tile = ⊥
 IsPlace (Some place) band tile = (place.band ≡ band) × (place.tile ≡ tile)
 
--- a tile of a band is one of a map of so many tiles across
+-- a tile of a band is one of a map of that many tiles across
 abbrev pub IsPlaceIn : ℕ → Place → Type 0
 IsPlaceIn across place = (place.band < 64) × (place.tile < across)
 
@@ -165,12 +165,12 @@ pub record IsNextBand (left : Bands) (band : ℕ) (next : Bands) : Type 0 where
   pub all : (k : ℕ) → k < 64 → bit_at left.marked k ≡ 1 → IsLeft left.above left.below k
       → (k ≡ band) ⊎ IsLeft next.above next.below k
 
--- the bands that are left lie at least so many rows outside a rectangle
+-- the bands that are left lie at least that many rows outside a rectangle
 pub record AreAsFarBands (left : Bands) (rect : Rect) (gap : ℕ) : Type 0 where
   pub few : gap ≤ 4096
   pub apart : (b : ℕ) → b < 4096 → IsLeft left.above left.below (b / 64) → gap ≤ row_gap rect b
 
--- the least distance so far, of a search from a rectangle that began with a limit
+-- the least distance so far, of a search from a rectangle below a limit
 pub record IsLeastKept (distance : ℕ → ℕ → ℕ) (cells : Cells) (whole : Rect) (limit : ℕ)
     (rect : Rect) (least : ℕ) : Type 0 where
   pub rect_is : rect ≡ whole
@@ -197,7 +197,7 @@ IsBehind distance rect limit None a b = IsFar (rect_distance distance rect a b) 
 IsBehind distance rect limit (Some found) a b =
     IsAtMost (key_found rect.y0 found) (key_from distance rect a b)
 
--- the first obstacle so far, of a search from a rectangle that began with a limit
+-- the first obstacle so far, of a search from a rectangle below a limit
 pub record IsFirstKept (distance : ℕ → ℕ → ℕ) (cells : Cells) (whole : Rect) (limit : ℕ)
     (rect : Rect) (lower : ℕ) (best : Option Found) : Type 0 where
   pub rect_is : rect ≡ whole

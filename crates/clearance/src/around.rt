@@ -22,7 +22,7 @@ use metric::{BAND_ROWS, Metric, Rect, WORD_CELLS};
 
 /// Meets all obstacles that matter: band by band and tile by tile from the rectangle outwards.
 ///
-/// It begins with what is likely to be near, so that few others matter: the start's row, as far as
+/// It starts with what is likely to be near, so that few others matter: the start's row, as far as
 /// the rectangle's last tile, or, if the start's tile has no obstacle, the nearest tile.
 pub fn search<M: Metric, R: Rows, S: Seeker<M>>(rows: &mut R, seeker: &mut S)
     requires { IsRectIn (R.cells rows.old) (S.aim.from seeker.old) }

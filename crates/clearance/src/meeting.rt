@@ -124,7 +124,7 @@ impl Part {
         true
     }
 
-    /// Meets those of up to so many rows above and below the rectangle, in turns. Returns whether
+    /// Meets those of up to that many rows above and below the rectangle, in turns. Returns whether
     /// rows farther away may matter.
     #[inline(always)]
     fn see_pairs<M: Metric, R: Rows, S: Seeker<M>>(
