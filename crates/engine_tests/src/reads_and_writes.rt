@@ -255,48 +255,6 @@ fn a_failed_read_loses_nothing(rt: HostRuntime) -> Result<(), Fail> {
     Ok(())
 }
 
-/// A writer that takes at most three bytes a call, and counts those that are the next in turn, from
-/// 0 to 250.
-#[derive(Drop)]
-struct Slow<'a> {
-    passed: &'a Cell<usize>,
-}
-
-impl io::Write for Slow<'_> {
-    fn write(&mut self, bytes: &[u8]) -> io::Result<usize> {
-        let taken = bytes.len().min(3);
-        for byte in bytes.iter().take(taken) {
-            if usize::from(*byte) == self.passed.get() % 251 {
-                self.passed.set(self.passed.get().saturating_add(1));
-            }
-        }
-        Ok(taken)
-    }
-
-    fn flush(&mut self) -> io::Result<()> {
-        Ok(())
-    }
-}
-
-#[test]
-fn a_writer_that_takes_little_gets_all(rt: HostRuntime) -> Result<(), Fail> {
-    const COUNT: usize = 20_000;
-    let mut bytes = Vec::new(rt.alloc());
-    for place in 0..COUNT {
-        bytes.push((place % 251) as u8)?;
-    }
-    let passed = Cell::new(0);
-    let mut sink = WriterSink::new(rt.alloc(), Slow { passed: &passed })?;
-    for text in [&bytes[..COUNT - 5], &bytes[COUNT - 5..]] {
-        assert!(rt; sink.failed_writes() == 0);
-        assert!(rt; sink.write_all(text).is_ok());
-    }
-    assert!(rt; sink.failed_writes() == 0);
-    assert!(rt; sink.flush().is_ok());
-    same(&rt, passed.get(), COUNT, "get");
-    Ok(())
-}
-
 #[test]
 fn a_flush_passes_all_on(rt: HostRuntime) -> Result<(), Fail> {
     let mut kept = Vec::new(rt.alloc());
