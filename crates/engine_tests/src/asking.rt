@@ -1,7 +1,7 @@
 //! Lines that are asked: what is sent, what is printed, and servers that end early.
 
 use crate::compare::{holds, same};
-use ask::{Deaf, ask_run};
+use ask::{Deaf, Hearer, ask_run};
 use memory_streams::{MemorySink, MemorySource, MemoryStream};
 use metric::{Sink, Source};
 use std::process::Abort;
@@ -103,6 +103,40 @@ fn asks<R: Abort + AllocGlobal>(
 fn lines_are_asked(rt: HostRuntime) {
     for run in &RUNS {
         asks(&rt, *run);
+    }
+}
+
+/// Keeps what it hears, each request before its reply.
+#[derive(Drop)]
+struct Kept<'a> {
+    bytes: &'a mut Vec<u8>,
+}
+
+impl<'a> Hearer for Kept<'a> {
+    fn heard(&mut self, request: &[u8], reply: &[u8]) {
+        let _ = self.bytes.extend_from_slice(request);
+        let _ = self.bytes.extend_from_slice(reply);
+    }
+}
+
+#[test]
+fn each_exchange_is_heard_once_its_reply_is_printed(rt: HostRuntime) {
+    let mut bytes = Vec::new(rt.alloc());
+    for (write, heard) in [
+        (
+            1000,
+            b"PIN\nOK 0\nNO\nERR 11 UnknownCommand\nQUIT\nBYE\n".as_slice(),
+        ),
+        (1, b"".as_slice()),
+    ] {
+        bytes.clear();
+        let source = MemorySource::new(b"OK 0\nERR 11 UnknownCommand\nBYE\n");
+        let mut stream = MemoryStream::new(source, MemorySink::new(rt.alloc()));
+        let mut reader = MemorySource::new(b"PIN\nNO\nQUIT\nUNPIN\n");
+        let mut writer = MemorySink::new(rt.alloc()).failing_at(write);
+        let mut kept = Kept { bytes: &mut bytes };
+        ask_run(rt.alloc(), &mut stream, &mut reader, &mut writer, &mut kept);
+        same(&rt, bytes.as_slice(), heard, write);
     }
 }
 
