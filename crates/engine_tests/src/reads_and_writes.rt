@@ -273,6 +273,36 @@ fn a_flush_passes_all_on(rt: HostRuntime) -> Result<(), Fail> {
 /// More than a buffer holds.
 const LONG: [u8; 20_000] = [b'a'; 20_000];
 
+/// A writer that takes at most three bytes a call, and counts them.
+#[derive(Drop)]
+struct Slow<'a> {
+    passed: &'a Cell<usize>,
+}
+
+impl io::Write for Slow<'_> {
+    fn write(&mut self, bytes: &[u8]) -> io::Result<usize> {
+        let taken = bytes.len().min(3);
+        self.passed.set(self.passed.get().saturating_add(taken));
+        Ok(taken)
+    }
+
+    fn flush(&mut self) -> io::Result<()> {
+        Ok(())
+    }
+}
+
+#[test]
+fn a_writer_that_takes_little_gets_all(rt: HostRuntime) -> Result<(), Fail> {
+    let passed = Cell::new(0);
+    let mut sink = WriterSink::new(rt.alloc(), Slow { passed: &passed })?;
+    assert!(rt; sink.failed_writes() == 0);
+    same(&rt, sink.write_all(&LONG), Ok(()), "write all");
+    assert!(rt; sink.failed_writes() == 0);
+    same(&rt, sink.flush(), Ok(()), "flush");
+    same(&rt, passed.get(), LONG.len(), "get");
+    Ok(())
+}
+
 #[test]
 fn a_failed_write_is_counted(rt: HostRuntime) -> Result<(), Fail> {
     let passed = Cell::new(0);
