@@ -85,9 +85,9 @@ def serve(options: argparse.Namespace) -> None:
     """Serves the page until a signal ends it."""
     from aiohttp import web
 
+    from clearmap.runs import no_library
     from following import Wanted
     from site_of_map import Site
-    from tables import no_library
     from yaml_map import read_yaml_map
 
     known = read_yaml_map(options.map) if options.map else None

@@ -8,12 +8,12 @@ from typing import AsyncIterator, Awaitable, Callable
 from aiohttp import web
 
 import clearmap
+from clearmap.runs import TableError
 from picture import SIDE, Picture
 from asking import Asking
 from bodies import BadRequest
 from changing import Changing
 from following import Following, NothingShown, Wanted
-from tables import TableError
 from watched import in_words
 
 PAGE = pathlib.Path(__file__).resolve().parent / "page"

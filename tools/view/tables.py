@@ -2,12 +2,10 @@
 from typing import TYPE_CHECKING, Optional
 
 import clearmap
-from clearmap.runs import TableError, by_program, no_library, workers
+from clearmap.runs import TableError, by_program, workers
 
 if TYPE_CHECKING:
     from picture import Numbers
-
-__all__ = ["TableError", "by_library", "by_program", "no_library", "table_of", "workers"]
 
 
 def by_library(area: clearmap.Map, metric: str) -> "Numbers":

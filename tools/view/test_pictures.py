@@ -14,9 +14,10 @@ import numpy
 import picture
 import tables
 import yaml_map
+from clearmap.runs import TableError, no_library
 from served import PROGRAM
 
-LACKING = tables.no_library()
+LACKING = no_library()
 
 
 def numbers(piece, width):
@@ -40,9 +41,9 @@ class Tables(unittest.TestCase):
 
     def test_refused(self):
         for program, image in ((PROGRAM, b"P1\n2 1\n1\n"), ("/no/such/program", POST)):
-            with self.assertRaises(tables.TableError):
+            with self.assertRaises(TableError):
                 table(image, "city", program=program)
-        with self.assertRaisesRegex(tables.TableError, "neither libclearmap nor the program"):
+        with self.assertRaisesRegex(TableError, "neither libclearmap nor the program"):
             table(POST, "city", program=None)
 
     @unittest.skipIf(LACKING, LACKING)

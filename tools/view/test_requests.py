@@ -15,10 +15,10 @@ from testing import YAML, Viewing, WithoutLibrary
 
 import clearmap
 import numpy
-import tables
+from clearmap.runs import no_library
 from served import Served
 
-LACKING = tables.no_library()
+LACKING = no_library()
 
 
 class Requests(Viewing):

@@ -17,8 +17,8 @@ sys.path[:0] = [
     str(HERE.parent / "ros"),
 ]
 
+from clearmap.runs import no_library
 from served import Served
-from tables import no_library
 
 try:
     from selenium import webdriver
