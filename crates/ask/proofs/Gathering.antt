@@ -1,12 +1,12 @@
 -- Bytes that are taken from a stream, and put into a buffer or written to another stream.
-use Rattle.std.proofs.Common.{◌≢◌, ℕ, List, [], ◌++◌, Option, inl, inr, refl}
+use Rattle.std.proofs.Common.{◌≡◌, ◌≢◌, ℕ, List, [], ◌++◌, Option, inl, inr, refl}
+use Rattle.std.specs.Prelude.{◌⊎◌}
 use Rattle.metric.specs.Stream.{Takes, Appends, AppendsFront}
 use Rattle.metric.proofs.Appending.{Appends-nothing, Appends-more, AppendsFront-whole}
 use Rattle.metric.proofs.Taking.{Takes-nothing, Takes-behind}
 use Rattle.ask.specs.Passing.{BreaksOff, EndsEarly, IsEndLine, PassesOn, PassesFront, stop_text}
-use Rattle.streams.specs.Refusals.{memory_text, net_text}
 use Rattle.ask.specs.declared.ask.Stop.{Stop}
-use Rattle.streams.proofs.RefusalLines.{front_first, front_second}
+use Rattle.streams.proofs.RefusalLines.{front_second}
 use Rattle.ask.specs.declared.ask.Stop.TheVariants as stops
 
 -- where nothing is written, a prefix of any bytes is
@@ -56,55 +56,50 @@ PassesFront-both unread between left before middle after one two = record {
 }
 
 -- a run of `ask` that stops, though no standard stream failed, tells why in such a line
-end_line : (sound : Type 0) (stop : Stop) → stop ≢ stops.Standard → (stop ≢ stops.Net → sound)
-    → IsEndLine sound (stop_text stop)
-end_line sound stops.Standard other calm = absurd (other refl)
-end_line sound stops.Net other calm = inl refl
-end_line sound stops.Memory other calm = inr (refl, calm (λ e. absurd cc))
+end_line : (fault sound : Type 0) (stop : Stop) → stop ≢ stops.Standard → (stop ≡ stops.Net → fault)
+    → (stop ≢ stops.Net → sound) → IsEndLine fault sound (stop_text stop)
+end_line fault sound stops.Standard other blame calm = absurd (other refl)
+end_line fault sound stops.Net other blame calm = inl (refl, blame refl)
+end_line fault sound stops.Memory other blame calm = inr (refl, calm (λ e. absurd cc))
+
+-- a run of `ask` that stops tells nothing, or why in such a line
+last_line : (fault sound : Type 0) (stop : Stop) → (stop ≡ stops.Net → fault)
+    → (stop ≢ stops.Net → sound) → (stop_text stop ≡ []) ⊎ IsEndLine fault sound (stop_text stop)
+last_line fault sound stops.Standard blame calm = inl refl
+last_line fault sound stops.Net blame calm = inr (inl (refl, blame refl))
+last_line fault sound stops.Memory blame calm = inr (inr (refl, calm (λ e. absurd cc)))
 
 -- a prefix of what was read, and then the line that tells why it ended, end a run of `ask` early
-pub EndsEarly-line : (sound : Type 0) (unread left before middle after : Option (List ℕ))
-    (stop : Stop) → stop ≢ stops.Standard → (stop ≢ stops.Net → sound)
+pub EndsEarly-line : (fault sound : Type 0) (unread left before middle after : Option (List ℕ))
+    (stop : Stop) → stop ≢ stops.Standard → (stop ≡ stops.Net → fault) → (stop ≢ stops.Net → sound)
     → PassesFront unread left before middle → Appends middle (stop_text stop) after
-    → EndsEarly sound unread left before after
-EndsEarly-line sound unread left before middle after stop other calm part last = record {
+    → EndsEarly fault sound unread left before after
+EndsEarly-line fault sound unread left before middle after stop other blame calm part last = record {
   bytes = part.bytes;
   front = part.written.front;
   back = part.written.back;
   line = stop_text stop;
   taken = part.taken;
   bytes_are = part.written.whole;
-  line_is = end_line sound stop other calm;
+  line_is = end_line fault sound stop other blame calm;
   written = Appends-more before middle after part.written.front
       (stop_text stop) part.written.appended last;
 }
 
--- a prefix of what was read, and then a prefix of such a line, break a run of `ask` off
-BreaksOff-line : (sound : Type 0) (unread left before middle after : Option (List ℕ))
-    (line : List ℕ) → IsEndLine sound line → PassesFront unread left before middle
-    → AppendsFront middle line after → BreaksOff sound unread left before after
-BreaksOff-line sound unread left before middle after line is part last = record {
+-- a prefix of what was read, and then a prefix of what a run tells that stops, break a run of `ask`
+-- off
+pub BreaksOff-stop : (fault sound : Type 0) (unread left before middle after : Option (List ℕ))
+    (stop : Stop) → (stop ≡ stops.Net → fault) → (stop ≢ stops.Net → sound)
+    → PassesFront unread left before middle → AppendsFront middle (stop_text stop) after
+    → BreaksOff fault sound unread left before after
+BreaksOff-stop fault sound unread left before middle after stop blame calm part last = record {
   bytes = part.bytes;
   front = part.written.front;
   back = part.written.back;
-  line = line;
+  line = stop_text stop;
   taken = part.taken;
   bytes_are = part.written.whole;
-  line_is = is;
-  written = front_second before middle after part.written.front line part.written.appended last;
+  line_is = last_line fault sound stop blame calm;
+  written = front_second before middle after part.written.front (stop_text stop)
+      part.written.appended last;
 }
-
--- a prefix of what was read, and then a prefix of what a run tells that stops, break a run of `ask`
--- off
-pub BreaksOff-stop : (sound : Type 0) (unread left before middle after : Option (List ℕ))
-    (stop : Stop) → (stop ≢ stops.Net → sound) → PassesFront unread left before middle
-    → AppendsFront middle (stop_text stop) after
-    → BreaksOff sound unread left before after
-BreaksOff-stop sound unread left before middle after stops.Standard calm part last =
-    BreaksOff-line sound unread left before middle after net_text (inl refl) part
-    (front_first middle after [] net_text last)
-BreaksOff-stop sound unread left before middle after stops.Net calm part last =
-    BreaksOff-line sound unread left before middle after net_text (inl refl) part last
-BreaksOff-stop sound unread left before middle after stops.Memory calm part last =
-    BreaksOff-line sound unread left before middle after memory_text
-    (inr (refl, calm (λ e. absurd cc))) part last

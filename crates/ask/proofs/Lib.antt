@@ -1,5 +1,6 @@
 mod CutLines
 mod Faults
 mod Gathering
+mod NetFaults
 mod Requests
 mod Talks

@@ -12,8 +12,8 @@ use Rattle.metric.specs.Stream.{Appends, Takes}
 use Rattle.metric.proofs.Appending.{Appends-more, Appends-nothing}
 use Rattle.metric.proofs.Taking.{Takes-nothing, Takes-behind}
 use Rattle.streams.specs.Counted.{IsCounted, IsUnended}
-use Rattle.ask.specs.Asking.{IsRequest, counted_by}
-use Rattle.ask.specs.Passing.{Asks, AsksAll, EndsByBye, EndsCut, PassesOn, bye}
+use Rattle.ask.specs.Asking.{IsRequest}
+use Rattle.ask.specs.Passing.{Asks, AsksAll, EndsByBye, EndsCut, EndsWithin, PassesOn, bye}
 use Rattle.streams.specs.Gathered.{Gathers, GathersAll, PutsCount, PutsFewer, PutsLine, PutsUnended}
 use Rattle.streams.proofs.Gathering.{Gathers-both, Gathers-taken}
 
@@ -60,23 +60,25 @@ counted_read counts before middle after stripped count (Ok value) empty first st
     }
 counted_read counts before middle after stripped count (Err fault) empty first strips is second = tt
 
--- where a stream ends in a line, less than a request was read
-pub cut_line : (unread left : Option (List ℕ)) (before after : List ℕ) → before ≡ []
-    → PutsUnended before after × GathersAll unread before after left → EndsCut unread left
-cut_line unread left before after empty (part, all) = record {
+-- where a stream ends in a line, it ends within that line
+pub cut_line : (counts : List ℕ → ℕ) (unread left : Option (List ℕ)) (before after : List ℕ)
+    → before ≡ [] → PutsUnended before after × GathersAll unread before after left
+    → EndsWithin counts unread left
+cut_line counts unread left before after empty (part, all) = record {
   tail = after;
   cut = inl (subst IsUnended (sym (part.after_is ∙ ap (λ t. t ++ part.part) empty)) part.unended);
   taken = Gathers-taken unread left before after empty all.gathered;
   ended = all.ended;
 }
 
--- where a stream ends in the bytes that a line counts, less than a request was read
-pub cut_bytes : (unread between left : Option (List ℕ)) (before middle after stripped : List ℕ)
-    (count : ℕ) → before ≡ [] → PutsLine before middle → Gathers unread before middle between
+-- where a stream ends in the bytes that a line counts, it ends within these
+pub cut_bytes : (counts : List ℕ → ℕ) (unread between left : Option (List ℕ))
+    (before middle after stripped : List ℕ) (count : ℕ) → before ≡ [] → PutsLine before middle
+    → Gathers unread before middle between
     → ((front : List ℕ) → middle ≡ front ++ 10 ∷ [] → stripped ≡ strip_carriage_return front)
-    → count ≡ counted_by stripped
-    → PutsFewer count middle after × GathersAll between middle after left → EndsCut unread left
-cut_bytes unread between left before middle after stripped count empty first one strips is
+    → count ≡ counts stripped → PutsFewer count middle after × GathersAll between middle after left
+    → EndsWithin counts unread left
+cut_bytes counts unread between left before middle after stripped count empty first one strips is
     (second, all) = record {
       tail = after;
       cut = inr (record {
@@ -84,7 +86,7 @@ cut_bytes unread between left before middle after stripped count empty first one
         counted = second.part;
         unended = first.unended;
         few = subst (λ (n : ℕ). length second.part < n)
-            (counts_so counted_by before middle first.line stripped count empty first.after_is
+            (counts_so counts before middle first.line stripped count empty first.after_is
             strips is)
             second.few;
         bytes_are = line_and_bytes before middle after first.line second.part empty first.after_is

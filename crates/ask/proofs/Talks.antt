@@ -1,6 +1,6 @@
 -- Exchanges of `ask`, one after another, and one that is cut off.
 use Rattle.std.proofs.Common.{◌≡◌, ◌≢◌, ℕ, Bool, true, false, List, [], ◌∷◌, ◌++◌, inl, inr, refl}
-use Rattle.std.proofs.Common.{sym, ap, subst, ◌∙◌}
+use Rattle.std.proofs.Common.{◌+◌, arith, length-append, sym, ap, subst, ◌∙◌}
 use Rattle.std.specs.Prelude.{◌⊎◌, bytes_eq, map}
 use Rattle.std.specs.List.{concat}
 use Rattle.std.proofs.lemmas.List.{append-nil, map-append}
@@ -12,7 +12,7 @@ use Rattle.metric.proofs.Appending.{Appends-more, Appends-nothing, AppendsFront-
 use Rattle.metric.proofs.Taking.{Takes-nothing, Takes-behind}
 use Rattle.ask.specs.Asking.{IsRequest, counted_by}
 use Rattle.ask.specs.Talking.{Breaks, Completes, Converses, Exchange, Exchanges, IsCutOff}
-use Rattle.ask.specs.Talking.{IsExchange, IsLastLine, IsReplyTo, RunsOut, SaysBye, Talk}
+use Rattle.ask.specs.Talking.{IsExchange, IsLastLine, IsReplyTo, Rounds, RunsOut, SaysBye, Talk}
 use Rattle.ask.specs.Talking.{counted_for}
 use Rattle.streams.specs.Gathered.{TakesAtMost}
 use Rattle.ask.specs.Passing.{bye, stop_text}
@@ -32,21 +32,24 @@ Exchanges-nothing talk = record {
 }
 
 -- a request that was read and sent, and its reply, which was received and printed, are one exchange
-pub Exchanges-one : (before after : Talk) (request reply : List ℕ) → IsRequest request
+pub Rounds-one : (before after : Talk) (request reply : List ℕ) → IsRequest request
     → IsReplyTo request reply → reply ≢ bye → Takes before.unread request after.unread
     → Appends before.sent request after.sent
     → Takes before.unheard reply after.unheard → Appends before.printed reply after.printed
-    → Exchanges before after
-Exchanges-one before after request reply request_is reply_is other read sent heard printed = record {
-  exchanges = record { request = request; reply = reply } ∷ [];
-  are = All-cons IsExchange record { request = request; reply = reply } []
-      record { request_is = request_is; reply_is = reply_is } (All-nil IsExchange);
-  going = All-cons (λ (e : Exchange). e.reply ≢ bye) record { request = request; reply = reply } []
-      other (All-nil (λ (e : Exchange). e.reply ≢ bye));
-  read = rw (append-nil request) read;
-  sent = rw (append-nil request) sent;
-  heard = rw (append-nil reply) heard;
-  printed = rw (append-nil reply) printed;
+    → Rounds 1 before after
+Rounds-one before after request reply request_is reply_is other read sent heard printed = record {
+  all = record {
+    exchanges = record { request = request; reply = reply } ∷ [];
+    are = All-cons IsExchange record { request = request; reply = reply } []
+        record { request_is = request_is; reply_is = reply_is } (All-nil IsExchange);
+    going = All-cons (λ (e : Exchange). e.reply ≢ bye) record { request = request; reply = reply }
+        [] other (All-nil (λ (e : Exchange). e.reply ≢ bye));
+    read = rw (append-nil request) read;
+    sent = rw (append-nil request) sent;
+    heard = rw (append-nil reply) heard;
+    printed = rw (append-nil reply) printed;
+  };
+  many = refl;
 }
 
 -- the bytes of two lists of exchanges are those of both lists, one after the other
@@ -74,6 +77,24 @@ Exchanges-both before between after one two =
           (Takes-behind before.unheard between.unheard after.unheard _ _ one.heard two.heard);
       printed = subst (λ (t : List ℕ). Appends before.printed t after.printed) replies
           (Appends-more before.printed between.printed after.printed _ _ one.printed two.printed);
+    }
+
+-- no exchanges are none
+pub Rounds-none : (talk : Talk) → Rounds 0 talk talk
+unfolding Exchanges-nothing
+Rounds-none talk = record { all = Exchanges-nothing talk; many = refl }
+
+-- a list of exchanges, and then one, are one more
+pub Rounds-more : (count : ℕ) (before between after : Talk) → Rounds count before between
+    → Rounds 1 between after → Rounds (count + 1) before after
+unfolding Exchanges-both
+Rounds-more count before between after one two =
+    let size = length-append one.all.exchanges two.all.exchanges in
+    let first = one.many in
+    let second = two.many in
+    record {
+      all = Exchanges-both before between after one.all two.all;
+      many = omega (arith, size, first, second);
     }
 
 -- exchanges, and then some that end with one that is cut off, are exchanges that end so

@@ -4,7 +4,7 @@ use Rattle.metric.specs.declared.refusal.Refusal.{Refusal}
 use Rattle.lines.specs.Said.{LineView, said, stamp, verb_in}
 use Rattle.lines.specs.declared.verb.Verb.{Verb}
 use Rattle.lines.specs.declared.verb.Verb.TheVariants as verbs
-use Rattle.streams.specs.Counted.{IsCounted, IsLessThanCounted}
+use Rattle.streams.specs.Counted.{IsCounted}
 
 -- how many bytes a server reads after a line: those of a valid stamp, if they aren't too many
 abbrev pub bytes_behind : Option Verb → Result LineView Refusal → ℕ
@@ -18,7 +18,3 @@ counted_by line = bytes_behind (verb_in line) (said line)
 -- a request is a line with its LF, and the bytes that a server reads after it
 abbrev pub IsRequest : List ℕ → Type 0
 IsRequest = IsCounted counted_by
-
--- these bytes are less than a request
-abbrev pub IsLessThanRequest : List ℕ → Type 0
-IsLessThanRequest = IsLessThanCounted counted_by

@@ -1,7 +1,8 @@
 -- A conversation of `ask`: each request is sent after the reply to the one before it was received
 -- and printed. This project's own rule.
-use Rattle.std.specs.Prelude.{◌≡◌, ◌≢◌, ℕ, ◌⊎◌, All, Bool, false, true, List, [], ◌∷◌, map, Option}
-use Rattle.std.specs.Prelude.{Some, bytes_eq, codes, unwrap_or, if◌then◌else◌}
+use Rattle.std.specs.Prelude.{◌≡◌, ◌≢◌, ◌+◌, ◌^◌, ℕ, ◌⊎◌, All, Bool, false, true, List, [], ◌∷◌}
+use Rattle.std.specs.Prelude.{Option, Some, bytes_eq, codes, length, map, unwrap_or}
+use Rattle.std.specs.Prelude.{if◌then◌else◌}
 use Rattle.std.specs.List.{concat}
 use Rattle.metric.specs.Stream.{Appends, AppendsFront, Takes}
 use Rattle.words.specs.Numbers.{numbers, only_number}
@@ -11,7 +12,7 @@ use Rattle.lines.specs.declared.verb.Verb.{Verb}
 use Rattle.lines.specs.declared.verb.Verb.TheVariants as verbs
 use Rattle.streams.specs.Counted.{IsAtMostCounted, IsCounted}
 use Rattle.ask.specs.Asking.{IsRequest, counted_by}
-use Rattle.ask.specs.Passing.{EndsCut, bye}
+use Rattle.ask.specs.Passing.{EndsCut, EndsWithin, bye}
 use Rattle.words.specs.TextLines.{lines_of}
 use Rattle.streams.specs.Refusals.{memory_text, net_text}
 
@@ -85,6 +86,11 @@ pub record Exchanges (before after : Talk) : Type 0 where
   pub heard : Takes before.unheard (replies_of exchanges) after.unheard
   pub printed : Appends before.printed (replies_of exchanges) after.printed
 
+-- exchanges, this many
+pub record Rounds (count : ℕ) (before after : Talk) : Type 0 where
+  pub all : Exchanges before after
+  pub many : length all.exchanges ≡ count
+
 -- a request or less was read, and none was sent
 pub record IsCutReading (before after : Talk) : Type 0 where
   pub part : List ℕ
@@ -157,6 +163,40 @@ pub record Breaks (before after : Talk) : Type 0 where
   pub between : Talk
   pub exchanges : Exchanges before between
   pub cut : IsCutOff between after
+
+-- a request was read and sent, and the bytes to receive ended within the reply to it
+pub record GoesUnanswered (before after : Talk) : Type 0 where
+  pub request : List ℕ
+  pub request_is : IsRequest request
+  pub read : Takes before.unread request after.unread
+  pub sent : Appends before.sent request after.sent
+  pub heard : EndsWithin (counted_for request) before.unheard after.unheard
+
+-- exchanges, and then a request that goes unanswered
+pub record LacksReply (before after : Talk) : Type 0 where
+  pub between : Talk
+  pub exchanges : Exchanges before between
+  pub unanswered : GoesUnanswered between after
+
+-- as many exchanges as a run has at most, 2^64 - 1, and then nothing is read, sent or received
+pub record HasAllRounds (before after : Talk) : Type 0 where
+  pub between : Talk
+  pub count : ℕ
+  pub rounds : Rounds count before between
+  pub most : count + 1 ≡ 2 ^ 64
+  pub read : after.unread ≡ between.unread
+  pub sent : after.sent ≡ between.sent
+  pub heard : after.unheard ≡ between.unheard
+
+-- one more call on a connection has failed: a read, or a write
+abbrev pub CallFails : (reads reads_after writes writes_after : ℕ) → Type 0
+CallFails reads reads_after writes writes_after =
+    (reads_after ≡ reads + 1) ⊎ (writes_after ≡ writes + 1)
+
+-- why a run says that the network is at fault: a call failed, the server ended within a reply that
+-- was due, or no more exchanges are had
+abbrev pub IsNetFault : Type 0 → Talk → Talk → Type 0
+IsNetFault failed before after = failed ⊎ (LacksReply before after ⊎ HasAllRounds before after)
 
 -- a run of `ask` prints nothing at its end, or why it ended
 abbrev pub IsLastLine : List ℕ → Type 0

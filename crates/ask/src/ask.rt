@@ -1,9 +1,10 @@
 //! The command `ask`: sends lines to a server, and prints its replies.
 
-ghost use Rattle.std.specs.Prelude.{◌≡◌, ◌≢◌, ◌≤◌, ◌+◌, OnOk, OnErr, IfErr};
+ghost use Rattle.std.specs.Prelude.{◌≡◌, ◌≢◌, ◌≤◌, ◌+◌, ◌⊎◌, OnOk, OnErr, IfErr};
 ghost use Rattle.std.specs.Prelude.{Err, Ok, true, false, bytes_eq};
 ghost use Rattle.metric.specs.Stream.{Appends, AppendsFront, CanFail, Counts};
-ghost use Rattle.ask.specs.Talking.{Breaks, Completes, Converses, Exchanges, talk_at};
+ghost use Rattle.ask.specs.Talking.{Breaks, CallFails, Completes, Converses, GoesUnanswered};
+ghost use Rattle.ask.specs.Talking.{IsNetFault, Rounds, talk_at};
 ghost use Rattle.ask.specs.Passing.{Asks, AsksAll, BreaksOff, EndsEarly, PassesFront};
 ghost use Rattle.ask.specs.Passing.{PassesOn, bye, stop_text};
 ghost use Rattle.ask.specs.declared.ask.Stop.TheVariants.{Net, Standard};
@@ -74,7 +75,12 @@ pub fn ask_run<S: Stream, R: Source, W: Sink, H: Hearer>(
     // If a write failed, a prefix of that was written, and after it at most a prefix of why the run
     // ended.
     ensures failed_write { W.failed_writes writer.new ≢ W.failed_writes writer.old
-        → BreaksOff ((S.failed_reads stream.new ≡ S.failed_reads stream.old)
+        → BreaksOff (IsNetFault (CallFails
+        (S.failed_reads stream.old) (S.failed_reads stream.new)
+        (S.failed_writes stream.old) (S.failed_writes stream.new))
+        (talk_at (R.rest reader.old) (S.held stream.old) (S.rest stream.old) (W.held writer.old))
+        (talk_at (R.rest reader.new) (S.held stream.new) (S.rest stream.new) (W.held writer.new)))
+        ((S.failed_reads stream.new ≡ S.failed_reads stream.old)
         × (S.failed_writes stream.new ≡ S.failed_writes stream.old))
         (S.rest stream.old) (S.rest stream.new) (W.held writer.old) (W.held writer.new)
         × (result ≡ 1) }
@@ -84,7 +90,12 @@ pub fn ask_run<S: Stream, R: Source, W: Sink, H: Hearer>(
     ensures ended { R.failed_reads reader.new ≡ R.failed_reads reader.old
         → W.failed_writes writer.new ≡ W.failed_writes writer.old
         → result ≢ 0
-        → EndsEarly ((S.failed_reads stream.new ≡ S.failed_reads stream.old)
+        → EndsEarly (IsNetFault (CallFails
+        (S.failed_reads stream.old) (S.failed_reads stream.new)
+        (S.failed_writes stream.old) (S.failed_writes stream.new))
+        (talk_at (R.rest reader.old) (S.held stream.old) (S.rest stream.old) (W.held writer.old))
+        (talk_at (R.rest reader.new) (S.held stream.new) (S.rest stream.new) (W.held writer.new)))
+        ((S.failed_reads stream.new ≡ S.failed_reads stream.old)
         × (S.failed_writes stream.new ≡ S.failed_writes stream.old))
         (S.rest stream.old) (S.rest stream.new) (W.held writer.old) (W.held writer.new)
         × (result ≡ 1) }
@@ -141,7 +152,8 @@ fn print<W: Sink>(writer: &mut W, reply: &[u8]) -> Result<(), Stop>
     }
 }
 
-/// Asks line after line, at most 2^64 - 1 of them.
+/// Asks line after line, at most 2^64 - 1 of them; after the last of these it stops as if the
+/// network had failed.
 fn ask_lines<S: Stream, R: Source, W: Sink, H: Hearer>(
     stream: &mut S,
     reader: &mut R,
@@ -165,6 +177,11 @@ fn ask_lines<S: Stream, R: Source, W: Sink, H: Hearer>(
         → S.failed_reads stream.new ≡ S.failed_reads stream.old }
     ensures stream_writes { result ≢ Err Net
         → S.failed_writes stream.new ≡ S.failed_writes stream.old }
+    ensures net { result ≡ Err Net → IsNetFault (CallFails
+        (S.failed_reads stream.old) (S.failed_reads stream.new)
+        (S.failed_writes stream.old) (S.failed_writes stream.new))
+        (talk_at (R.rest reader.old) (S.held stream.old) (S.rest stream.old) (W.held writer.old))
+        (talk_at (R.rest reader.new) (S.held stream.new) (S.rest stream.new) (W.held writer.new)) }
     ensures reader { result ≢ Err Standard → R.failed_reads reader.new ≡ R.failed_reads reader.old }
     ensures writer { result ≢ Err Standard
         → W.failed_writes writer.new ≡ W.failed_writes writer.old }
@@ -218,6 +235,12 @@ fn ask_line<S: Stream, R: Source, W: Sink, H: Hearer>(
         → S.failed_reads stream.new ≡ S.failed_reads stream.old }
     ensures stream_writes { result ≢ Err Net
         → S.failed_writes stream.new ≡ S.failed_writes stream.old }
+    ensures net { result ≡ Err Net → CallFails
+        (S.failed_reads stream.old) (S.failed_reads stream.new)
+        (S.failed_writes stream.old) (S.failed_writes stream.new)
+        ⊎ GoesUnanswered
+        (talk_at (R.rest reader.old) (S.held stream.old) (S.rest stream.old) (W.held writer.old))
+        (talk_at (R.rest reader.new) (S.held stream.new) (S.rest stream.new) (W.held writer.new)) }
     ensures reader { result ≢ Err Standard → R.failed_reads reader.new ≡ R.failed_reads reader.old }
     ensures writer { result ≢ Err Standard
         → W.failed_writes writer.new ≡ W.failed_writes writer.old }
@@ -226,7 +249,7 @@ fn ask_line<S: Stream, R: Source, W: Sink, H: Hearer>(
     ensures whole { result ≡ Ok false → Completes
         (talk_at (R.rest reader.old) (S.held stream.old) (S.rest stream.old) (W.held writer.old))
         (talk_at (R.rest reader.new) (S.held stream.new) (S.rest stream.new) (W.held writer.new)) }
-    ensures exchanged { result ≡ Ok true → Exchanges
+    ensures exchanged { result ≡ Ok true → Rounds 1
         (talk_at (R.rest reader.old) (S.held stream.old) (S.rest stream.old) (W.held writer.old))
         (talk_at (R.rest reader.new) (S.held stream.new) (S.rest stream.new) (W.held writer.new)) }
     ensures order { result ≢ Ok true → Breaks

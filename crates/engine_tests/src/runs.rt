@@ -47,8 +47,8 @@ static TOLD: [(&[&str], &str, &str, u8); 22] = [
         "clearmap: --port is a number from 1 to 65535\n",
         2,
     ),
-    (&["clearmap", "--version"], "clearmap 0.3.0\n", "", 0),
-    (&["clearmap", "-V"], "clearmap 0.3.0\n", "", 0),
+    (&["clearmap", "--version"], "clearmap 0.4.0\n", "", 0),
+    (&["clearmap", "-V"], "clearmap 0.4.0\n", "", 0),
     (
         &["clearmap"],
         "",

@@ -1,13 +1,15 @@
 //! Sends a line, and reads its reply.
 
-ghost use Rattle.std.specs.Prelude.{◌≡◌, ◌≢◌, ◌⊎◌, ℕ, List, [], OnOk, OnErr, IfErr, Err};
-ghost use Rattle.metric.specs.Stream.{Appends, AppendsFront, CanFail, Takes};
+ghost use Rattle.std.specs.Prelude.{◌≡◌, ◌≢◌, ◌+◌, ◌⊎◌, ℕ, List, [], OnOk, OnErr, IfErr, Err};
+ghost use Rattle.metric.specs.Stream.{Appends, AppendsFront, CanFail, Counts, Takes};
 ghost use Rattle.streams.specs.Counted.{IsCounted};
-ghost use Rattle.ask.specs.Talking.{IsReplyTo, asks_for_bytes, bytes_promised, counted_for};
+ghost use Rattle.ask.specs.Passing.{EndsWithin};
+ghost use Rattle.ask.specs.Talking.{CallFails, IsReplyTo, asks_for_bytes, bytes_promised};
+ghost use Rattle.ask.specs.Talking.{counted_for};
 ghost use Rattle.streams.specs.Gathered.{Gathers, TakesAtMost};
 ghost use Rattle.words.specs.TextLines.{lines_of};
 ghost use Rattle.ask.specs.declared.ask.Stop.TheVariants.{Net, Standard};
-ghost use Rattle.streams.specs.declared.gather.PartStop.TheVariants.{Failed};
+ghost use Rattle.streams.specs.declared.gather.PartStop.TheVariants.{Ended, Failed};
 
 use crate::ask::Stop;
 use crate::ask::request::without_end;
@@ -27,6 +29,11 @@ pub fn exchange<S: Stream>(stream: &mut S, request: &[u8], reply: &mut Vec<u8>) 
     ensures taken { (taken : List ℕ) × Takes (S.rest stream.old) taken (S.rest stream.new) }
     ensures counts { result ≢ Err Net → (S.failed_reads stream.new ≡ S.failed_reads stream.old)
         × (S.failed_writes stream.new ≡ S.failed_writes stream.old) }
+    ensures fault { result ≡ Err Net → CallFails
+        (S.failed_reads stream.old) (S.failed_reads stream.new)
+        (S.failed_writes stream.old) (S.failed_writes stream.new)
+        ⊎ (Appends (S.held stream.old) request.now (S.held stream.new)
+        × EndsWithin (counted_for request.now) (S.rest stream.old) (S.rest stream.new)) }
     ensures net { result ≢ Err Standard }
     ensures reply { OnOk result (IsReplyTo request.now reply.new.items) }
     ensures part { OnErr result
@@ -55,7 +62,7 @@ fn send<S: Stream>(stream: &mut S, request: &[u8]) -> Result<(), Stop>
     ensures all { OnOk result (Appends (S.held stream.old) request.now (S.held stream.new)) }
     ensures front { AppendsFront (S.held stream.old) request.now (S.held stream.new) }
     ensures unread { S.unread stream.new ≡ S.unread stream.old }
-    ensures writes { OnOk result (S.failed_writes stream.new ≡ S.failed_writes stream.old) }
+    ensures counts { Counts (S.failed_writes stream.old) result (S.failed_writes stream.new) }
     ensures net { IfErr result (λ stop. stop ≡ Net) }
 {
     if stream.write_all(request).is_err() || stream.flush().is_err() {
@@ -72,6 +79,9 @@ fn read_reply<S: Stream>(stream: &mut S, dump: bool, reply: &mut Vec<u8>) -> Res
     ensures taken { (taken : List ℕ) × Takes (S.rest stream.old) taken (S.rest stream.new) }
     ensures written { S.written stream.new ≡ S.written stream.old }
     ensures reads { result ≢ Err Net → S.failed_reads stream.new ≡ S.failed_reads stream.old }
+    ensures fault { reply.old.items ≡ [] → result ≡ Err Net
+        → (S.failed_reads stream.new ≡ S.failed_reads stream.old + 1)
+        ⊎ EndsWithin (bytes_promised dump) (S.rest stream.old) (S.rest stream.new) }
     ensures net { result ≢ Err Standard }
     ensures reply { reply.old.items ≡ []
         → OnOk result (IsCounted (bytes_promised dump) reply.new.items) }
@@ -93,6 +103,10 @@ fn read_whole<S: Stream>(stream: &mut S, dump: bool, reply: &mut Vec<u8>) -> Res
     ensures taken { (taken : List ℕ) × Takes (S.rest stream.old) taken (S.rest stream.new) }
     ensures written { S.written stream.new ≡ S.written stream.old }
     ensures reads { result ≢ Err Failed → S.failed_reads stream.new ≡ S.failed_reads stream.old }
+    ensures failed { result ≡ Err Failed
+        → S.failed_reads stream.new ≡ S.failed_reads stream.old + 1 }
+    ensures ended { reply.old.items ≡ [] → result ≡ Err Ended
+        → EndsWithin (bytes_promised dump) (S.rest stream.old) (S.rest stream.new) }
     ensures reply { reply.old.items ≡ []
         → OnOk result (IsCounted (bytes_promised dump) reply.new.items) }
     ensures part { reply.old.items ≡ [] → OnErr result

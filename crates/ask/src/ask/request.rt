@@ -7,7 +7,7 @@ ghost use Rattle.metric.specs.Stream.{CanFail, Takes};
 ghost use Rattle.ask.specs.Asking.{IsRequest, counted_by};
 ghost use Rattle.ask.specs.Passing.{EndsCut};
 ghost use Rattle.streams.specs.Gathered.{Gathers, TakesAtMost};
-ghost use Rattle.ask.specs.declared.ask.Stop.TheVariants.{Standard};
+ghost use Rattle.ask.specs.declared.ask.Stop.TheVariants.{Net, Standard};
 ghost use Rattle.streams.specs.declared.gather.PartStop.TheVariants.{Ended, Failed};
 
 use crate::ask::Stop;
@@ -26,6 +26,7 @@ pub fn read_request<R: Source>(reader: &mut R, request: &mut Vec<u8>) -> Result<
     ensures counts { result ≢ Err Standard → R.failed_reads reader.new ≡ R.failed_reads reader.old }
     ensures failed { result ≡ Err Standard
         → R.failed_reads reader.new ≡ R.failed_reads reader.old + 1 }
+    ensures other { result ≢ Err Net }
     ensures request { result ≡ Ok true → IsRequest request.new.items }
     ensures ended { result ≡ Ok false → EndsCut (R.rest reader.old) (R.rest reader.new) }
     ensures part { OnErr result (TakesAtMost counted_by (R.rest reader.old) (R.rest reader.new)) }

@@ -6,8 +6,9 @@ use Rattle.metric.proofs.Appending.{AppendsFront-whole}
 use Rattle.ask.proofs.Faults.{ended, more_said, no_fault, no_reply, not_going, over_said}
 use Rattle.ask.proofs.Faults.{passed_other, passed_same, read_failed, write_failed}
 use Rattle.ask.proofs.Gathering.{PassesOn-nothing, PassesFront-read, PassesFront-whole}
+use Rattle.ask.proofs.NetFaults.{unanswered}
 use Rattle.ask.proofs.Requests.{Asks-one, AsksAll-bye, AsksAll-ended}
-use Rattle.ask.proofs.Talks.{Exchanges-one, Breaks-complete, Breaks-first, Completes-bye}
+use Rattle.ask.proofs.Talks.{Breaks-complete, Breaks-first, Completes-bye, Rounds-one}
 use Rattle.ask.proofs.Talks.{Completes-ended, cut_off_printing, cut_off_reading, cut_off_wire}
 use Rattle.ask.proofs.Talks.{no_bye}
 use Rattle.ask.proofs.ask.ask_line.Goals as goal
@@ -24,6 +25,7 @@ returns-in_err-read_request g c =
       cut = PassesFront-whole _ _ _ _ (PassesOn-nothing _ _);
       stream_reads = λ other. refl;
       stream_writes = λ other. refl;
+      net = λ net. absurd (read.other net);
       reader = read.counts;
       writer = λ other. refl;
       failed = λ failed. read_failed _ _ _ (read.failed failed);
@@ -50,6 +52,7 @@ returns-then-not-branch g c =
       cut = tt;
       stream_reads = λ other. refl;
       stream_writes = λ other. refl;
+      net = λ net. absurd (no_fault _ _ net);
       reader = λ other. read.counts (no_fault _ _);
       writer = λ other. refl;
       failed = λ failed. absurd (no_fault _ _ failed);
@@ -79,6 +82,8 @@ returns-in_err-exchange g c =
       cut = PassesFront-read _ _ _ sent.taken;
       stream_reads = λ other. (sent.counts (passed_other _ _ _ _ refl refl other)).0;
       stream_writes = λ other. (sent.counts (passed_other _ _ _ _ refl refl other)).1;
+      net = λ net. unanswered _ _ _ request taken
+          (rw c.as_slice.ensures.value at (sent.fault (passed_same _ _ _ _ refl refl net)));
       reader = λ other. read.counts (no_fault _ _);
       writer = λ other. refl;
       failed = λ failed. absurd (sent.net (passed_same _ _ _ _ refl refl failed));
@@ -111,6 +116,7 @@ returns-in_err-print g c =
       cut = record { bytes = c.exchange.new.reply.items; taken = heard.all; written = told };
       stream_reads = λ other. (heard.counts (no_fault _ _)).0;
       stream_writes = λ other. (heard.counts (no_fault _ _)).1;
+      net = λ net. absurd (let standard = c.in_err-print.ensures.stop in cc);
       reader = λ other. read.counts (no_fault _ _);
       writer = λ other. absurd (other (ap Err c.in_err-print.ensures.stop));
       failed = λ failed. write_failed _ _ _ _ (read.counts (no_fault _ _))
@@ -145,13 +151,14 @@ returns g c =
       cut = tt;
       stream_reads = λ other. (heard.counts (no_fault _ _)).0;
       stream_writes = λ other. (heard.counts (no_fault _ _)).1;
+      net = λ net. absurd (no_fault _ _ net);
       reader = λ other. read.counts (no_fault _ _);
       writer = λ other. c.in_ok-print.ensures.counts;
       failed = λ failed. absurd (no_fault _ _ failed);
       whole = λ over. Completes-bye _ _ c.read_request.new.request.items
           c.exchange.new.reply.items c.is_bye.result (over_said _ over) says request reply taken
           sent heard.all told;
-      exchanged = λ more. Exchanges-one _ _ c.read_request.new.request.items
+      exchanged = λ more. Rounds-one _ _ c.read_request.new.request.items
           c.exchange.new.reply.items request reply
           (no_bye _ c.is_bye.result (more_said _ more) says) taken sent heard.all told;
       order = λ other. Breaks-complete _ _ (Completes-bye _ _ c.read_request.new.request.items

@@ -1,20 +1,21 @@
 -- Another request and its reply follow those of the lines before; where a call fails, a prefix of
 -- them has passed.
-use Rattle.std.proofs.Common.{◌∙◌, ap, Err, Ok, refl}
+use Rattle.std.proofs.Common.{◌∙◌, ap, arith, Err, Ok, refl}
 use Rattle.std.proofs.lemmas.Result.{err_from_is_err_and}
 use Rattle.ask.proofs.Faults.{ended, no_fault, no_reply, no_standard, passed_other, passed_same}
 use Rattle.ask.proofs.Gathering.{PassesFront-both, PassesFront-whole, PassesOn-both}
 use Rattle.ask.proofs.Gathering.{PassesOn-nothing}
+use Rattle.ask.proofs.NetFaults.{IsNetFault-all, IsNetFault-behind}
 use Rattle.ask.proofs.Requests.{Asks-both, Asks-nothing, Asks-passes, AsksAll-both}
-use Rattle.ask.proofs.Talks.{Breaks-behind, Breaks-none, Completes-behind, Exchanges-both}
-use Rattle.ask.proofs.Talks.{Exchanges-nothing}
+use Rattle.ask.proofs.Talks.{Breaks-behind, Breaks-none, Completes-behind, Rounds-more}
+use Rattle.ask.proofs.Talks.{Rounds-none}
 use Rattle.ask.proofs.ask.ask_lines.Goals as goal
 
 pub lines-init : goal.lines-init
 lines-init g c = record {
   asked = Asks-nothing _ _;
   printed = PassesOn-nothing _ _;
-  order = Exchanges-nothing _;
+  order = Rounds-none _;
   stream_reads = refl;
   stream_writes = refl;
   reader = refl;
@@ -34,7 +35,7 @@ lines-preserved g c = record {
   asked = Asks-both _ _ _ _ _ _ c.lines.invariant.asked
       (c.in_ok-ask_line.ensures.went (ap Ok c.if-not-branch.false));
   printed = PassesOn-both _ _ _ _ _ _ c.lines.invariant.printed c.in_ok-ask_line.ensures.printed;
-  order = Exchanges-both _ _ _ c.lines.invariant.order
+  order = Rounds-more _ _ _ _ c.lines.invariant.order
       (c.in_ok-ask_line.ensures.exchanged (ap Ok c.if-not-branch.false));
   stream_reads = c.in_ok-ask_line.ensures.stream_reads (no_fault _ _)
       ∙ c.lines.invariant.stream_reads;
@@ -57,13 +58,16 @@ returns-in_err-ask_line g c =
           ∙ before.stream_reads;
       stream_writes = λ other. asked.stream_writes (passed_other _ _ _ _ refl refl other)
           ∙ before.stream_writes;
+      net = λ net. IsNetFault-behind _ _ _ _ before.order
+          (rw (before.stream_reads, before.stream_writes)
+          at (asked.net (passed_same _ _ _ _ refl refl net)));
       reader = λ other. asked.reader (passed_other _ _ _ _ refl refl other) ∙ before.reader;
       writer = λ other. asked.writer (passed_other _ _ _ _ refl refl other) ∙ before.writer;
       failed = λ failed. rw (← before.reader, ← before.writer)
           (asked.failed (passed_same _ _ _ _ refl refl failed));
       asked = tt;
       whole = tt;
-      order = Breaks-behind _ _ _ before.order (asked.order (no_reply _ _));
+      order = Breaks-behind _ _ _ before.order.all (asked.order (no_reply _ _));
     })
 
 pub returns-then-not-branch : goal.returns-then-not-branch
@@ -76,13 +80,14 @@ returns-then-not-branch g c =
       cut = tt;
       stream_reads = λ other. asked.stream_reads (no_fault _ _) ∙ before.stream_reads;
       stream_writes = λ other. asked.stream_writes (no_fault _ _) ∙ before.stream_writes;
+      net = λ net. absurd (no_fault _ _ net);
       reader = λ other. asked.reader (no_fault _ _) ∙ before.reader;
       writer = λ other. asked.writer (no_fault _ _) ∙ before.writer;
       failed = λ failed. absurd (no_fault _ _ failed);
       asked = AsksAll-both _ _ _ _ _ _ _ _ _ before.printed.bytes before.asked
           before.printed.written (asked.over (ap Ok c.if-not-branch.true));
-      whole = Completes-behind _ _ _ before.order (asked.whole (ap Ok c.if-not-branch.true));
-      order = Breaks-behind _ _ _ before.order (asked.order (ended _ c.if-not-branch.true));
+      whole = Completes-behind _ _ _ before.order.all (asked.whole (ap Ok c.if-not-branch.true));
+      order = Breaks-behind _ _ _ before.order.all (asked.order (ended _ c.if-not-branch.true));
     }
 
 pub returns : goal.returns
@@ -94,10 +99,11 @@ returns g c =
       cut = PassesFront-whole _ _ _ _ before.printed;
       stream_reads = λ other. before.stream_reads;
       stream_writes = λ other. before.stream_writes;
+      net = λ net. IsNetFault-all _ _ _ before.order (omega (arith));
       reader = λ other. before.reader;
       writer = λ other. before.writer;
       failed = λ failed. absurd (no_standard _ refl failed);
       asked = tt;
       whole = tt;
-      order = Breaks-none _ _ before.order;
+      order = Breaks-none _ _ before.order.all;
     }

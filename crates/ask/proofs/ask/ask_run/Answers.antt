@@ -4,6 +4,7 @@ use Rattle.ask.proofs.Faults.{is_standard, no_failure, no_fault, one_failed, oth
 use Rattle.ask.proofs.Faults.{refused, well_stopped}
 use Rattle.ask.specs.declared.ask.Stop.TheVariants.{Standard}
 use Rattle.ask.proofs.Gathering.{BreaksOff-stop, EndsEarly-line}
+use Rattle.ask.proofs.NetFaults.{IsNetFault-printed}
 use Rattle.ask.proofs.Talks.{Converses-done, Converses-stop}
 use Rattle.ask.proofs.ask.ask_run.Goals as goal
 
@@ -42,7 +43,8 @@ returns g c =
         end.status,
       );
       failed_write = λ failed. (
-        BreaksOff-stop _ _ _ _ _ _ _
+        BreaksOff-stop _ _ _ _ _ _ _ _
+            (λ net. IsNetFault-printed _ _ _ _ _ _ (asked.net (ap Err net)))
             (λ other. (
               asked.stream_reads (other_fault _ _ other),
               asked.stream_writes (other_fault _ _ other),
@@ -53,7 +55,8 @@ returns g c =
       ended = λ reads writes other.
           let calm : c.in-Err.stop ≢ Standard = λ standard. well_stopped _ _ _ _ _ reads writes
           (ap g.W.Sink.failed_writes (end.standard standard)) (asked.failed (ap Err standard)) in (
-            EndsEarly-line _ _ _ _ _ _ _ calm
+            EndsEarly-line _ _ _ _ _ _ _ _ calm
+                (λ net. IsNetFault-printed _ _ _ _ _ _ (asked.net (ap Err net)))
                 (λ other. (
                   asked.stream_reads (other_fault _ _ other),
                   asked.stream_writes (other_fault _ _ other),

@@ -6,6 +6,7 @@ use Rattle.metric.proofs.Taking.{Takes-nothing}
 use Rattle.streams.proofs.Gathering.{Gathers-taken}
 use Rattle.ask.proofs.CutLines.{TakesAtMost-nothing}
 use Rattle.ask.proofs.Faults.{held_on_err, held_on_ok, no_standard, same_parts}
+use Rattle.ask.proofs.NetFaults.{within_reply}
 use Rattle.ask.proofs.ask.exchange.exchange.Goals as goal
 
 pub returns-in_err-send : goal.returns-in_err-send
@@ -20,6 +21,7 @@ returns-in_err-send g c =
       all = rw p.1 tt;
       taken = ([], rw unread.0 (Takes-nothing _));
       counts = λ other. absurd (other net);
+      fault = λ same. inl (inr c.in_err-send.ensures.counts);
       net = no_standard _ net;
       reply = rw p.1 tt;
       part = rw p.1 (TakesAtMost-nothing _ _ _ unread.0);
@@ -39,7 +41,11 @@ returns g c =
       all = on_ok_weaker c.read_reply.result
           (λ all. Gathers-taken _ _ _ _ c.clear.ensures.items all) (rw unread.0 at read.all);
       taken = rw unread.0 at read.taken;
-      counts = λ other. (read.reads other ∙ unread.1, written.1 ∙ c.in_ok-send.ensures.writes);
+      counts = λ other. (read.reads other ∙ unread.1, written.1 ∙ c.in_ok-send.ensures.counts);
+      fault = λ net.
+          within_reply (rw written.0 c.in_ok-send.ensures.all)
+          (rw (c.asks_for_bytes.ensures, unread.0, unread.1)
+          at (read.fault c.clear.ensures.items net));
       net = read.net;
       reply = rw c.asks_for_bytes.ensures at (read.reply c.clear.ensures.items);
       part = rw (c.asks_for_bytes.ensures, unread.0) at (read.part c.clear.ensures.items);

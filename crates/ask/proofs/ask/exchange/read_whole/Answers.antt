@@ -1,11 +1,11 @@
 -- What is read is a line and then the bytes that it counts, each gathered after what the buffer
 -- held.
-use Rattle.std.proofs.Common.{◌∙◌}
+use Rattle.std.proofs.Common.{◌∙◌, rules}
 use Rattle.std.proofs.lemmas.Result.{err_from_is_err_and}
 use Rattle.ask.specs.Talking.{bytes_promised}
 use Rattle.ask.proofs.CutLines.{TakesAtMost-line, counted_cut}
 use Rattle.streams.proofs.Gathering.{taken_behind}
-use Rattle.ask.proofs.Requests.{counted_read, gathered_both}
+use Rattle.ask.proofs.Requests.{counted_read, cut_bytes, cut_line, gathered_both}
 use Rattle.ask.proofs.ask.exchange.read_whole.Goals as goal
 
 pub returns-clause-all : goal.returns-clause-all
@@ -23,6 +23,17 @@ returns-clause-reply g c = λ empty.
     c.in_ok-read_line.ensures.line
     (λ front is. c.without_end.ensures front (c.as_slice.ensures.value ∙ is))
     c.promised-count.ensures c.read_count.ensures.count
+
+pub returns-clause-ended : goal.returns-clause-ended
+returns-clause-ended g c = λ empty ended.
+    cut_bytes (bytes_promised c.args.dump) _ _ _ _ _ _ c.without_end.result.now _ empty
+    c.in_ok-read_line.ensures.line c.in_ok-read_line.ensures.all
+    (λ front is. c.without_end.ensures front (c.as_slice.ensures.value ∙ is))
+    c.promised-count.ensures (c.read_count.ensures.ended ended)
+
+pub returns-in_err-read_line-clause-ended : goal.returns-in_err-read_line-clause-ended
+returns-in_err-read_line-clause-ended g c = λ empty ended.
+    cut_line (bytes_promised c.args.dump) _ _ _ _ empty (c.read_line.ensures.ended (search rules))
 
 pub returns-in_err-read_line-clause-part : goal.returns-in_err-read_line-clause-part
 returns-in_err-read_line-clause-part g c =

@@ -25,14 +25,14 @@ returns-clause-request g c = λ empty.
 
 pub returns-clause-ended : goal.returns-clause-ended
 returns-clause-ended g c = λ empty ended.
-    cut_bytes _ _ _ _ _ _ c.without_end.result.now _ empty c.in_ok-read_line.ensures.line
+    cut_bytes counted_by _ _ _ _ _ _ c.without_end.result.now _ empty c.in_ok-read_line.ensures.line
     c.in_ok-read_line.ensures.all
     (λ front is. c.without_end.ensures front (c.as_slice.ensures.value ∙ is))
     c.counted-count.ensures (c.read_count.ensures.ended ended)
 
 pub returns-in_err-read_line-clause-ended : goal.returns-in_err-read_line-clause-ended
 returns-in_err-read_line-clause-ended g c =
-    λ empty ended. cut_line _ _ _ _ empty (c.read_line.ensures.ended (search rules))
+    λ empty ended. cut_line counted_by _ _ _ _ empty (c.read_line.ensures.ended (search rules))
 
 pub returns-in_err-read_line-clause-part : goal.returns-in_err-read_line-clause-part
 returns-in_err-read_line-clause-part g c =
