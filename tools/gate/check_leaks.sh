@@ -53,7 +53,7 @@ for _ in $(seq 600); do
     sleep 0.1
 done
 image | watched taken serve --connections 1 --port "$port" > /dev/null; judge 'a port in use' $? 1 taken
-printf 'PAINT 0 0 130 70\nPUBLISH\nPIN\nAT city 3 4\nDUMP\nCLEAR 0 0 65 1\nSTAMP 0 0 11\nP1\n2 2\n1001PUBLISH\nCOLLECT\nPAINT 3 3 4 4\n' | watched ask ask --port "$port" > /dev/null
+printf 'PAINT 0 0 130 70\nPUBLISH\nPIN\nAT city 3 4\nUNPIN\nPIN\nAT city 3 4\nUNPIN\nPIN\nDUMP\nCLEAR 0 0 65 1\nSTAMP 0 0 11\nP1\n2 2\n1001PUBLISH\nCOLLECT\nPAINT 3 3 4 4\n' | watched ask ask --port "$port" > /dev/null
 judge 'a client that quits with a pin' $? 0 ask
 printf 'PAINT 5 5 9 9\nREVERT\nCHECKPOINT\nPAINT 0 0 70 65\nPUBLISH\nQUIT\n' | timeout 60 "$program" ask --port "$port" > /dev/null
 printf 'STAMP 0 0 900\nP1' | timeout 60 "$program" ask --port "$port" > /dev/null

@@ -112,8 +112,8 @@ check_words() {
         clearmap $command --help > /dev/null; expect "help of '$command'" $? 0 '' ''
         clearmap $command --help > /dev/full; expect "help of '$command' on a full disk" $? 1 '' ''
     done
-    text=$(clearmap --version); expect 'the version' $? 0 "$text" 'clearmap 0.3.0'
-    text=$(clearmap --version <&-); expect 'the version with a closed standard input' $? 0 "$text" 'clearmap 0.3.0'
+    text=$(clearmap --version); expect 'the version' $? 0 "$text" 'clearmap 0.4.0'
+    text=$(clearmap --version <&-); expect 'the version with a closed standard input' $? 0 "$text" 'clearmap 0.4.0'
     clearmap --help >&-; expect 'help with a closed standard output' $? 1 '' ''
     clearmap dist --metric no 2> /dev/null >&-; expect 'a mistake with a closed standard output' $? 2 '' ''
     text=$(clearmap 2> /dev/null); expect 'no command' $? 2 "$text" ''

@@ -177,11 +177,7 @@ def log(numbers, answers):
             check(f"{count} commands", line.reverts(1, count), count)
             check(f"one command more than {count}", line.ask("REVERT\n"), answers[1])
             check("a checkpoint", line.ask("CHECKPOINT\n"), f"OK {count + 1}")
-            check(
-                "a command after it",
-                line.ask("REVERT\n"),
-                f"OK {count + 2}" if count > 1 else f"OK {count + 2}",
-            )
+            check("a command after it", line.ask("REVERT\n"), f"OK {count + 2}")
             check("the end", line.ask("QUIT\n"), "BYE")
             check(
                 "what was served, with its checkpoints", server.last(), (f"SERVED 1 {count + 2}", 0)

@@ -1,6 +1,6 @@
 //! The copy of a version that a pin reads into, which a session keeps from one pin to the next.
 
-ghost use Rattle.std.specs.Prelude.{◌≡◌, ℕ, ◌<◌, IfOk, IfErr};
+ghost use Rattle.std.specs.Prelude.{◌≡◌, ◌≢◌, ℕ, ◌<◌, None, IfOk, IfErr, IfSome, IsOk};
 ghost use Rattle.std.specs.Int.{bit_at};
 ghost use Rattle.bits.specs.Cells.{IsBitmap, IsSide};
 ghost use Rattle.bits.specs.Tiles.{tiles_down};
@@ -31,6 +31,34 @@ impl Model for Room {
 
     ghost invariant = { λ r. IfSome r.copy (λ copy. (copy.value.bitmap.width ≡ r.width)
         × (copy.value.bitmap.height ≡ r.height)) };
+}
+
+/// The copy that a pin has left, of which no band is read any more, or a new one of this size. One
+/// that is there is taken without memory.
+fn renewed(
+    left: Option<Box<VersionCopy>>,
+    alloc: Global,
+    width: u16,
+    height: u16,
+) -> Result<Box<VersionCopy>, Refusal>
+    requires width { IsSide width }
+    requires height { IsSide height }
+    requires left { IfSome left (λ copy. (copy.value.bitmap.width ≡ width)
+        × (copy.value.bitmap.height ≡ height)) }
+    ensures bitmap { IfOk result (λ copy. IsBitmap copy.value.bitmap) }
+    ensures size { IfOk result (λ copy. (copy.value.bitmap.width ≡ width)
+        × (copy.value.bitmap.height ≡ height)) }
+    ensures unread { IfOk result (λ copy. (k : ℕ) → k < tiles_down copy.value.bitmap.height
+        → bit_at copy.value.unread k ≡ 1) }
+    ensures free { left ≢ None → IsOk result }
+    ensures memory { IfErr result (λ refusal. refusal ≡ Memory) }
+{
+    if let Some(mut copy) = left {
+        copy.renew();
+        return Ok(copy);
+    }
+    let bitmap = Bitmap::blank(alloc, width, height)?;
+    Ok(Box::new(alloc, VersionCopy::fresh(bitmap)).map_err(AllocError::from)?)
 }
 
 impl Room {
@@ -72,11 +100,6 @@ impl Room {
             → bit_at copy.value.unread k ≡ 1) }
         ensures memory { IfErr result (λ refusal. refusal ≡ Memory) }
     {
-        if let Some(mut copy) = self.copy.take() {
-            copy.renew();
-            return Ok(copy);
-        }
-        let bitmap = Bitmap::blank(alloc, self.width, self.height)?;
-        Ok(Box::new(alloc, VersionCopy::fresh(bitmap)).map_err(AllocError::from)?)
+        renewed(self.copy.take(), alloc, self.width, self.height)
     }
 }

@@ -3,7 +3,8 @@
 //!
 //! Each requires that a seat that has announced a version holds one.
 
-ghost use Rattle.std.specs.Prelude.{◌≡◌, ◌<◌, true, Some, vec_len, vec_capacity, IfOk, IfErr, OnOk};
+ghost use Rattle.std.specs.Prelude.{◌≡◌, ◌<◌, ◌≤◌, ◌+◌, ◌*◌, true, Some, max, vec_len};
+ghost use Rattle.std.specs.Prelude.{vec_capacity, IfOk, IfErr, OnOk};
 ghost use Rattle.events.specs.declared.command.Command.TheVariants.{Paint, Stamp, Publish};
 ghost use Rattle.events.specs.declared.command.Command.TheVariants.{Revert, Collect, Checkpoint};
 ghost use Rattle.events.specs.Ledger.{takes_room};
@@ -22,6 +23,23 @@ use bits::Bitmap;
 use events::{Command, Entry, Reply};
 use metric::{Rect, Refusal};
 use shelf::{ReaderSeat, Request, StoreEntry, StoreName, Ticket, meet};
+use std::alloc::AllocError;
+
+/// The capacity that a log has after its first entry.
+const FIRST_ROOM: usize = 16;
+
+/// Makes sure that a log has capacity for another entry: where it is full, it takes as much again.
+fn make_room(log: &mut Vec<StoreEntry>) -> Result<(), AllocError>
+    ensures items { log.new.items ≡ log.old.items }
+    ensures room { OnOk result (vec_len log.new < vec_capacity log.new) }
+    ensures most { vec_capacity log.new
+        ≤ max (vec_capacity log.old) (2 * vec_len log.old + 16) }
+{
+    if log.len() < log.capacity() {
+        return Ok(());
+    }
+    log.reserve_exact(log.len().max(FIRST_ROOM))
+}
 
 /// Judges a command, and reserves capacity for its entry, after all other refusals; a checkpoint
 /// needs none.
@@ -36,10 +54,12 @@ fn admit<'a>(
         → vec_len log.new < vec_capacity log.new) }
     ensures refused { IfErr result (λ refusal. Refuses holding.now command.now refusal) }
     ensures items { log.new.items ≡ log.old.items }
+    ensures most { vec_capacity log.new
+        ≤ max (vec_capacity log.old) (2 * vec_len log.old + 16) }
 {
     let judged = holding.judge(command)?;
     if command.takes_room() {
-        log.reserve(1)?;
+        make_room(log)?;
     }
     Ok(judged)
 }
@@ -48,7 +68,8 @@ fn admit<'a>(
 /// stays.
 fn keep(log: &mut Vec<StoreEntry>, signed: StoreEntry)
     requires { takes_room signed.entry.command ≡ true → vec_len log.old < vec_capacity log.old }
-    ensures { log.new.items ≡ entries_kept_after log.old.items signed }
+    ensures items { log.new.items ≡ entries_kept_after log.old.items signed }
+    ensures capacity { vec_capacity log.new ≡ vec_capacity log.old }
 {
     if signed.entry.command.takes_room() {
         log.push_reserved(signed);

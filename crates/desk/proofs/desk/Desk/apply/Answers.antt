@@ -25,7 +25,7 @@ invariant_of-self-2 g c =
       carried = c.carry-reply.ensures.carried;
     } in
     desk_after z d _ _ _ _ _ _ _ _ c.self.inside.log.items _ _ done c.self.invariant.kept_is
-    (c.keep.ensures
+    (c.keep.ensures.items
     ∙ ap (λ (l : List StoreEntry). entries_kept_after l
     (signed c.number.result c.args.command c.carry-reply.result)) c.admit.ensures.items)
     c.meet-2.ensures.keeper c.carry-reply.ensures.place_each
