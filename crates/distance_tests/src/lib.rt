@@ -21,6 +21,8 @@ mod distance_tables;
 #[cfg(test)]
 mod draws;
 #[cfg(test)]
+mod footprints;
+#[cfg(test)]
 mod gates;
 #[cfg(test)]
 mod image_limits;

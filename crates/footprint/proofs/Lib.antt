@@ -1,0 +1,11 @@
+mod Convexes
+mod Multiples
+mod Points
+mod Quotients
+mod Ranges
+mod Rects
+mod Rings
+mod RowHits
+mod Sides
+mod Starts
+mod Words
