@@ -42,9 +42,13 @@ const char *clearmap_status_text(uint32_t status) {
     case CLEARMAP_TILES: return "the marks of tiles lie among the rows, or the memory ends first";
     case CLEARMAP_METRIC: return "there is no metric of this number";
     case CLEARMAP_EDGE: return "there is no edge of this number";
+    case CLEARMAP_COSTS: return "a table of costs has no entry";
     case CLEARMAP_POINTS: return "a path has no point, or over 1000";
     case CLEARMAP_OUTSIDE: return "a cell, row, rectangle or point is not in the map, or is empty";
     case CLEARMAP_CROOKED: return "a point of a path is not in the row or column of the one before";
+    case CLEARMAP_CORNERS: return "a polygon has under 3 corners, or over 128, or the last too few";
+    case CLEARMAP_FAR: return "a corner of a polygon is 16,384 columns or rows away, or more";
+    case CLEARMAP_BENT: return "a polygon is not convex, or does not turn from x to y";
     case CLEARMAP_ROOM: return "there is too little room for the answers";
     case CLEARMAP_RANGE: return "low is above high, so that no byte marks an obstacle";
     case CLEARMAP_MEMORY: return "malloc had no memory for the call";

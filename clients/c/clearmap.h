@@ -15,8 +15,8 @@
  *         metres = sqrt(near.dist) * metres_per_cell; // from middle to middle
  *
  * Status. Each call returns CLEARMAP_DONE (0), or what is wrong with it. A call with another status
- * has written nothing. Of several faults, the status is the first in the order in which statuses
- * are listed below.
+ * has written nothing, but for *wrong of a list. Of several faults, the status is the first in the
+ * order in which statuses are listed below.
  *
  * Threads. The library keeps no state between calls and starts no thread. Any thread may make any
  * call at any time, even while others read the same map. No other thread may touch what a call
@@ -29,10 +29,10 @@
  * A call that allocates memory is not made from a signal handler, nor in the forked child of a
  * process that has threads.
  *
- * Memory. Only the calls `distances` and `nearest` can return CLEARMAP_MEMORY: they ask malloc for
- * a copy of the map in bits, an eighth of a byte per cell in rows of whole words, and for at most
- * 280 bytes per column and 1700 more, and free all of it before they return. The other calls
- * allocate nothing. The stack grows by at most 6 KB.
+ * Memory. Only the calls `distances`, `nearest` and `costs` can return CLEARMAP_MEMORY: they ask
+ * malloc for a copy of the map in bits, an eighth of a byte per cell in rows of whole words, and
+ * for at most 280 bytes per column and 1700 more, and free all of it before they return. The other
+ * calls allocate nothing. The stack grows by at most 6 KB.
  *
  * On x86-64 the library needs SSE 4.2 (x86-64-v2). Without it the system's loader refuses the
  * shared library, from glibc 2.33 on; in a program with the static one nothing checks it.
@@ -61,11 +61,11 @@ extern "C" {
 #endif
 
 #define CLEARMAP_VERSION_MAJOR 0
-#define CLEARMAP_VERSION_MINOR 3
+#define CLEARMAP_VERSION_MINOR 4
 #define CLEARMAP_VERSION_PATCH 0
-#define CLEARMAP_VERSION "0.3.0"
+#define CLEARMAP_VERSION "0.4.0"
 
-/* The version of the library that is linked, as "0.3.0". It is constant, and never null. */
+/* The version of the library that is linked, as "0.4.0". It is constant, and never null. */
 const char *clearmap_version(void);
 
 /* ---- Statuses -------------------------------------------------------------------------------- */
@@ -79,11 +79,17 @@ enum {
                               they do */
     CLEARMAP_METRIC = 4,   /* there is no metric of this number */
     CLEARMAP_EDGE = 5,     /* there is no edge of this number */
+    CLEARMAP_COSTS = 13,   /* a table of costs has no entry */
     CLEARMAP_POINTS = 6,   /* a path has no point, or over 1000 */
     CLEARMAP_OUTSIDE = 7,  /* a cell, row, rectangle or point is not in the map; or rows end before
                               they begin; or a rectangle has no cell */
     CLEARMAP_CROOKED = 8,  /* a point of a path is neither in the row nor in the column of the point
                               before it */
+    CLEARMAP_CORNERS = 14, /* a polygon has under 3 corners, or over 128; or the corners of the last
+                              polygon of a list are too few */
+    CLEARMAP_FAR = 15,     /* a corner of a polygon is 16,384 columns or rows away, or more */
+    CLEARMAP_BENT = 16,    /* a polygon is not convex, or does not turn from x to y, at some corner;
+                              or it goes round more than once */
     CLEARMAP_ROOM = 9,     /* there is too little room for the answers */
     CLEARMAP_RANGE = 11,   /* low is above high, so that no byte marks an obstacle */
     CLEARMAP_MEMORY = 10   /* malloc had no memory for the call */
@@ -220,6 +226,27 @@ CLEARMAP_CHECKED
 uint32_t clearmap_unpack(const uint64_t *words, size_t words_length, const clearmap_bits *map,
                          uint8_t free, uint8_t obstacle, uint8_t *bytes, size_t bytes_length);
 
+/*
+ * Makes each cell of columns x0 to x1 - 1 of rows y0 to y1 - 1 an obstacle; all others stay as they
+ * are. No mark need be cleared by hand: paint clears those of the bands and tiles that it paints
+ * in. Where a mark hid bits, these become 0 first, so that no other cell changes. Bits past the
+ * last column may become others. Words that are neither in the map's rows nor marks stay as they
+ * are.
+ * Status: SIZE, STRIDE, LENGTH, TILES, OUTSIDE.
+ */
+CLEARMAP_CHECKED
+uint32_t clearmap_paint(uint64_t *words, size_t words_length, clearmap_bits *map, uint32_t x0,
+                        uint32_t y0, uint32_t x1, uint32_t y1);
+
+/*
+ * Makes each cell of the rectangle free, as paint makes it an obstacle. Marks stay as they are:
+ * clearmap_mark finds the bands and tiles that are blank now.
+ * Status: that of paint.
+ */
+CLEARMAP_CHECKED
+uint32_t clearmap_clear(uint64_t *words, size_t words_length, const clearmap_bits *map, uint32_t x0,
+                        uint32_t y0, uint32_t x1, uint32_t y1);
+
 /* ---- All cells of some rows ------------------------------------------------------------------ */
 
 /*
@@ -249,6 +276,28 @@ uint32_t clearmap_bits_nearest(const uint64_t *words, size_t words_length, const
                                clearmap_metric metric, clearmap_edge edge, uint32_t y0, uint32_t y1,
                                clearmap_near *nears, size_t nears_length);
 
+/*
+ * Writes the cost of each cell of rows y0 to y1 - 1, in row-major order, a byte a cell: table[d]
+ * for the distance d, and the table's last entry for each distance past its end and where there is
+ * no obstacle. table_length is 1 or more, and costs_length is at least (y1 - y0) * width; the rest
+ * of costs stays as it is.
+ *
+ *     uint8_t table[26]; // by euclid2: 254 in an obstacle, less with each cell, 0 from 5 cells on
+ *     for (int d = 0; d < 26; d++) table[d] = d < 25 ? 254 * exp(-sqrt(d)) : 0;
+ *
+ * Status: SIZE, STRIDE, LENGTH, TILES, METRIC, EDGE, COSTS, OUTSIDE, ROOM, RANGE, MEMORY.
+ */
+CLEARMAP_CHECKED
+uint32_t clearmap_bytes_costs(const uint8_t *bytes, size_t bytes_length, const clearmap_bytes *map,
+                              clearmap_metric metric, clearmap_edge edge, const uint8_t *table,
+                              size_t table_length, uint32_t y0, uint32_t y1, uint8_t *costs,
+                              size_t costs_length);
+CLEARMAP_CHECKED
+uint32_t clearmap_bits_costs(const uint64_t *words, size_t words_length, const clearmap_bits *map,
+                             clearmap_metric metric, clearmap_edge edge, const uint8_t *table,
+                             size_t table_length, uint32_t y0, uint32_t y1, uint8_t *costs,
+                             size_t costs_length);
+
 /* ---- Queries --------------------------------------------------------------------------------- */
 /* They search outwards from the cells of the query, in place. They are faster over bits. */
 
@@ -264,6 +313,45 @@ CLEARMAP_CHECKED
 uint32_t clearmap_bits_at(const uint64_t *words, size_t words_length, const clearmap_bits *map,
                           clearmap_metric metric, clearmap_edge edge, uint32_t x, uint32_t y,
                           clearmap_near *near);
+
+/*
+ * Writes the nearest obstacle of each of `cells_length` cells, in their order, any number of them.
+ * nears_length is at least cells_length; the rest stays as it is. With the status OUTSIDE, *wrong
+ * is the index of the first cell that is not in the map, and no answer is written; with any other
+ * status *wrong stays as it is.
+ * Status: SIZE, STRIDE, LENGTH, TILES, METRIC, EDGE, OUTSIDE, ROOM, RANGE.
+ */
+CLEARMAP_CHECKED
+uint32_t clearmap_bytes_at_many(const uint8_t *bytes, size_t bytes_length,
+                                const clearmap_bytes *map, clearmap_metric metric,
+                                clearmap_edge edge, const clearmap_cell *cells, size_t cells_length,
+                                clearmap_near *nears, size_t nears_length, size_t *wrong);
+CLEARMAP_CHECKED
+uint32_t clearmap_bits_at_many(const uint64_t *words, size_t words_length, const clearmap_bits *map,
+                               clearmap_metric metric, clearmap_edge edge,
+                               const clearmap_cell *cells, size_t cells_length,
+                               clearmap_near *nears, size_t nears_length, size_t *wrong);
+
+/*
+ * Writes a byte for each of `cells_length` cells, in their order: 1 where no obstacle is nearer
+ * than d, in the unit of the metric, and 0 where one is: whether each cell is clear of d, as a path
+ * of it alone. 0 is clear everywhere, in obstacles too. Where no obstacle is nearer, it searches no
+ * further than d, and is faster than at_many. clear_length is at least cells_length; the rest stays
+ * as it is. *wrong is that of at_many.
+ * Status: that of at_many.
+ */
+CLEARMAP_CHECKED
+uint32_t clearmap_bytes_clear_many(const uint8_t *bytes, size_t bytes_length,
+                                   const clearmap_bytes *map, clearmap_metric metric,
+                                   clearmap_edge edge, const clearmap_cell *cells,
+                                   size_t cells_length, uint32_t d, uint8_t *clear,
+                                   size_t clear_length, size_t *wrong);
+CLEARMAP_CHECKED
+uint32_t clearmap_bits_clear_many(const uint64_t *words, size_t words_length,
+                                  const clearmap_bits *map, clearmap_metric metric,
+                                  clearmap_edge edge, const clearmap_cell *cells,
+                                  size_t cells_length, uint32_t d, uint8_t *clear,
+                                  size_t clear_length, size_t *wrong);
 
 /*
  * Writes the first cell with the least distance in columns x0 to x1 - 1 of rows y0 to y1 - 1, in
@@ -341,6 +429,53 @@ static inline uint32_t clearmap_clear_distance(double radius, double resolution)
     const uint32_t d = (uint32_t)square;
     return d < square ? d + 1 : d;
 }
+
+/* ---- Footprints ------------------------------------------------------------------------------ */
+
+/*
+ * A corner of a polygon, in steps of 1/65536 of a cell: the square of cell (x, y) reaches from
+ * 65536 x to 65536 (x + 1) and from 65536 y to 65536 (y + 1). Its x and y are -(2^30 - 1) to
+ * 2^30 - 1, less than 16,384 cells either way, on the map or off it.
+ */
+typedef struct clearmap_corner {
+    int32_t x, y;
+} clearmap_corner;
+
+/*
+ * Writes 1 to *hit where a polygon, as the outline of a robot at a pose, hits an obstacle, and 0
+ * where it doesn't. It hits where it and an obstacle's square share a point inside both: to touch a
+ * square isn't to hit it. With CLEARMAP_WALL it also hits where a corner is off the map: left of 0,
+ * above 0, right of 65536 * width or below 65536 * height.
+ * A polygon has 3 to 128 corners, and sides from each to the next and from the last to the first.
+ * It is convex and turns from x to y, by the sign of the product of two sides that follow one
+ * another, at each corner; on a map whose rows go down that looks clockwise.
+ * Status: SIZE, STRIDE, LENGTH, TILES, EDGE, CORNERS, FAR, BENT, RANGE.
+ */
+CLEARMAP_CHECKED
+uint32_t clearmap_bytes_hits(const uint8_t *bytes, size_t bytes_length, const clearmap_bytes *map,
+                             clearmap_edge edge, const clearmap_corner *corners,
+                             size_t corners_length, uint8_t *hit);
+CLEARMAP_CHECKED
+uint32_t clearmap_bits_hits(const uint64_t *words, size_t words_length, const clearmap_bits *map,
+                            clearmap_edge edge, const clearmap_corner *corners,
+                            size_t corners_length, uint8_t *hit);
+
+/*
+ * The same for many polygons of `count` corners each, one after another: writes a byte for each.
+ * corners_length is a multiple of count, and hits_length at least corners_length / count; the rest
+ * stays as it is. Where one polygon is refused, nothing is written for any.
+ * Status: SIZE, STRIDE, LENGTH, TILES, EDGE, CORNERS, FAR, BENT, ROOM, RANGE.
+ */
+CLEARMAP_CHECKED
+uint32_t clearmap_bytes_hits_many(const uint8_t *bytes, size_t bytes_length,
+                                  const clearmap_bytes *map, clearmap_edge edge,
+                                  const clearmap_corner *corners, size_t corners_length,
+                                  size_t count, uint8_t *hits, size_t hits_length);
+CLEARMAP_CHECKED
+uint32_t clearmap_bits_hits_many(const uint64_t *words, size_t words_length,
+                                 const clearmap_bits *map, clearmap_edge edge,
+                                 const clearmap_corner *corners, size_t corners_length,
+                                 size_t count, uint8_t *hits, size_t hits_length);
 
 #ifdef __cplusplus
 }

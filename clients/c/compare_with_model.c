@@ -15,7 +15,7 @@
 #include <stdlib.h>
 #include <string.h>
 
-enum { ITEMS = 1 << 16, POINTS = 1001, STATUSES = 13 };
+enum { ITEMS = 1 << 16, POINTS = 1001, STATUSES = 14, KINDS = 23 };
 
 /* The calls of a library, by the names of the header. */
 #define EACH_CALL(of)                                                              \
@@ -23,7 +23,9 @@ enum { ITEMS = 1 << 16, POINTS = 1001, STATUSES = 13 };
     of(bytes_distances) of(bytes_nearest) of(bytes_at) of(bytes_rect)              \
     of(bytes_path) of(bytes_clear_of)                                              \
     of(bits_distances) of(bits_nearest) of(bits_at) of(bits_rect)                  \
-    of(bits_path) of(bits_clear_of)
+    of(bits_path) of(bits_clear_of)                                                \
+    of(bytes_at_many) of(bytes_clear_many) of(bits_at_many) of(bits_clear_many)    \
+    of(bytes_costs) of(bits_costs) of(paint) of(clear)
 
 struct library {
 #define CALL(name) __typeof__(clearmap_##name) *name;
@@ -82,12 +84,14 @@ struct given {
     clearmap_bits bits;
     uint32_t metric, edge, x0, y0, x1, y1, d;
     size_t bytes_length, words_length, points_length, room, words_room, cells_room, tiles;
+    size_t points_room, entries;
     uint8_t free, obstacle;
 };
 
 static uint8_t bytes[ITEMS];
 static uint64_t words[ITEMS];
 static clearmap_cell points[POINTS];
+static uint8_t table[301];
 
 static void draw_cells(const struct given *g, uint32_t thousandths) {
     for (size_t k = 0; k < g->bytes_length; k++)
@@ -138,6 +142,8 @@ static struct given draw_given(void) {
     g.words_room = length_for(across * height), g.cells_room = length_for((size_t)width * height);
     g.free = (uint8_t)draw(256), g.obstacle = (uint8_t)draw(256);
     draw_points(&g, width, height);
+    g.points_room = length_for(g.points_length);
+    g.entries = is_odd_call && !draw(12) ? 0 : 1 + draw(draw(2) ? 3 : 300);
     draw_cells(&g, shares[draw(4)]);
     return g;
 }
@@ -146,6 +152,7 @@ static struct given draw_given(void) {
 
 struct answers {
     uint32_t status;
+    size_t wrong;
     clearmap_bits bits;
     clearmap_near near;
     clearmap_found found;
@@ -162,6 +169,7 @@ struct answers {
 #define WORDS(g) OVER(bits, words, g)
 #define RECT(g) (g)->x0, (g)->y0, (g)->x1, (g)->y1
 #define PATH(g) points, (g)->points_length
+#define TABLE(g) table, (g)->entries, (g)->y0, (g)->y1
 
 static uint32_t call(const struct library *of, int kind, const struct given *g, struct answers *a) {
     uint32_t *distances = a->all.distances;
@@ -185,11 +193,39 @@ static uint32_t call(const struct library *of, int kind, const struct given *g, 
     case 11: return of->bits_rect(WORDS(g), RECT(g), found);
     case 12: return of->bits_path(WORDS(g), PATH(g), found);
     case 13: return of->bits_clear_of(WORDS(g), PATH(g), g->d, found);
+    case 14: return of->bytes_at_many(BYTES(g), PATH(g), nears, g->points_room, &a->wrong);
+    case 15: return of->bits_at_many(WORDS(g), PATH(g), nears, g->points_room, &a->wrong);
+    case 16:
+        return of->bytes_clear_many(BYTES(g), PATH(g), g->d, a->all.cells, g->points_room,
+                                    &a->wrong);
+    case 17:
+        return of->bits_clear_many(WORDS(g), PATH(g), g->d, a->all.cells, g->points_room,
+                                   &a->wrong);
+    case 18: return of->bytes_costs(BYTES(g), TABLE(g), a->all.cells, g->room);
+    case 19: return of->bits_costs(WORDS(g), TABLE(g), a->all.cells, g->room);
     default:
         a->bits = g->bits;
         memcpy(a->all.words, words, sizeof *words * g->words_length);
-        return of->mark(a->all.words, g->words_length, &a->bits, g->tiles);
+        if (kind == 20) return of->mark(a->all.words, g->words_length, &a->bits, g->tiles);
+        if (kind == 21) return of->paint(a->all.words, g->words_length, &a->bits, RECT(g));
+        return of->clear(a->all.words, g->words_length, &a->bits, RECT(g));
     }
+}
+
+/* A map that was drawn on, as its cells alone: which marks hide what is left open. */
+static void forget_marks(clearmap_bits *map, uint64_t *its) {
+    for (uint32_t y = 0; y < map->height; y++) {
+        uint64_t marks = map->tiles ? its[map->tiles + y / 64] : 0;
+        for (uint32_t k = 0; k < (map->width + 63) / 64; k++) {
+            bool is_hidden = (map->blank_bands >> (y / 64) & 1) || (marks >> k & 1);
+            uint64_t *word = &its[y * map->stride + k];
+            *word = is_hidden ? 0 : *word;
+            if (map->width - 64 * k < 64) *word &= (1ull << (map->width % 64)) - 1;
+        }
+    }
+    for (uint32_t band = 0; map->tiles && band < (map->height + 63) / 64; band++)
+        its[map->tiles + band] = 0;
+    map->blank_bands = 0;
 }
 
 /* Makes a call on answers that begin as the same bytes; a cell without a meaning becomes 0. */
@@ -198,6 +234,7 @@ static void answer(const struct library *of, int kind, const struct given *g, st
     a->status = call(of, kind, g, a);
     if (a->status == CLEARMAP_DONE && a->found.near.dist == CLEARMAP_NO_OBSTACLE)
         a->found.cell = (clearmap_cell){0, 0};
+    if (a->status == CLEARMAP_DONE && kind > 20) forget_marks(&a->bits, a->all.words);
 }
 
 int main(int argc, char **argv) {
@@ -205,8 +242,9 @@ int main(int argc, char **argv) {
     if (argc != 4) return 2;
     struct library library = load(argv[1]), model = load(argv[2]);
     long calls = atol(argv[3]), wrong = 0, seen[STATUSES] = {0};
+    for (size_t k = 0; k < sizeof table; k++) table[k] = (uint8_t)draw(256);
     for (long k = 0; k < calls; k++) {
-        int kind = (int)draw(15);
+        int kind = (int)draw(KINDS);
         struct given g = draw_given();
         answer(&library, kind, &g, &ours);
         answer(&model, kind, &g, &theirs);

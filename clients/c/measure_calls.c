@@ -18,7 +18,7 @@
 #include <string.h>
 #include <sys/mman.h>
 
-enum { STACK = 1 << 18, PAINT = 0xC5, CALLS = 15 };
+enum { STACK = 1 << 18, PAINT = 0xC5, CALLS = 27 };
 
 /* ---- The heap -------------------------------------------------------------------------------- */
 
@@ -59,7 +59,7 @@ void __wrap_free(void *place) {
 struct map {
     clearmap_bytes in_bytes;
     clearmap_bits in_bits;
-    uint8_t *bytes;
+    uint8_t *bytes, *bytes_out;
     uint64_t *words, *packed;
     uint32_t *distances;
     clearmap_near *nears;
@@ -77,10 +77,14 @@ struct task {
 static const char *const names[CALLS] = {
     "pack", "unpack", "bytes_distances", "bytes_nearest", "bytes_at", "bytes_rect", "bytes_path",
     "bytes_clear_of", "bits_distances", "bits_nearest", "bits_at", "bits_rect", "bits_path",
-    "bits_clear_of", "mark"};
+    "bits_clear_of", "mark", "paint", "clear", "bytes_at_many", "bytes_clear_many", "bytes_costs",
+    "bits_at_many", "bits_clear_many", "bits_costs", "bytes_hits", "bits_hits", "bytes_hits_many",
+    "bits_hits_many"};
 
-#define BYTES m->bytes, m->all, &m->in_bytes, t->metric, t->edge
-#define WORDS m->words, m->length, &m->in_bits, t->metric, t->edge
+#define AREA m->bytes, m->all, &m->in_bytes
+#define PLACE m->words, m->length, &m->in_bits
+#define BYTES AREA, t->metric, t->edge
+#define WORDS PLACE, t->metric, t->edge
 
 static uint32_t call(const struct task *t) {
     const struct map *m = t->map;
@@ -90,6 +94,13 @@ static uint32_t call(const struct task *t) {
     clearmap_near near;
     clearmap_found found;
     clearmap_bits bits;
+    static const uint8_t table[9] = {9, 8, 7, 6, 5, 4, 3, 2, 1};
+    uint8_t clear[3];
+    const int32_t x = 65536 * (int32_t)width + 9, y = 65536 * (int32_t)height + 9;
+    clearmap_corner corners[8] = {{-9, 0}, {x, -9}, {x, y}, {-9, y},
+                                  {0, 0},  {9, 0},  {9, 9}, {0, 9}};
+    clearmap_near nears[3];
+    size_t wrong;
     switch (t->kind) {
     case 0: return clearmap_pack(m->bytes, m->all, &m->in_bytes, m->packed, m->all_words, &bits);
     case 1: return clearmap_unpack(m->words, m->length, &m->in_bits, 0, 1, m->bytes, m->all);
@@ -105,9 +116,26 @@ static uint32_t call(const struct task *t) {
     case 11: return clearmap_bits_rect(WORDS, 0, 0, width, height, &found);
     case 12: return clearmap_bits_path(WORDS, path, 3, &found);
     case 13: return clearmap_bits_clear_of(WORDS, path, 3, 50, &found);
-    default:
+    case 14:
         bits = m->in_bits;
         return clearmap_mark(m->words, m->length, &bits, m->all_words);
+    case 15: /* each tile's mark is taken away */
+        bits = m->in_bits;
+        memcpy(m->packed, m->words, 8 * m->length);
+        return clearmap_paint(m->packed, m->length, &bits, 0, 0, width, height);
+    case 16:
+        memcpy(m->packed, m->words, 8 * m->length);
+        return clearmap_clear(m->packed, m->length, &m->in_bits, 0, 0, width, height);
+    case 17: return clearmap_bytes_at_many(BYTES, path, 3, nears, 3, &wrong);
+    case 18: return clearmap_bytes_clear_many(BYTES, path, 3, 50, clear, 3, &wrong);
+    case 19: return clearmap_bytes_costs(BYTES, table, 9, 0, height, m->bytes_out, m->all);
+    case 20: return clearmap_bits_at_many(WORDS, path, 3, nears, 3, &wrong);
+    case 21: return clearmap_bits_clear_many(WORDS, path, 3, 50, clear, 3, &wrong);
+    case 22: return clearmap_bits_costs(WORDS, table, 9, 0, height, m->bytes_out, m->all);
+    case 23: return clearmap_bytes_hits(AREA, t->edge, corners, 4, clear);
+    case 24: return clearmap_bits_hits(PLACE, t->edge, corners, 4, clear);
+    case 25: return clearmap_bytes_hits_many(AREA, t->edge, corners, 8, 4, clear, 3);
+    default: return clearmap_bits_hits_many(PLACE, t->edge, corners, 8, 4, clear, 3);
     }
 }
 
@@ -156,7 +184,7 @@ static struct map make(uint32_t width, uint32_t height, size_t every) {
     struct map m = {.in_bytes = {width, height, width, 1, 255}, .all = (size_t)width * height};
     m.all_words = ((size_t)width + 63) / 64 * height;
     m.length = m.all_words + ((size_t)height + 63) / 64;
-    m.bytes = room(m.all), m.words = room(8 * m.length), m.packed = room(8 * m.all_words);
+    m.bytes = room(m.all), m.bytes_out = room(m.all), m.words = room(8 * m.length), m.packed = room(8 * m.length);
     m.distances = room(4 * m.all), m.nears = room(sizeof *m.nears * m.all);
     for (size_t k = 0; k < m.all; k++) m.bytes[k] = every && k % every == every / 2;
     if (clearmap_pack(m.bytes, m.all, &m.in_bytes, m.words, m.all_words, &m.in_bits)) exit(2);
@@ -164,8 +192,11 @@ static struct map make(uint32_t width, uint32_t height, size_t every) {
     return m;
 }
 
+/* Whether a call has a metric and an edge. */
+static bool is_set(int kind) { return kind > 1 && (kind < 14 || kind > 16); }
+
 static void drop(struct map *m) {
-    free(m->bytes), free(m->words), free(m->packed), free(m->distances), free(m->nears);
+    free(m->bytes), free(m->bytes_out), free(m->words), free(m->packed), free(m->distances), free(m->nears);
 }
 
 int main(void) {
@@ -180,7 +211,7 @@ int main(void) {
         for (size_t share = 0; share < sizeof shares / sizeof *shares; share++) {
             struct map m = make(sides[side][0], sides[side][1], shares[share]);
             for (int kind = 0; kind < CALLS; kind++)
-                for (uint32_t setting = 0; setting < (kind < 2 || kind == CALLS - 1 ? 1 : 6); setting++) {
+                for (uint32_t setting = 0; setting < (is_set(kind) ? 6 : 1); setting++) {
                     struct task t = {&m, NULL, kind, setting / 2, setting % 2, 0, 0, 0, 0, 0};
                     if (!measure(&t, stack)) is_right = false;
                 }

@@ -19,6 +19,8 @@
  * - It leaves other bytes on the stack: "The stack grows by at most 6 KB."
  * - It sets errno, of which no sentence tells.
  * - Its texts have words of their own: "What a status says, in one line without its end."
+ * - Where it paints it takes away all marks of a band, and sets the bits past the edge: "Bits past
+ *   the last column may become others."
  *
  * Nothing is open in the answers, in the order of the statuses, and in what clearmap_pack,
  * clearmap_mark and clearmap_unpack write: the clauses of pack.rt and mark.rt fix blank_bands too.
@@ -213,9 +215,28 @@ static long row_spots(const struct call *c, long y, const struct column *columns
     return count;
 }
 
-/* One row of a table, as nearest obstacles or (where nears is null) as distances. */
+/* What a table is written to: one of the arrays, the others are null; and what distances cost. */
+struct output {
+    clearmap_near *nears;
+    uint32_t *distances;
+    uint8_t *costs;
+    const uint8_t *table;
+    size_t entries, room;
+};
+
+/* The answer of a cell, by its place among those that are asked for. */
+static void put(const struct output *o, size_t k, clearmap_near best) {
+    if (o->nears) o->nears[k] = best;
+    else if (o->distances) o->distances[k] = best.dist;
+    else {
+        bool is_far = best.dist == CLEARMAP_NO_OBSTACLE || best.dist >= o->entries;
+        o->costs[k] = o->table[is_far ? o->entries - 1 : best.dist];
+    }
+}
+
+/* One row of a table, whose first cell has this place. */
 static void write_row(const struct call *c, long y, const struct column *spots, long count,
-                      clearmap_near *nears, uint32_t *distances) {
+                      const struct output *o, size_t from) {
     for (long x = 0, middle = 0; x < (long)c->width; x++) {
         clearmap_near best = nothing;
         while (middle < count && spots[middle].above < x) middle++;
@@ -223,13 +244,12 @@ static void write_row(const struct call *c, long y, const struct column *spots, 
             consider(c, x, y, spots[k].above, spots[k].below, &best);
         for (long k = middle; k-- > 0 && measure(c, spots[k].above - x, 0) <= best.dist;)
             consider(c, x, y, spots[k].above, spots[k].below, &best);
-        if (nears) nears[x] = best;
-        else distances[x] = best.dist;
+        put(o, from + (size_t)x, best);
     }
 }
 
 static void write_rows(const struct call *c, uint32_t y0, uint32_t y1, struct column *columns,
-                       clearmap_near *nears, uint32_t *distances) {
+                       const struct output *o) {
     size_t width = c->width;
     for (long x = 0; x < (long)width + 2; x++)
         columns[x] = (struct column){CLEARMAP_NOWHERE, -1};
@@ -238,27 +258,29 @@ static void write_rows(const struct call *c, uint32_t y0, uint32_t y1, struct co
         if (y < (long)y0) continue;
         long count = row_spots(c, y, columns, columns + width + 2);
         size_t from = (size_t)(y - y0) * width;
-        write_row(c, y, columns + width + 2, count, nears ? nears + from : NULL,
-                  nears ? NULL : distances + from);
+        write_row(c, y, columns + width + 2, count, o, from);
     }
 }
 
-static uint32_t table(struct call c, uint32_t y0, uint32_t y1, clearmap_near *nears,
-                      uint32_t *distances, size_t room) {
-    void *answers = nears ? (void *)nears : (void *)distances;
-    size_t size = nears ? sizeof *nears : sizeof *distances;
-    given(answers, room, size, _Alignof(uint32_t));
-    uint32_t status = map_status(&c);
+static uint32_t table(struct call c, uint32_t y0, uint32_t y1, struct output o) {
+    void *answers = o.nears ? (void *)o.nears : o.distances ? (void *)o.distances : o.costs;
+    size_t size = o.nears ? sizeof *o.nears : o.distances ? sizeof *o.distances : 1;
+    given(answers, o.room, size, size == 1 ? 1 : _Alignof(uint32_t));
+    struct memory costs = o.costs ? given(o.table, o.entries, 1, 1) : (struct memory){NULL, 0};
+    uint32_t sum = read_all(costs), status = map_status(&c);
     if (status) return status;
+    if (o.costs && !o.entries) return CLEARMAP_COSTS;
     if (y1 < y0 || c.height < y1) return CLEARMAP_OUTSIDE;
-    if (room < (size_t)(y1 - y0) * c.width) return CLEARMAP_ROOM;
+    if (o.room < (size_t)(y1 - y0) * c.width) return CLEARMAP_ROOM;
     if ((status = range_status(&c))) return status;
     size_t copy = ((size_t)c.width + 63) / 64 * 8 * c.height;
     struct column *columns = malloc(copy + 280u * c.width + 1700);
     if (!columns) return CLEARMAP_MEMORY;
+    apart(costs, (struct memory){answers, (size_t)(y1 - y0) * c.width * size});
     begin(&c, answers, (size_t)(y1 - y0) * c.width * size);
-    write_rows(&c, y0, y1, columns, nears, distances);
+    write_rows(&c, y0, y1, columns, &o);
     free(columns);
+    duty(sum == read_all(costs), "a thread has written a table that a call reads");
     return done(&c);
 }
 
@@ -342,6 +364,183 @@ static uint32_t path(struct call c, const clearmap_cell *points, size_t count, u
     return done(&c);
 }
 
+/* ---- Lists of cells -------------------------------------------------------------------------- */
+
+/* The status of a call for the cells of a list; tells which is the first that isn't in the map. */
+static uint32_t list_status(const struct call *c, const clearmap_cell *cells, size_t count,
+                            size_t room, size_t *wrong) {
+    uint32_t status = map_status(c);
+    if (status) return status;
+    for (size_t k = 0; k < count; k++)
+        if (cells[k].x >= c->width || cells[k].y >= c->height) {
+            *wrong = k;
+            return CLEARMAP_OUTSIDE;
+        }
+    return room < count ? CLEARMAP_ROOM : range_status(c);
+}
+
+/* The answers for the cells of a list: nearest obstacles or, where nears is null, bytes. */
+static uint32_t list(struct call c, const clearmap_cell *cells, size_t count, uint32_t d,
+                     clearmap_near *nears, uint8_t *clear, size_t room, size_t *wrong) {
+    struct memory asked = given(cells, count, sizeof *cells, _Alignof(clearmap_cell));
+    struct memory told = nears ? given(nears, room, sizeof *nears, _Alignof(clearmap_near))
+                               : given(clear, room, 1, 1);
+    struct memory which = given(wrong, 1, sizeof *wrong, _Alignof(size_t));
+    uint32_t sum = read_all(asked);
+    apart(which, asked), apart(which, told), apart(which, c.read), apart(which, c.layout);
+    uint32_t status = list_status(&c, cells, count, room, wrong);
+    if (status) return status;
+    told.size = nears ? count * sizeof *nears : count;
+    apart(asked, told);
+    begin(&c, nears ? (void *)nears : clear, told.size);
+    find_bounds(&c);
+    for (size_t k = 0; k < count; k++) {
+        clearmap_near near = search(&c, cells[k].x, cells[k].y);
+        if (nears) nears[k] = near;
+        else clear[k] = near.dist == CLEARMAP_NO_OBSTACLE || near.dist >= d;
+    }
+    duty(sum == read_all(asked), "a thread has written a list that a call reads");
+    return done(&c);
+}
+
+/* ---- Rectangles ------------------------------------------------------------------------------ */
+
+/*
+ * Writes the cells of a rectangle. Bits that marks hid, and those past the edge, become others.
+ * Where it paints, no band that it meets has a mark any more.
+ */
+static uint32_t draw_on(uint64_t *words, size_t length, const clearmap_bits *map, clearmap_bits *layout,
+                     uint32_t x0, uint32_t y0, uint32_t x1, uint32_t y1) {
+    struct call c = over_bits(words, length, map, 0, 0);
+    uint32_t status = map_status(&c);
+    bool is_inside = x0 < x1 && x1 <= c.width && y0 < y1 && y1 <= c.height;
+    if (!status && !is_inside) status = CLEARMAP_OUTSIDE;
+    if (status) return status;
+    apart(c.read, c.layout);
+    uint32_t first = layout ? y0 / 64 * 64 : y0, last = layout ? (y1 - 1) / 64 * 64 + 64 : y1;
+    for (uint32_t y = first; y < last && y < c.height; y++)
+        for (uint32_t x = 0; x < c.across * 64; x++) {
+            bool is_in = x0 <= x && x < x1 && y0 <= y && y < y1;
+            bool is_dark = x >= c.width ? layout != NULL : is_in ? layout != NULL
+                                                                 : is_obstacle(&c, x, y);
+            if (!layout && !is_in) continue;
+            uint64_t *word = &words[y * c.stride + x / 64], bit = 1ull << (x % 64);
+            *word = is_dark ? *word | bit : *word & ~bit;
+        }
+    for (uint32_t band = y0 / 64; layout && band <= (y1 - 1) / 64; band++) {
+        layout->blank_bands &= ~(1ull << band);
+        if (layout->tiles) words[layout->tiles + band] = 0;
+    }
+    return CLEARMAP_DONE;
+}
+
+/* ---- Footprints ------------------------------------------------------------------------------ */
+
+/* A list of polygons with `count` corners each. */
+struct rings {
+    const clearmap_corner *corners;
+    struct memory read;
+    size_t length, count;
+    uint32_t sum;
+};
+
+static struct rings taken(const clearmap_corner *corners, size_t length, size_t count) {
+    struct rings r = {.corners = corners, .length = length, .count = count};
+    r.read = given(corners, length, sizeof *corners, _Alignof(clearmap_corner));
+    r.sum = read_all(r.read);
+    return r;
+}
+
+/* Whether the point (px, py) is on the inner side of a to b. */
+static bool is_inner(clearmap_corner a, clearmap_corner b, int64_t px, int64_t py) {
+    return (b.x - (int64_t)a.x) * (py - a.y) > (b.y - (int64_t)a.y) * (px - a.x);
+}
+
+static bool is_convex(const clearmap_corner *ring, size_t count) {
+    size_t down = 0;
+    for (size_t k = 0; k < count; k++) {
+        clearmap_corner a = ring[k], b = ring[(k + 1) % count], c = ring[(k + 2) % count];
+        if (!is_inner(a, b, c.x, c.y)) return false;
+        down += b.y < c.y && !(a.y < b.y);
+    }
+    return down == 1;
+}
+
+static uint32_t rings_status(const struct rings *r) {
+    const int32_t most = (1 << 30) - 1;
+    if (r->count < 3 || r->count > 128 || r->length % r->count) return CLEARMAP_CORNERS;
+    for (size_t k = 0; k < r->length; k++)
+        if (labs(r->corners[k].x) > most || labs(r->corners[k].y) > most) return CLEARMAP_FAR;
+    for (size_t k = 0; k < r->length; k += r->count)
+        if (!is_convex(r->corners + k, r->count)) return CLEARMAP_BENT;
+    return CLEARMAP_DONE;
+}
+
+/* Whether the cell's square and a polygon share a point inside both: no axis parts them. */
+static bool meets(const clearmap_corner *ring, size_t count, long x, long y) {
+    int64_t x0 = 65536 * x, x1 = x0 + 65536, y0 = 65536 * y, y1 = y0 + 65536;
+    bool left = false, right = false, above = false, below = false;
+    for (size_t k = 0; k < count; k++) {
+        clearmap_corner a = ring[k], b = ring[(k + 1) % count];
+        left = left || a.x < x1, right = right || a.x > x0;
+        above = above || a.y < y1, below = below || a.y > y0;
+        if (!is_inner(a, b, x0, y0) && !is_inner(a, b, x1, y0) && !is_inner(a, b, x0, y1)
+            && !is_inner(a, b, x1, y1))
+            return false;
+    }
+    return left && right && above && below;
+}
+
+static bool hits_map(const struct call *c, const clearmap_corner *ring, size_t count) {
+    long width = c->width, height = c->height;
+    int64_t left = INT32_MAX, right = INT32_MIN, top = INT32_MAX, below = INT32_MIN;
+    for (size_t k = 0; k < count; k++) {
+        left = smallest(left, ring[k].x), right = largest(right, ring[k].x);
+        top = smallest(top, ring[k].y), below = largest(below, ring[k].y);
+    }
+    bool is_off = left < 0 || top < 0 || right > 65536 * width || below > 65536 * height;
+    if (c->edge == CLEARMAP_WALL && is_off) return true;
+    long y1 = smallest(height, below / 65536 + 1), x1 = smallest(width, right / 65536 + 1);
+    for (long y = largest(0, top / 65536); y < y1; y++)
+        for (long x = largest(0, left / 65536); x < x1; x++) {
+            if (!bits_from(c, x, y)) x |= 63;
+            else if (is_obstacle(c, x, y) && meets(ring, count, x, y)) return true;
+        }
+    return false;
+}
+
+static uint32_t hits_many(struct call c, struct rings r, uint8_t *hits, size_t room) {
+    struct memory written = given(hits, room, 1, 1);
+    uint32_t status = map_status(&c);
+    if (!status) status = rings_status(&r);
+    if (!status && room < r.length / r.count) status = CLEARMAP_ROOM;
+    if (status || (status = range_status(&c))) return status;
+    apart(r.read, written);
+    begin(&c, hits, r.length / r.count);
+    for (size_t k = 0; k < r.length / r.count; k++)
+        hits[k] = hits_map(&c, r.corners + k * r.count, r.count);
+    duty(r.sum == read_all(r.read), "a thread has written corners that a call reads");
+    return done(&c);
+}
+
+#define HITS(kind, item)                                                                          \
+    uint32_t clearmap_##kind##_hits(const item *items, size_t length, const clearmap_##kind *map, \
+                                    clearmap_edge edge, const clearmap_corner *corners,           \
+                                    size_t corners_length, uint8_t *hit) {                        \
+        return hits_many(over_##kind(items, length, map, 0, edge),                                \
+                         taken(corners, corners_length, corners_length), hit, 1);                 \
+    }                                                                                             \
+    uint32_t clearmap_##kind##_hits_many(const item *items, size_t length,                        \
+                                         const clearmap_##kind *map, clearmap_edge edge,          \
+                                         const clearmap_corner *corners, size_t corners_length,   \
+                                         size_t count, uint8_t *hits, size_t hits_length) {       \
+        return hits_many(over_##kind(items, length, map, 0, edge),                                \
+                         taken(corners, corners_length, count), hits, hits_length);               \
+    }
+
+HITS(bytes, uint8_t)
+HITS(bits, uint64_t)
+
 /* ---- The calls of the header ----------------------------------------------------------------- */
 
 const char *clearmap_version(void) { return CLEARMAP_VERSION; }
@@ -350,7 +549,8 @@ const char *clearmap_status_text(uint32_t status) {
     static const char *const texts[] = {
         "0: no fault", "1: sides", "2: the stride", "3: the length", "4: the metric",
         "5: the edge", "6: how many points", "7: not in the map", "8: crooked", "9: the room",
-        "10: malloc", "11: low, high", "12: the tiles"};
+        "10: malloc", "11: low, high", "12: the tiles", "13: no costs",
+        "14: how many corners", "15: far", "16: bent"};
     return status < sizeof texts / sizeof *texts ? texts[status] : "no status";
 }
 
@@ -410,21 +610,60 @@ uint32_t clearmap_unpack(const uint64_t *words, size_t words_length, const clear
     return done(&c);
 }
 
+uint32_t clearmap_paint(uint64_t *words, size_t words_length, clearmap_bits *map, uint32_t x0,
+                        uint32_t y0, uint32_t x1, uint32_t y1) {
+    return draw_on(words, words_length, map, map, x0, y0, x1, y1);
+}
+
+uint32_t clearmap_clear(uint64_t *words, size_t words_length, const clearmap_bits *map, uint32_t x0,
+                        uint32_t y0, uint32_t x1, uint32_t y1) {
+    return draw_on(words, words_length, map, NULL, x0, y0, x1, y1);
+}
+
 /* The calls over one kind of map: ITEMS and LENGTH as the header names them. */
 #define CALLS(kind, item)                                                                         \
     uint32_t clearmap_##kind##_distances(const item *items, size_t length,                        \
                                          const clearmap_##kind *map, clearmap_metric metric,      \
                                          clearmap_edge edge, uint32_t y0, uint32_t y1,            \
                                          uint32_t *distances, size_t room) {                      \
-        return table(over_##kind(items, length, map, metric, edge), y0, y1, NULL, distances,      \
-                     room);                                                                       \
+        given(distances, room, sizeof *distances, _Alignof(uint32_t));                            \
+        return table(over_##kind(items, length, map, metric, edge), y0, y1,                       \
+                     (struct output){.distances = distances, .room = room});                      \
     }                                                                                             \
     uint32_t clearmap_##kind##_nearest(const item *items, size_t length,                          \
                                        const clearmap_##kind *map, clearmap_metric metric,        \
                                        clearmap_edge edge, uint32_t y0, uint32_t y1,              \
                                        clearmap_near *nears, size_t room) {                       \
         given(nears, room, sizeof *nears, _Alignof(clearmap_near));                               \
-        return table(over_##kind(items, length, map, metric, edge), y0, y1, nears, NULL, room);   \
+        return table(over_##kind(items, length, map, metric, edge), y0, y1,                       \
+                     (struct output){.nears = nears, .room = room});                              \
+    }                                                                                             \
+    uint32_t clearmap_##kind##_costs(const item *items, size_t length,                            \
+                                     const clearmap_##kind *map, clearmap_metric metric,          \
+                                     clearmap_edge edge, const uint8_t *costs, size_t entries,    \
+                                     uint32_t y0, uint32_t y1, uint8_t *told, size_t room) {      \
+        given(told, room, 1, 1);                                                                  \
+        return table(over_##kind(items, length, map, metric, edge), y0, y1,                       \
+                     (struct output){.costs = told, .table = costs, .entries = entries,           \
+                                     .room = room});                                              \
+    }                                                                                             \
+    uint32_t clearmap_##kind##_at_many(const item *items, size_t length,                          \
+                                       const clearmap_##kind *map, clearmap_metric metric,        \
+                                       clearmap_edge edge, const clearmap_cell *cells,            \
+                                       size_t cells_length, clearmap_near *nears, size_t room,    \
+                                       size_t *wrong) {                                           \
+        given(nears, room, sizeof *nears, _Alignof(clearmap_near));                               \
+        return list(over_##kind(items, length, map, metric, edge), cells, cells_length, 0,        \
+                    nears, NULL, room, wrong);                                                    \
+    }                                                                                             \
+    uint32_t clearmap_##kind##_clear_many(const item *items, size_t length,                       \
+                                          const clearmap_##kind *map, clearmap_metric metric,     \
+                                          clearmap_edge edge, const clearmap_cell *cells,         \
+                                          size_t cells_length, uint32_t d, uint8_t *clear,        \
+                                          size_t room, size_t *wrong) {                           \
+        given(clear, room, 1, 1);                                                                 \
+        return list(over_##kind(items, length, map, metric, edge), cells, cells_length, d,        \
+                    NULL, clear, room, wrong);                                                    \
     }                                                                                             \
     uint32_t clearmap_##kind##_at(const item *items, size_t length, const clearmap_##kind *map,   \
                                   clearmap_metric metric, clearmap_edge edge, uint32_t x,         \

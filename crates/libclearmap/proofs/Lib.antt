@@ -1,5 +1,8 @@
 mod CopyLemmas
+mod CostLemmas
 mod LayoutLemmas
+mod ManyLemmas
 mod MarkLemmas
+mod PaintLemmas
 mod TileLemmas
 mod Names

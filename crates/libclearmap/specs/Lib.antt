@@ -1,6 +1,10 @@
+pub mod Costs
 pub mod Distances
+pub mod Footprints
 pub mod Kept
 pub mod Layouts
+pub mod Many
+pub mod Paints
 pub mod Rows
 pub mod Searches
 pub mod Settings

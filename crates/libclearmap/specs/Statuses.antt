@@ -1,14 +1,16 @@
 -- What is wrong with a call, as a number: this project's own rule. Of several faults it is the
--- first, in the order of their numbers up to 9, with 12 after 3; then comes 11, and 10 comes last.
+-- first, in the order of their numbers up to 9, with 12 after 3 and 13 after 5; then comes 11, and
+-- 10 comes last.
 use Rattle.std.specs.Prelude.{◌≡◌, ℕ, zero, suc, ◌+◌, ◌-◌, ◌*◌, ◌^◌, ◌&&◌, ◌||◌, ◌⊎◌, ◌==◌, nat_le}
 use Rattle.std.specs.Prelude.{◌≢◌, Err, Ok, Result}
 use Rattle.std.specs.Prelude.{nat_lt, not, Bool, List, length, Option, Some, None, if◌then◌else◌}
+use Rattle.std.specs.List.{list_any}
 use Rattle.metric.specs.declared.cell.Cell.{Cell}
 use Rattle.metric.specs.declared.refusal.Refusal.{Refusal}
 use Rattle.metric.specs.declared.refusal.Refusal.TheVariants.{BadPath, OutOfRange}
 use Rattle.bits.specs.Cells.{Cells}
 use Rattle.bits.specs.Words.{words_across}
-use Rattle.clearance.specs.Paths.{path_refusal}
+use Rattle.clearance.specs.Paths.{is_outside, path_refusal}
 use Rattle.libclearmap.specs.declared.layout.ClearmapBytes.{ClearmapBytes}
 use Rattle.libclearmap.specs.declared.layout.ClearmapBits.{ClearmapBits}
 use Rattle.libclearmap.specs.Layouts.{bands_down, rows_end}
@@ -61,6 +63,10 @@ setting_status metric edge = if nat_lt 2 metric then 4 else if nat_lt 1 edge the
 abbrev pub cell_status : Cells → ℕ → ℕ → ℕ
 cell_status cells x y = if nat_lt x cells.width && nat_lt y cells.height then 0 else 7
 
+-- 7: one of the cells isn't in the map
+abbrev pub cells_status : Cells → List Cell → ℕ
+cells_status cells asked = if list_any (is_outside cells) asked then 7 else 0
+
 -- 7: the rectangle has no cell, or isn't wholly within the map
 abbrev pub rect_status : Cells → ℕ → ℕ → ℕ → ℕ → ℕ
 rect_status cells x0 y0 x1 y1 = if (nat_lt x0 x1 && nat_le x1 cells.width)
@@ -93,6 +99,10 @@ room_status needed count = if nat_le needed count then 0 else 9
 abbrev pub range_status : ClearmapBytes → ℕ
 range_status map = if nat_le map.low map.high then 0 else 11
 
+-- 13: a table of costs has no entry
+abbrev pub entries_status : ℕ → ℕ
+entries_status count = if count == 0 then 13 else 0
+
 -- a call that allocates memory has the expected status, or 10 (out of memory) in place of 0
 abbrev pub IsStatus : ℕ → ℕ → Type 0
 IsStatus expected status = (status ≡ expected) ⊎ ((expected ≡ 0) × (status ≡ 10))
@@ -101,3 +111,14 @@ IsStatus expected status = (status ≡ expected) ⊎ ((expected ≡ 0) × (statu
 abbrev pub table_status : Cells → ℕ → ℕ → ℕ → ℕ → ℕ → ℕ
 table_status cells metric edge y0 y1 count = first_wrong (setting_status metric edge)
     (first_wrong (rows_status cells y0 y1) (room_status ((y1 - y0) * cells.width) count))
+
+-- what is wrong with a call for the costs of all cells of a range of rows, by this many costs
+abbrev pub costs_status : Cells → ℕ → ℕ → ℕ → ℕ → ℕ → ℕ → ℕ
+costs_status cells metric edge entries y0 y1 count = first_wrong (setting_status metric edge)
+    (first_wrong (entries_status entries) (first_wrong (rows_status cells y0 y1)
+    (room_status ((y1 - y0) * cells.width) count)))
+
+-- what is wrong with a call for the cells of a list, with capacity for this many answers
+abbrev pub many_status : Cells → ℕ → ℕ → List Cell → ℕ → ℕ
+many_status cells metric edge asked count = first_wrong (setting_status metric edge)
+    (first_wrong (cells_status cells asked) (room_status (length asked) count))

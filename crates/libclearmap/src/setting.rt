@@ -5,10 +5,11 @@ ghost use Rattle.metric.specs.Kind.{distance_of};
 ghost use Rattle.metric.specs.Nearest.{IsNear};
 ghost use Rattle.bits.specs.Cells.{IsInside};
 ghost use Rattle.bits.specs.Edges.{IsBlocked};
-ghost use Rattle.clearance.specs.Answers.{IsRefusalFor};
+ghost use Rattle.clearance.specs.Answers.{IsClearOf, IsRefusalFor};
+ghost use Rattle.clearance.specs.Paths.{IsPathRefusal, cells_of_path};
 ghost use Rattle.libclearmap.specs.Settings.{edge_numbered, kind_numbered};
 
-use clearance::{Rows, at};
+use clearance::{Rows, at, clear_of};
 use metric::{Cell, Chess, City, Edge, Euclid2, MetricKind, Near, Refusal};
 
 /// The numbers by which a call chooses its metric and edge.
@@ -70,10 +71,31 @@ pub fn at_by<R: Rows>(
     ensures near { IfOk result (λ near. IsNear (distance_of kind)
         (IsBlocked (R.cells rows.old) edge) cell.x cell.y near) }
     ensures refused { IfErr result (IsRefusalFor (IsInside (R.cells rows.old) cell.x cell.y)) }
+    ensures rows { rows.new ≡ rows.old }
 {
     match kind {
         MetricKind::Euclid2 => at::<Euclid2, R>(rows, edge, cell),
         MetricKind::City => at::<City, R>(rows, edge, cell),
         MetricKind::Chess => at::<Chess, R>(rows, edge, cell),
+    }
+}
+
+/// What `clear_of` of `clearance` finds on the path of these points.
+pub fn clear_by<R: Rows>(
+    kind: MetricKind,
+    rows: &mut R,
+    edge: Edge,
+    points: &[Cell],
+    d: u32,
+) -> Result<Option<(Cell, Near)>, Refusal>
+    ensures clear { IfOk result (IsClearOf (distance_of kind) (IsBlocked (R.cells rows.old) edge)
+        (cells_of_path points.now) d) }
+    ensures refused { IfErr result (IsPathRefusal (R.cells rows.old) points.now) }
+    ensures rows { rows.new ≡ rows.old }
+{
+    match kind {
+        MetricKind::Euclid2 => clear_of::<Euclid2, R>(rows, edge, points, d),
+        MetricKind::City => clear_of::<City, R>(rows, edge, points, d),
+        MetricKind::Chess => clear_of::<Chess, R>(rows, edge, points, d),
     }
 }

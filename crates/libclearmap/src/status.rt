@@ -30,6 +30,9 @@ pub const METRIC: u32 = 4;
 /// No edge has this number.
 pub const EDGE: u32 = 5;
 
+/// A table of costs has no entry.
+pub const COSTS: u32 = 13;
+
 /// A path has no points, or over 1000.
 pub const POINTS: u32 = 6;
 
@@ -39,6 +42,16 @@ pub const OUTSIDE: u32 = 7;
 
 /// A point of a path is in neither the row nor the column of the point before it.
 pub const CROOKED: u32 = 8;
+
+/// A polygon has under 3 corners, or over 128; or the corners aren't those of whole polygons.
+pub const CORNERS: u32 = 14;
+
+/// A corner of a polygon is 16,384 columns or rows away, or more.
+pub const FAR: u32 = 15;
+
+/// A polygon isn't convex: at some corner it doesn't turn from x to y, or it goes round more than
+/// once.
+pub const BENT: u32 = 16;
 
 /// The output has too little capacity.
 pub const ROOM: u32 = 9;

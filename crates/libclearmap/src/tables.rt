@@ -50,7 +50,7 @@ pub fn table_in<T: TableCell, R: Rows>(
 }
 
 /// Copies the map if a call for these rows is valid; otherwise returns the status of what is wrong.
-fn map_of<R: Rows>(
+pub fn map_of<R: Rows>(
     alloc: Global,
     rows: &mut R,
     setting: Setting,
