@@ -75,7 +75,7 @@ fn program<'a>(alloc: Global) -> Result<Command<'a>, AllocError>
     ensures { IfOk result (λ command. app_of command ≡ program_app) }
 {
     let program = Command::new(alloc, "clearmap")
-        .version("0.3.0")
+        .version("0.4.0")
         .about("Exact distances to the nearest obstacle of an occupancy grid")
         .after_help(
             "An image is PBM, plain (P1) or raw (P4), 1 to 4096 pixels a side; a black pixel is an obstacle. A robot's map\nhas unknown cells too: whoever makes the image makes each an obstacle or a free cell.\n\nOther programs are clearmap-ros (maps of robots), clearmap-view (a page), clearmap-backup, and for more\nclients and machines clearmap-gateway and clearmap-publish.\n\nAnswers and refusals go to standard output. The exit status is 0 where all was done, 1 where the\ninput or the network was refused or a standard stream failed, and 2 where the command line was.\n\nExamples:\n  clearmap dist < map.pbm\n  clearmap serve --connections 2 < map.pbm",
