@@ -289,6 +289,12 @@ inline std::optional<int> coordinate(const std::string& word) {
     return negative ? -size : size;
 }
 
+/// The words for one of many cells in a refusal.
+inline std::string named(std::size_t index, Cell c) {
+    return "cell " + std::to_string(index) + " is (" + std::to_string(c.x) + ", " +
+           std::to_string(c.y) + "): ";
+}
+
 inline std::string points(const Path& path) {
     std::string text;
     for (Cell cell : path) text += ' ' + std::to_string(cell.x) + ' ' + std::to_string(cell.y);
@@ -947,9 +953,9 @@ public:
     /// The nearest obstacle of a cell. None if the map has none. As each query, it is refused as
     /// OutOfRange outside the map, and as BadArguments below 0.
     std::optional<Near> at(Cell c, Metric m = Metric::euclid2) {
-        auto found = one(Queries().at(c, m));
-        if (!found) return std::nullopt;
-        return Near{found->distance, found->obstacle};
+        const Answer answer = ask(Queries().at(c, m))[0];
+        if (answer.refused) throw *answer.refused;
+        return near(answer);
     }
 
     /// The first cell, in row-major order, with the least distance in columns x0 to x1 - 1 of rows
@@ -1035,6 +1041,21 @@ public:
         return found;
     }
 
+    /// `at` of each of many cells, in their order, all by one version; sends 64 cells per write.
+    /// Throws the refusal of the first that is refused, with its index in the text.
+    std::vector<std::optional<Near>> at_many(const std::vector<Cell>& cells,
+                                             Metric m = Metric::euclid2) {
+        Queries queries;
+        for (Cell c : cells) queries.at(c, m);
+        std::vector<std::optional<Near>> found;
+        found.reserve(cells.size());
+        for (const Answer& answer : ask(queries)) {
+            if (answer.refused) throw of_cell(*answer.refused, found.size(), cells[found.size()]);
+            found.push_back(near(answer));
+        }
+        return found;
+    }
+
     /// Moves the pin to the newest version, and returns its number. Nothing else reports a publish.
     std::uint32_t renew() {
         detail::Turn turn(wire_, pin_);
@@ -1074,6 +1095,17 @@ private:
     Pinned(const std::shared_ptr<detail::Wire>& wire,
            std::pair<std::uint64_t, std::uint32_t> pinned) noexcept
         : wire_(wire), pin_(pinned.first), version_(pinned.second) {}
+
+    static std::optional<Near> near(const Answer& answer) {
+        if (!answer.found) return std::nullopt;
+        return Near{answer.found->distance, answer.found->obstacle};
+    }
+
+    /// The refusal of one of many cells, which its text names.
+    static Refused of_cell(const Refused& refused, std::size_t index, Cell c) {
+        return {refused.number, refused.name, refused.numbers, refused.fault,
+                detail::named(index, c) + refused.what()};
+    }
 
     static double straight(const Answer& answer) {
         return answer.found ? std::sqrt(static_cast<double>(answer.found->distance))

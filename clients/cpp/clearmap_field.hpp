@@ -5,6 +5,7 @@
 #define CLEARMAP_FIELD_HPP
 
 #include "clearmap_map.hpp"
+#include "clearmap_slope.hpp"
 #include "clearmap_table.hpp"
 #include "clearmap_window.hpp"
 
@@ -77,6 +78,14 @@ public:
         detail::check_frame(frame, map_);
         auto cell = frame.cell(x, y);
         return cell ? frame.metres(clearance(*cell)) : 0;
+    }
+
+    /// As of the map, by look-ups. Throws std::invalid_argument too if the field's metric isn't
+    /// euclid2.
+    std::optional<Slope> distance_and_gradient(const Frame& frame, double x, double y) const {
+        if (metric() != Metric::euclid2)
+            throw std::invalid_argument("a slope is of a field by euclid2");
+        return detail::slope(map_, frame, x, y, [this](Cell c) { return clearance(c); });
     }
 
     // -- changes

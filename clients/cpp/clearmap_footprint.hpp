@@ -1,17 +1,19 @@
 // Footprints, over clearmap_map.hpp: whether a robot of any convex shape is on an obstacle, pose by
-// pose. Not proved; test_footprint.cpp compares it with a search of all cells, and with a model in
+// pose, and how far it is from one. The library's call for a polygon is proved. How a pose becomes
+// corners is not; test_footprint.cpp compares it with a search of all cells, and with a model in
 // Python.
 //
 //     clearmap::Footprint robot({{-0.3, -0.2}, {0.5, 0}, {-0.3, 0.2}}, 0.05);  // metres, of 0.05
 //     if (robot.hits(map, 31.5, 20.5, 0.7)) ..          // a pose in cells of the map
 //     if (robot.is_clear(map, frame, 1.5, 1, 0.7)) ..   // a pose in metres
+//     double free = robot.clearance(map, 31.5, 20.5, 0.7);
 //
 // Threads. Any threads may use one footprint, on one map or field too, while none changes that. A
 // query allocates no memory.
 #ifndef CLEARMAP_FOOTPRINT_HPP
 #define CLEARMAP_FOOTPRINT_HPP
 
-#include "clearmap_polygon.hpp"
+#include "clearmap_gap.hpp"
 
 namespace clearmap {
 
@@ -54,18 +56,25 @@ public:
     template <class Area>
     [[nodiscard]] bool hits(const Area& area, const Frame& frame, double x, double y,
                             double theta) const {
-        detail::check_frame(frame, map_of(area));
-        check_pose({x, y, theta, -1});
-        if (resolution_ && *resolution_ != frame.resolution)
-            throw std::invalid_argument("the frame has another resolution than the footprint");
-        return asked(area, {(x - frame.origin_x) / frame.resolution,
-                            frame.height - (y - frame.origin_y) / frame.resolution, theta, -1});
+        return asked(area, in_cells(map_of(area), frame, x, y, theta));
     }
 
     /// Whether it is on none.
     template <class Area, class... Pose>
     [[nodiscard]] bool is_clear(const Area& area, const Pose&... pose) const {
         return !hits(area, pose...);
+    }
+
+    /// How far the robot is from the nearest obstacle's square, or with Edge::wall from the map's
+    /// border, in the unit of its points: cells, or metres. 0 if it hits or touches one; infinite
+    /// where there is none. It is never more than that distance, and less by at most 1/8192 of a
+    /// cell. Throws as hits does, and std::invalid_argument for a pose over 1048576 cells off.
+    double clearance(const Map& map, double x, double y, double theta) const {
+        return gap(map, {x, y, theta, 1});
+    }
+    /// At a pose in metres.
+    double clearance(const Map& map, const Frame& frame, double x, double y, double theta) const {
+        return gap(map, in_cells(map, frame, x, y, theta));
     }
 
 private:
@@ -86,6 +95,18 @@ private:
             throw std::invalid_argument("a pose isn't finite");
     }
 
+    /// A pose in metres on a map.
+    Pose in_cells(const Map& map, const Frame& frame, double x, double y, double theta) const {
+        detail::check_frame(frame, map);
+        check_pose({x, y, theta, -1});
+        if (resolution_ && *resolution_ != frame.resolution)
+            throw std::invalid_argument("the frame has another resolution than the footprint");
+        return {(x - frame.origin_x) / frame.resolution,
+                frame.height - (y - frame.origin_y) / frame.resolution, theta, -1};
+    }
+
+    static constexpr double farthest = 1 << 20;        // cells off the map that clearances are told
+    static constexpr double moved = 1.001 / 16384;     // cells: what rounding takes, of floats too
     static constexpr double slack = 1.0 / 8192;  // more than rounding moves any corner, in cells
     static constexpr double root_half = 0.70710678118654757;
 
@@ -119,14 +140,14 @@ private:
     }
 
     /// By the squares around the outer circle and in the inner one, whose bits show whether they
-    /// have an obstacle, and if these don't decide, by the cells.
+    /// have an obstacle, and if these don't decide, by the corners.
     bool asked(const Map& map, const Pose& pose) const {
         if (is_far(map, pose)) return map.edge() == Edge::wall;
         const Square outer(map.size(), pose, outer_), inner(map.size(), pose, inner_ * root_half);
         if (outer.is_inside || map.edge() == Edge::open) {
             if (!outer.has_obstacle(map)) return false;
         }
-        return (inner_ > 0 && inner.has_obstacle(map)) || by_cells(map, pose);
+        return (inner_ > 0 && inner.has_obstacle(map)) || by_corners(map, pose);
     }
 
     /// By a look-up, if the field has Euclidean distances.
@@ -141,9 +162,9 @@ private:
             const double away = outer_ + root_half + off;
             if (field.distance(cell) > away * away) return false;
             const Cell near = field.obstacle(cell);
-            if (length(gap(near.x, pose.x), gap(near.y, pose.y)) < inner_) return true;
+            if (length(across(near.x, pose.x), across(near.y, pose.y)) < inner_) return true;
         }
-        return by_cells(map, pose);
+        return by_corners(map, pose);
     }
 
     /// Whether a pose is too far from the map to cover one of its cells.
@@ -159,7 +180,7 @@ private:
     static double length(double x, double y) noexcept { return std::sqrt(x * x + y * y); }
 
     /// How far a column or a row of cells is from a coordinate.
-    static double gap(int cell, double at) noexcept {
+    static double across(int cell, double at) noexcept {
         return std::max({cell - at, at - cell - 1, 0.0});
     }
 
@@ -174,11 +195,13 @@ private:
                         pose.y + reach <= size.height) {}
 
         bool has_obstacle(const Map& map) const noexcept {
-            const clearmap_bits bits = map.bits();
-            const std::uint64_t* row =
-                map.words().data() + static_cast<std::size_t>(y0) * bits.stride;
-            for (int y = y0; y < y1; ++y, row += bits.stride)
-                if (detail::any_set(row, x0, x1)) return true;
+            const std::size_t stride = map.bits().stride;
+            for (int first = x0 / 64 * 64; first < x1; first += 64) {
+                const std::uint64_t mask = detail::bits_of(x0 - first, x1 - first);
+                const std::uint64_t* column = map.words().data() + first / 64;
+                for (int y = y0; y < y1; ++y)
+                    if (column[static_cast<std::size_t>(y) * stride] & mask) return true;
+            }
             return false;
         }
 
@@ -191,39 +214,61 @@ private:
         }
     };
 
-    /// The corners at a pose.
-    detail::Hull placed(const Pose& pose) const noexcept {
+    /// Writes the corners at a pose, which turn from x to y, and returns their number.
+    template <class AnyCorner>
+    std::size_t place(const Pose& pose, AnyCorner* corners) const noexcept {
+        using Steps = decltype(AnyCorner::x);
         const std::int64_t cosine = detail::rounded(std::cos(pose.theta) * detail::unit);
         const std::int64_t sine = detail::rounded(std::sin(pose.theta) * detail::unit);
         const std::int64_t across = detail::rounded(pose.x * detail::steps);
         const std::int64_t down = detail::rounded(pose.y * detail::steps);
-        Corner corners[detail::most_corners];
-        std::size_t count = 0;
         auto in_steps = [](std::int64_t turned) {
             return detail::floored(turned + detail::unit / 2, detail::unit);
         };
+        AnyCorner* next = corners;
         for (Corner c : outline_)
-            corners[count++] = {across + in_steps(c.x * cosine - c.y * sine),
-                                down + in_steps(pose.down * (c.x * sine + c.y * cosine))};
-        return detail::Hull(corners, count);
+            *next++ = {
+                static_cast<Steps>(across + in_steps(c.x * cosine - c.y * sine)),
+                static_cast<Steps>(down + in_steps(pose.down * (c.x * sine + c.y * cosine)))};
+        if (pose.down < 0) std::reverse(corners, next);
+        return outline_.size();
     }
 
-    /// Whether a covered cell is an obstacle.
-    bool by_cells(const Map& map, const Pose& pose) const noexcept {
-        const Size size = map.size();
-        const detail::Hull hull = placed(pose);
-        const bool walled = map.edge() == Edge::wall;
-        const std::int64_t below = size.height * detail::steps;
-        if (walled && (hull.left[0].y < 0 || hull.left[hull.lefts - 1].y > below)) return true;
-        const std::uint64_t* words = map.words().data();
-        const std::size_t stride = map.bits().stride;
-        return detail::any_row(
-            hull, 0, size.height, [&](int row, std::int64_t first, std::int64_t end) {
-                if (walled && (first < 0 || end > size.width)) return true;
-                return detail::any_set(words + static_cast<std::size_t>(row) * stride,
-                                       std::max<std::int64_t>(first, 0),
-                                       std::min<std::int64_t>(end, size.width));
-            });
+    /// By the library's call, whose answer for these corners is proved. It refuses a ring that
+    /// isn't convex: where rounding has put a corner on a side or inside, their hull is asked.
+    bool by_corners(const Map& map, const Pose& pose) const {
+        clearmap_corner corners[detail::most_corners];
+        std::size_t count = place(pose, corners);
+        const clearmap_bits bits = map.marked_bits();
+        std::uint8_t hit = 0;
+        auto ask = [&] {
+            return clearmap_bits_hits(map.words().data(), map.words().size(), &bits,
+                                      detail::numbered(map.edge()), corners, count, &hit);
+        };
+        std::uint32_t status = ask();
+        if (status == CLEARMAP_BENT) {
+            count = detail::to_hull(corners, count);
+            status = ask();
+        }
+        detail::check(status);
+        return hit != 0;
+    }
+
+    /// The clearance of the corners' hull, rounded down.
+    double gap(const Map& map, const Pose& pose) const {
+        if (map.size().width == 0) detail::check(CLEARMAP_SIZE);
+        check_pose(pose);
+        if (std::abs(pose.x) > farthest || std::abs(pose.y) > farthest)
+            throw std::invalid_argument("a pose is at most 1048576 cells off");
+        Corner corners[detail::most_corners];
+        const std::size_t count = detail::to_hull(corners, place(pose, corners));
+        detail::Place places[detail::most_corners];
+        std::transform(corners, corners + count, places, [](Corner c) {
+            return detail::Place{static_cast<double>(c.x), static_cast<double>(c.y)};
+        });
+        const double found = detail::nearest_gap(map, detail::Gaps(places, count));
+        if (found >= detail::nowhere) return std::numeric_limits<double>::infinity();
+        return std::max(found / detail::steps - moved, 0.0) * resolution_.value_or(1);
     }
 
     std::vector<Corner> outline_;

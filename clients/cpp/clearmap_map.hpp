@@ -2,7 +2,8 @@
 // clearmap.h, whose library is linked (-lclearmap -pthread), and clearmap.hpp, whose cells, answers
 // and frames it shares: C++17. The library is proved. This file and clearmap_field.hpp, which it
 // includes, are not (test_map.cpp and test_field.cpp try them). Robots of any convex shape are in
-// clearmap_footprint.hpp, and signed distances in clearmap_signed.hpp.
+// clearmap_footprint.hpp, signed distances in clearmap_signed.hpp, costs around obstacles in
+// clearmap_inflate.hpp, and shapes to draw in clearmap_shapes.hpp.
 //
 //     clearmap::Frame frame{640, 480, 0.05, -8, -5.5};  // of ROS: 0.05 m a cell, and the origin
 //     auto map = clearmap::Map::of_costmap(costmap, frame, {253, 254});  // unknown: to 255
@@ -11,6 +12,8 @@
 //     clearmap::Field field(map);                      // all distances, made by several threads
 //     double free = field.free_metres(frame, 2, 2);    // a look-up, never more than there is
 //     field.paint(8, 0, 16, 8);                        // the field's own map, and its distances
+//     auto nears = map.at_many(cells);                 // a vector of cells: one call for all
+//     auto slope = field.distance_and_gradient(frame, 2, 2);   // in metres, bilinear
 //     double cells;
 //     if (map.is_valid(3, 4, cells)) ..                // as OMPL's isValid(state, dist), in cells
 //
@@ -23,9 +26,10 @@
 //
 // Errors. A wrong call throws with the text of its status: std::out_of_range for a cell, rectangle
 // or point that isn't in the map, std::invalid_argument for everything else. A call that throws has
-// changed nothing. A query with valid arguments throws nothing and allocates nothing. Calls that
-// make a map or a field, or change a field, may throw std::bad_alloc. A library of another version
-// is a std::runtime_error.
+// changed nothing. A query with valid arguments throws nothing and allocates nothing, but that
+// at_many and clear_many allocate their answers: they, calls that make a map or a field, and those
+// that change a field may throw std::bad_alloc. A library of another version is a
+// std::runtime_error.
 #ifndef CLEARMAP_MAP_HPP
 #define CLEARMAP_MAP_HPP
 
@@ -72,6 +76,8 @@ struct Direction {
     double x, y;
     friend bool operator==(Direction a, Direction b) { return a.x == b.x && a.y == b.y; }
 };
+
+struct Slope;
 
 namespace detail {
 
@@ -387,6 +393,38 @@ public:
         return detail::answer(near);
     }
 
+    /// `at` of each of many cells, in their order. Throws std::out_of_range for the first that
+    /// isn't in the map, with its index.
+    std::vector<std::optional<Near>> at_many(const std::vector<Cell>& cells,
+                                             Metric m = Metric::euclid2) const {
+        std::vector<std::optional<Near>> found;
+        found.reserve(cells.size());
+        clearmap_near nears[detail::most_points];
+        ask_many(clearmap_bits_at_many, m, cells, nears, [&](std::size_t count) {
+            for (std::size_t k = 0; k < count; ++k) found.push_back(detail::answer(nears[k]));
+        });
+        return found;
+    }
+
+    /// Whether no obstacle is nearer than a distance to each of many cells, as is_clear of a path
+    /// of that one cell. It is faster than at_many if the distance is small. Throws as that does.
+    template <class Integer, class = detail::IfInteger<Integer>>
+    [[nodiscard]] std::vector<bool> clear_many(const std::vector<Cell>& cells, Integer distance,
+                                               Metric m = Metric::euclid2) const {
+        std::vector<bool> found;
+        found.reserve(cells.size());
+        std::uint8_t clear[detail::most_points];
+        ask_many(
+            clearmap_bits_clear_many, m, cells, clear,
+            [&](std::size_t count) { found.insert(found.end(), clear, clear + count); },
+            detail::in_32_bits(distance));
+        return found;
+    }
+    /// A distance is an integer: round a fraction up, or use Frame::clear_distance.
+    template <class Real, class = detail::IfReal<Real>, class = void>
+    std::vector<bool> clear_many(const std::vector<Cell>& cells, Real distance,
+                                 Metric m = Metric::euclid2) const = delete;
+
     /// The first cell, in row-major order, with the least distance in columns x0 to x1 - 1 of rows
     /// y0 to y1 - 1. None if the map has no obstacle.
     std::optional<Tightest> rect(detail::Whole x0, detail::Whole y0, detail::Whole x1,
@@ -465,6 +503,11 @@ public:
         return near ? detail::direction(near->obstacle, c) : std::nullopt;
     }
 
+    /// The distance at a point in metres, its gradient and what is free, as of Slope. None for a
+    /// point off the map. Throws std::invalid_argument if the frame's size differs from the map's,
+    /// and for a map whose row 0 is the lowest.
+    std::optional<Slope> distance_and_gradient(const Frame& frame, double x, double y) const;
+
     /// Whether a cell is an obstacle.
     bool is_obstacle(Cell c) const {
         if (!inside(c.x, c.y)) detail::check(CLEARMAP_OUTSIDE);
@@ -511,13 +554,37 @@ private:
         return 0 <= x && x < size().width && 0 <= y && y < size().height;
     }
 
-    /// Makes a call of the library on these bits.
+    /// Makes a call of the library on these bits, and returns the status.
     template <class Call, class... Asked>
-    void ask(Call call, Metric m, Asked... asked) const {
+    std::uint32_t status_of(Call call, Metric m, Asked... asked) const {
         static constexpr std::uint64_t none = 0;
         const clearmap_bits map = marked_bits();
-        detail::check(call(words_.empty() ? &none : words_.data(), words_.size(), &map,
-                           detail::numbered(m), detail::numbered(edge_), asked...));
+        return call(words_.empty() ? &none : words_.data(), words_.size(), &map,
+                    detail::numbered(m), detail::numbered(edge_), asked...);
+    }
+    template <class Call, class... Asked>
+    void ask(Call call, Metric m, Asked... asked) const {
+        detail::check(status_of(call, m, asked...));
+    }
+
+    /// Makes a call for many cells, piece by piece, and takes the answers of each.
+    template <class Call, class Answer, std::size_t most, class Take, class... Asked>
+    void ask_many(Call call, Metric m, const std::vector<Cell>& cells, Answer (&answers)[most],
+                  Take take, Asked... asked) const {
+        std::size_t start = 0;
+        do {
+            const std::size_t count = std::min(most, cells.size() - start);
+            const detail::Points piece(cells.data() + start, count);
+            std::size_t wrong = 0;
+            const std::uint32_t status =
+                status_of(call, m, piece.cells, count, asked..., answers, most, &wrong);
+            if (status == CLEARMAP_OUTSIDE)
+                throw std::out_of_range(detail::named(start + wrong, cells[start + wrong]) +
+                                        clearmap_status_text(status));
+            detail::check(status);
+            take(count);
+            start += count;
+        } while (start < cells.size());
     }
 
     std::optional<Tightest> tightest(const Cell* first, std::size_t count, Metric m) const {
@@ -559,43 +626,47 @@ private:
         blank_bands_ = map.blank_bands;
     }
 
-    /// Marks the tiles of a box whose cells were drawn, and their bands: none of them is blank if
-    /// obstacles were.
-    void mark(int x0, int y0, int x1, int y1, bool obstacles) {
+    /// Marks the blank tiles of the bands of some rows, and these bands, by their cells alone; bits
+    /// past the last column become 0.
+    void mark_bands(int y0, int y1) {
         for (int b = y0 / band; b <= (y1 - 1) / band; ++b) {
-            std::uint64_t& marks = words_[tiles() + static_cast<std::size_t>(b)];
-            for (int tile = x0 / 64; tile <= (x1 - 1) / 64; ++tile)
-                put(marks, tile, !obstacles && is_blank(tile, b));
-            put(blank_bands_, b, marks == ~std::uint64_t{0});
+            const int rows = std::min(band, size_.height - b * band);
+            const std::size_t start = word(0, b * band);
+            for (int y = 0; y < rows && width() % 64 != 0; ++y)
+                words_[start + static_cast<std::size_t>(y + 1) * stride() - 1] &=
+                    ~(~std::uint64_t{0} << width() % 64);
+            clearmap_bits part = bits();
+            part.height = detail::numbered(rows), part.blank_bands = 0;
+            detail::check(clearmap_mark(words_.data() + start, words_.size() - start, &part,
+                                        tiles() + static_cast<std::size_t>(b) - start));
+            const std::uint64_t bit = std::uint64_t{1} << b;
+            blank_bands_ = part.blank_bands % 2 == 1 ? blank_bands_ | bit : blank_bands_ & ~bit;
         }
-    }
-
-    /// Whether a tile of a band has no obstacle.
-    bool is_blank(int tile, int b) const noexcept {
-        std::uint64_t any = 0;
-        for (int y = b * band; y < std::min((b + 1) * band, size_.height); ++y)
-            any |= words_[word(64 * tile, y)];
-        return any == 0;
-    }
-
-    static void put(std::uint64_t& bits, int at, bool one) noexcept {
-        bits = (bits & ~(std::uint64_t{1} << at)) | std::uint64_t{one} << at;
     }
 
     std::uint32_t draw(int x0, int y0, int x1, int y1, bool obstacles) {
         if (!(inside(x0, y0) && x0 < x1 && y0 < y1 && inside(x1 - 1, y1 - 1)))
             detail::check(CLEARMAP_OUTSIDE);
-        std::size_t changed = 0;
+        const std::uint32_t full = count(x0, y0, x1, y1);
+        clearmap_bits map = marked_bits();
+        auto drawn = [&](auto call) {
+            detail::check(call(words_.data(), words_.size(), &map, detail::numbered(x0),
+                               detail::numbered(y0), detail::numbered(x1), detail::numbered(y1)));
+        };
+        obstacles ? drawn(clearmap_paint) : drawn(clearmap_clear);
+        mark_bands(y0, y1);
+        return obstacles ? detail::numbered((x1 - x0) * (y1 - y0)) - full : full;
+    }
+
+    /// How many cells of a box are obstacles.
+    std::uint32_t count(int x0, int y0, int x1, int y1) const noexcept {
+        std::size_t found = 0;
         for (int y = y0; y < y1; ++y)
-            for (int first = x0 / 64 * 64; first < x1; first += 64) {
-                const std::uint64_t mask = detail::bits_of(x0 - first, x1 - first);
-                std::uint64_t& old = words_[word(first, y)];
-                std::uint64_t drawn = obstacles ? old | mask : old & ~mask;
-                changed += std::bitset<64>(old ^ drawn).count();
-                old = drawn;
-            }
-        mark(x0, y0, x1, y1, obstacles);
-        return static_cast<std::uint32_t>(changed);
+            for (int first = x0 / 64 * 64; first < x1; first += 64)
+                found += std::bitset<64>(words_[word(first, y)] &
+                                         detail::bits_of(x0 - first, x1 - first))
+                             .count();
+        return static_cast<std::uint32_t>(found);
     }
 
     Size size_;

@@ -153,6 +153,95 @@ static void against_the_model(int maps) {
     }
 }
 
+/// The square of a point's distance from a segment.
+static long double from_segment(detail::Corner p, detail::Corner a, detail::Corner b) {
+    using Real = long double;
+    const Real dx = static_cast<Real>(b.x - a.x), dy = static_cast<Real>(b.y - a.y);
+    const Real px = static_cast<Real>(p.x - a.x), py = static_cast<Real>(p.y - a.y);
+    const Real square = dx * dx + dy * dy;
+    const Real along = square > 0 ? std::clamp((px * dx + py * dy) / square, Real{0}, Real{1}) : 0;
+    return (px - along * dx) * (px - along * dx) + (py - along * dy) * (py - along * dy);
+}
+
+/// The distance of corners that cover no part of a cell from its square, in cells: between all
+/// segments of both.
+static double model_gap(const std::vector<detail::Corner>& corners, int x, int y) {
+    const std::int64_t x0 = x * detail::steps, y0 = y * detail::steps, side = detail::steps;
+    const detail::Corner square[] = {
+        {x0, y0}, {x0 + side, y0}, {x0 + side, y0 + side}, {x0, y0 + side}};
+    long double least = std::numeric_limits<long double>::infinity();
+    for (detail::Corner a : corners)
+        for (detail::Corner b : corners)
+            for (std::size_t k = 0; k < 4; ++k) {
+                least = std::min(least, from_segment(square[k], a, b));
+                least = std::min(least, from_segment(a, square[k], square[(k + 1) % 4]));
+            }
+    return static_cast<double>(std::sqrt(least) / detail::steps);
+}
+
+/// The least distance from an obstacle, and with a wall from the border; 0 if one is hit.
+static double model_clearance(const Map& map, const std::vector<Point>& points, const At& pose) {
+    if (model_hits(map, points, pose)) return 0;
+    const std::vector<detail::Corner> corners = corners_at(points, pose);
+    const Size size = map.size();
+    double least = std::numeric_limits<double>::infinity();
+    for (int y = 0; y < size.height; ++y)
+        for (int x = 0; x < size.width; ++x)
+            if (map.is_obstacle({x, y})) least = std::min(least, model_gap(corners, x, y));
+    if (map.edge() == Edge::wall)
+        for (detail::Corner c : corners)
+            for (std::int64_t off : {c.x, size.width * detail::steps - c.x, c.y,
+                                     size.height * detail::steps - c.y})
+                least = std::min(least, static_cast<double>(off) / detail::steps);
+    return least;
+}
+
+/// Clearances are never more than the model's, and less by at most 1/8192 of a cell.
+static void clearances(int maps) {
+    int apart = 0;
+    for (int i = 0; i < maps; ++i) {
+        const Map map = i % 2 ? random_map(24, 20) : random_map(150, 6);
+        const std::vector<Point> points = random_points();
+        const auto robot = footprint_of(points);
+        if (!robot) continue;
+        for (int k = 0; k < 4; ++k) {
+            const At pose = random_pose(map.size());
+            const double wanted = model_clearance(map, points, pose);
+            const long before = asked_for;
+            const double told = robot->clearance(map, pose.x, pose.y, pose.theta);
+            CHECK(asked_for == before);
+            CHECK(told <= wanted && told >= 0);
+            CHECK(std::isinf(wanted) ? std::isinf(told) : told >= wanted - 1.0 / 8192);
+            apart += wanted > 0 && !std::isinf(wanted);
+        }
+    }
+    CHECK(apart > maps / 4);
+}
+
+/// Clearances by hand, in cells and metres.
+static void clearances_by_hand() {
+    Map map({30, 20});
+    const Footprint square({{-1, -1}, {1, -1}, {1, 1}, {-1, 1}});
+    CHECK(std::isinf(square.clearance(map, 12, 5.5, 0)));
+    map.paint(7, 5, 8, 6);
+    auto is = [](double told, double wanted) { return told <= wanted && told > wanted - 1e-4; };
+    CHECK(is(square.clearance(map, 12, 5.5, 0), 3) && is(square.clearance(map, 12, 11, 0), 5));
+    CHECK(is(square.clearance(map, -3, 5.5, 0), 8.9999 + 1e-4));
+    CHECK(square.clearance(map, 9, 5.5, 0) == 0 && square.clearance(map, 7.5, 5.5, 1) == 0);
+    CHECK(is(square.clearance(map, 12 + std::sqrt(2.0) - 1, 5.5, 0.78539816339744831), 3));
+    const Footprint metres({{-0.5, -0.5}, {0.5, -0.5}, {0.5, 0.5}, {-0.5, 0.5}}, 0.5);
+    CHECK(is(metres.clearance(map, Frame{30, 20, 0.5, 0, 0}, 6, 7.25, 0), 1.5));
+    const Map walled({30, 20}, Edge::wall);
+    CHECK(is(square.clearance(walled, 4, 9, 0), 3) && square.clearance(walled, 50, 9, 0) == 0);
+    Map large({4096, 4096});
+    large.paint(4095, 4095, 4096, 4096);
+    CHECK(is(square.clearance(large, 1, 4095.5, 0), 4093));
+    CHECK(is(square.clearance(large, -1048576.0, 4095.5, 0), 1048576 + 4094));
+    CHECK(throws<std::invalid_argument>([&] { (void)square.clearance(map, 2e6, 0, 0); }, "1048576"));
+    CHECK(throws<std::invalid_argument>(
+        [&] { (void)square.clearance(map, std::nan(""), 0, 0); }, "finite"));
+}
+
 /// In metres, y upwards: as the mirrored footprint in cells. All lengths are whole in binary.
 static void in_frames(int maps) {
     for (int i = 0; i < maps; ++i) {
@@ -331,6 +420,8 @@ int main(int count, char** words) {
     const int maps = count > 1 ? std::stoi(words[1]) : 40;
     against_the_model(10 * maps);
     in_frames(10 * maps);
+    clearances(10 * maps);
+    clearances_by_hand();
     if (count > 2) cases(words[2]);
     threads();
     invalid();

@@ -6,6 +6,7 @@
 // Build: g++ -std=c++17 -O2 -pthread -I clients/c -I clients/cpp -o footprints
 //     tools/bench/footprints.cpp crates/libclearmap/out/libclearmap.a
 #include "clearmap_footprint.hpp"
+#include "covered_rows.hpp"
 
 #include <cstdio>
 #include <fstream>
