@@ -14,7 +14,7 @@ from unittest import mock
 import numpy as np
 
 import clearmap
-from clearmap import footprints, polygons, poses
+from clearmap import polygons, poses
 from footprint_model import (
     CELL, corners_at, covered, draw_case, draw_points, draw_pose, model_hits, slivers,
 )  # fmt: skip
@@ -24,9 +24,9 @@ SQUARE = [(-1, -1), (1, -1), (1, 1), (-1, 1)]
 
 
 def by_arrays(footprint, area, asked):
-    """The answers of all poses by tables, and those one by one."""
-    for lone in (1 << 30, 0):
-        with mock.patch.object(footprints, "LONE_POSES", lone):
+    """The answers of all poses by calls for a few, and by one for all."""
+    for piece in (3, poses.PIECE):
+        with mock.patch.object(poses, "PIECE", piece):
             yield footprint.hits_many(area, *np.array(asked, float).T).tolist()
 
 
@@ -56,22 +56,6 @@ class Answers(unittest.TestCase):
                 self.assertEqual(answers, wanted)
             hits += wanted
         self.assertEqual(4 * sum(hits), len(hits))
-
-    def test_circles_and_cells_agree(self):
-        """What the circles tell is what the cells tell: most of 400 poses of each map."""
-        chance, told = random.Random(2), 0
-        for _ in range(max(ARRAYS // 10, 10)):
-            numbers = np.random.default_rng(chance.randrange(1 << 30))
-            grid = numbers.random((60, 90)) < chance.choice([0.001, 0.01, 0.05])
-            area = clearmap.Map(grid, chance.choice(("open", "wall")))
-            footprint = clearmap.Footprint([(-4, -3), (4, -3), (5, 0), (4, 3), (-4, 3)])
-            for _ in range(400):
-                pose = chance.uniform(-2, 92), chance.uniform(-2, 62), chance.uniform(-4, 4)
-                answer = footprint._by_circles(area._held, *pose[:2])
-                if answer is not None:
-                    told += 1
-                    self.assertEqual(answer, footprint._by_cells(area._held, *pose), pose)
-        self.assertGreater(told, 1000)
 
     def test_the_polygon_itself(self):
         """No corner is farther than 1/16384 of a cell from where floats put it."""
@@ -115,8 +99,8 @@ class Answers(unittest.TestCase):
         area, footprint = clearmap.Map(grid), clearmap.Footprint(points)
         chance = random.Random(6)
         made = [draw_pose(chance, 24, 24, 3) for _ in range(300)]
-        sides = poses._placed(outline, np.array(made).T)
-        self.assertIn((~poses._turn_once(sides)).sum(), range(20, 280))
+        moved = sum(len(polygons.placed(outline, *pose)) < len(outline) for pose in made)
+        self.assertIn(moved, range(20, 280))
         wanted = [model_hits(grid, "open", points, 1, pose) for pose in made]
         self.assertEqual([footprint.hits(area, *pose) for pose in made], wanted)
         for answers in by_arrays(footprint, area, made):

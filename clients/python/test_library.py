@@ -461,7 +461,7 @@ class Finding(unittest.TestCase):
         file = library._found()
         said = self.said(code.format(f"{line}."), CLEARMAP_LIBRARY=file).stdout
         self.assertEqual(said, "taken\n")
-        for other in ("0.2.", "0.4.", f"{line}1.", f"1{line}."):
+        for other in ("0.3.", "0.5.", f"{line}1.", f"1{line}."):
             said = self.said(code.format(other), CLEARMAP_LIBRARY=file).stderr.splitlines()[-1]
             words = f"is libclearmap {version}, where {other}x is wanted"
             self.assertRegex(said, f"^ImportError: .* {re.escape(words)}$")
@@ -519,9 +519,10 @@ class Finding(unittest.TestCase):
         answers = {
             "clearmap_near *near": ctypes.POINTER(library.CNear),
             "clearmap_found *found": ctypes.POINTER(library.CFound),
+            "size_t *wrong": ctypes.POINTER(ctypes.c_size_t),
         }
         calls = re.findall(r"^uint32_t (clearmap_\w+)\(([^)]*)\);", header, re.MULTILINE)
-        self.assertEqual(len(calls), 15)
+        self.assertEqual(len(calls), 27)
         for name, words in calls:
             wanted = []
             for word in re.sub(r"\s+", " ", words).replace("const ", "").split(", "):

@@ -138,11 +138,14 @@ class Maps(unittest.TestCase):
             np.testing.assert_array_equal(area.grid(), grid)
             bands = sum(1 << k for k in range(5) if grid[64 * k : 64 * k + 64].any())
             self.assertEqual(area._held.memory.layout.blank_bands, 2**64 - 1 - bands)
+            self.assertFalse((area._held.memory.cells[:, 2] >> np.uint64(150 - 128)).any())
+            drawn = range(y0 // 64, (y1 - 1) // 64 + 1) if turn % 3 else ()
             for made in (area, clearmap.Map(grid)):  # each tile with an obstacle has no mark
                 marks = words.marks_of(made._held.memory.cells)
                 for (band, tile), mark in np.ndenumerate(marks[:, None] >> np.arange(3, dtype="u8")):
                     part = grid[64 * band : 64 * band + 64, 64 * tile : 64 * tile + 64]
-                    self.assertEqual(mark & np.uint64(1), not part.any())
+                    is_marked, is_exact = bool(mark & np.uint64(1)), made is not area or band in drawn
+                    self.assertIn(is_marked, (not part.any(), is_exact and not part.any()))
             np.testing.assert_array_equal(area.distances(), clearmap.distances(grid))
 
     def test_is_clear(self):

@@ -135,7 +135,7 @@ class Places(unittest.TestCase):
         with self.assertRaises(TypeError):
             clearmap.Frame(100.0, 80, 1, 0, 0)
         plan = [(1.0, 1.0), (2.0, 0.5)]
-        self.assertEqual(exact.staircase(np.array(plan)), exact.staircase(plan))
+        np.testing.assert_array_equal(exact.staircase(np.array(plan)), exact.staircase(plan))
         self.assertRaisesRegex(clearmap.RosError, "no point", exact.staircase, np.zeros((0, 2)))
 
     def test_rounded_down(self):

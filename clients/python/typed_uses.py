@@ -28,6 +28,31 @@ robot.clearance_along(area, [(0.1, 0.1, 0), (0.2, np.float32(0.1), "1")])
 clearmap.Footprint([(1, 1), (-1, np.float32(1)), (0, -1)]).hits(area, np.int64(1), 2, 0.5)
 clearmap.plan_clearance(area, frame, [(0.1, 0.1), ("0.2", np.float32(0.1))], np.float32(0.1))
 clearmap.capped_distances(np.zeros((9, 9), bool), np.int64(4))
+nears: clearmap.Nears = area.at_many([2, 3], np.array([[y], [2]]), "city")
+grown = nears.distances.astype(np.int64) + 1
+mark = np.zeros((5, 5))[nears.indices((5, 5))]
+are_clear = ~area.clear_many(np.arange(3), 0, np.int64(4))
+columns, rows = frame.cell_many([0.1, 0.2], np.float32(0.1))
+area.at_many(columns, rows)
+area.is_clear(4, np.array([[0, 0], [3, 0]]))
+stairs = frame.staircase(np.array([[0.01, 0.01], [0.2, 0.1]]))
+area.path(stairs)
+path = frame.staircase([(0.01, 0.01), ("0.2", np.float32(0.1))])
+first: int = path[0][0]
+slopes: clearmap.Slopes = area.distance_and_gradient(frame, [0.1, 0.2], 0.1)
+steepest = float(slopes.gradients.max() + slopes.free.min())
+costs = clearmap.inflate(area, inscribed=0.1, radius=np.float32(0.2), scaling=3, resolution=0.05)
+costs |= clearmap.inflate(np.eye(5), low=1, inscribed=0, radius=1, scaling=1, resolution=1)
+field = clearmap.Field(area, "euclid2", threads=2)
+field.paint(x, y, 4, np.int64(5))
+field.update(area)
+field.update_patch(x, 0, np.zeros((2, 2), np.int8), low=65, unknown=-1)
+field.paint_disc(2.5, np.float32(2), 1)
+area.clear_polygon([(0, 0), (3, 0), (np.float64(0), 3)])
+area.paint_cells([1, 2], x)
+area.stamp(0, x, [[True, False]])
+room = field.distances[field.distances > 3].tolist() + field.obstacles[0, 0].tolist()
+near = field.at(x, y)
 
 
 def asked(client: clearmap.Client, pinned: clearmap.Pinned) -> None:
@@ -39,5 +64,6 @@ def asked(client: clearmap.Client, pinned: clearmap.Pinned) -> None:
     pinned.path([(x, y)])
     pinned.is_clear(np.int64(4), [(x, 1)])
     pinned.clearances(np.zeros((3, 2), np.int64))
+    pinned.at_many(x, np.arange(2)).rows.tolist()
     pinned.clearances([(x, y)])
     pinned.ask(clearmap.Queries().at(x, y).rect(x, 0, 4, 4).path([(x, y)]).clear_of(x, [(0, y)]))

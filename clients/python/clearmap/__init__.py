@@ -74,13 +74,16 @@ from .errors import (
     WrongAnswer,
     WrongMap,
 )
+from .fields import Field
 from .followed import FixedMap, Version
 from .follower import Follower
 from .footprints import Footprint
 from .framed import FramedFootprint
 from .frames import Frame, clear_distance
 from .grids import OPEN, WALL
+from .inflation import inflate
 from .library import NO_OBSTACLE, NOWHERE
+from .many import Nears
 from .maps import Map
 from .pinned import Pinned
 from .plans import TightestSegment, plan_clearance, read_plan, read_poses
@@ -98,17 +101,19 @@ from .requests import (
 from .ros_maps import RosMap, read_map
 from .rows import distances
 from .signed import gradients, signed_distances
+from .slopes import Slopes
 from .tables import Entry, read_distances
 from .tiles import FARTHER, capped_distances
 from .transforms import distance_transform_cdt, distance_transform_edt
 from .ways import TightestPose
 
-__version__ = "0.3.0"
+__version__ = "0.4.0"
 __all__ = [
     "Client",
     "Pinned",
     "Queries",
     "Near",
+    "Nears",
     "Tightest",
     "Change",
     "Published",
@@ -116,6 +121,7 @@ __all__ = [
     "Entry",
     "read_distances",
     "Map",
+    "Field",
     "Follower",
     "Version",
     "FixedMap",
@@ -134,6 +140,8 @@ __all__ = [
     "capped_distances",
     "signed_distances",
     "gradients",
+    "Slopes",
+    "inflate",
     "distance_transform_edt",
     "distance_transform_cdt",
     "NO_OBSTACLE",

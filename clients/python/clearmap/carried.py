@@ -5,6 +5,7 @@ from __future__ import annotations
 from typing import TYPE_CHECKING, Any, Dict, Tuple, Type
 
 from .grids import Memory, byte_map
+from .held import Reading
 from .library import Bits, numpy
 
 if TYPE_CHECKING:
@@ -30,7 +31,7 @@ def rebuilt(kind: Type[Map], words: Any, size: Size, edge: str) -> Map:
 
 def parts(area: Map) -> Tuple[Any, ...]:
     """What `rebuilt` takes, of the cells as they are now."""
-    return type(area), area._held.memory.cells, area.size, area.edge
+    return type(area), area._lent().cells, area.size, area.edge
 
 
 def others(area: Map) -> Dict[str, Any]:
@@ -43,7 +44,8 @@ def are_same(one: Map, other: Map) -> bool:
     np = numpy()
     if (one.size, one.edge, one.is_upside_down) != (other.size, other.edge, other.is_upside_down):
         return False
-    cells, others = one._held.memory.cells, other._held.memory.cells
     last = ALL >> -one.width % 64  # the columns of the last word
-    ends = (cells[:, -1] ^ others[:, -1]) & np.uint64(last)
-    return bool(np.array_equal(cells[:, :-1], others[:, :-1]) and not ends.any())
+    with Reading(one) as held, Reading(other) as held_too:
+        cells, others = held.memory.cells, held_too.memory.cells
+        ends = (cells[:, -1] ^ others[:, -1]) & np.uint64(last)
+        return bool(np.array_equal(cells[:, :-1], others[:, :-1]) and not ends.any())

@@ -1,14 +1,14 @@
 """A followed version: its map, which nobody changes, and how it is assembled from tiles."""
 import math
 from dataclasses import dataclass, field
-from typing import Any, Dict, NoReturn, Optional, Sequence
+from typing import Any, Callable, Dict, NoReturn, Optional, Sequence
 
 from . import clock
 from .errors import BadVersion
+from .held import Held
 from .library import numpy
 from .maps import Map
 from .records import Record, Tile, cells_of, tiles_of, words_of
-from .requests import Whole
 from .words import copied, marked, rows_for
 
 LOST = 3.0  # seconds after which a version that nobody has confirmed is told by `error`
@@ -18,7 +18,7 @@ FIXED = "the map of a version isn't changed: paint on a copy, as version.map.cop
 class FixedMap(Map):
     """A map that can't be painted or cleared. Queries are those of a `Map`."""
 
-    def _draw(self, name: str, *corners: Whole) -> NoReturn:
+    def _change(self, work: Callable[[Held], None], in_place: bool = True) -> NoReturn:
         raise TypeError(FIXED)
 
 

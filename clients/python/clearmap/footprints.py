@@ -1,20 +1,18 @@
 """Footprints: whether a robot of any convex shape is on an obstacle, pose by pose."""
 from __future__ import annotations
 
-import ctypes
 import math
-from array import array
 from fractions import Fraction
-from typing import TYPE_CHECKING, Iterable, Optional, SupportsFloat, Tuple
+from typing import TYPE_CHECKING, Any, Iterable, Optional, SupportsFloat, Tuple
 
 from . import poses
 from .decimals import exact, float_below, root_float_below
 from .gaps import nearest
-from .grids import EDGES, WALL, number_of
-from .library import NO_OBSTACLE, CFound, check, library, numpy
-from .maps import Held, Map
-from .polygons import STEPS, Corner, cross, outline_of, placed, rows_of
-from .requests import EUCLID2
+from .grids import EDGES, WALL
+from .held import Held, Reading
+from .library import numpy
+from .maps import Map
+from .polygons import STEPS, outline_of, placed
 from .ways import Pose, TightestPose, checked, tightest_pose
 
 if TYPE_CHECKING:
@@ -23,10 +21,8 @@ if TYPE_CHECKING:
 
 Real = SupportsFloat  # a float, an int, or a number of numpy
 WALLED = EDGES.index(WALL)
-HALF_DIAGONAL = math.sqrt(0.5)
 SLACK = 2.0**-13  # cells: more than rounding moves any corner, or a root is off
 MOVED = Fraction(1, 16384)  # cells: as far as rounding moves a corner at most
-LONE_POSES = 1000  # cells of a map that take as much work as one pose
 FARTHEST = 1 << 20  # cells: how far off the map clearances are told
 
 
@@ -51,20 +47,23 @@ class Footprint:
     ValueError for anything but such a polygon or pose. Any threads may use one footprint.
     """
 
-    __slots__ = ("_outline", "_inner", "_outer", "_cell", "_is_exact")
+    __slots__ = ("_outline", "_outer", "_cell", "_is_exact")
 
     def __init__(self, points: Iterable[Iterable[Real]], resolution: Real = 1.0) -> None:
         given = [tuple(point) for point in points]
         self._outline = outline_of(given, resolution)
-        inner, outer = _circles(self._outline)
-        self._inner, self._outer = inner - SLACK, outer + SLACK
+        self._outer = max(math.hypot(*corner) for corner in self._outline) / STEPS + SLACK
         self._cell = exact(float(resolution))
         lengths = (exact(float(length)) for point in given for length in point)
         self._is_exact = all((length / self._cell * STEPS).denominator == 1 for length in lengths)
 
     def hits(self, area: Map, x: Real, y: Real, theta: Real) -> bool:
         """Whether the robot is on an obstacle of a map at this pose."""
-        return self._hits(held_of(area), *_pose(x, y, theta))
+        with reading(area) as held:
+            pose = _pose(x, y, theta)
+            if not self._is_near(held, *pose[:2]):
+                return held.edge == WALLED
+            return poses.hits_at(held, self._outline, *pose)
 
     def is_clear(self, area: Map, x: Real, y: Real, theta: Real) -> bool:
         """Whether it is on none."""
@@ -74,22 +73,20 @@ class Footprint:
         self, area: Map, x: ArrayLike, y: ArrayLike, theta: ArrayLike
     ) -> NDArray[np.bool_]:
         """`hits` of each pose of three arrays, which numpy broadcasts: an array of bools. All poses
-        are answered for the cells as they are when the call starts. If there are many poses for the
-        map, the call first computes each cell's distance, in 12 bytes per cell while it runs."""
-        np = numpy()
-        held = held_of(area)
-        arrays = poses.flat(x, y, theta)
-        found = np.empty(arrays[0].shape, bool)
-        out, each = found.reshape(-1), tuple(numbers.ravel() for numbers in arrays)
-        if area.width * area.height <= LONE_POSES * out.size:
-            circles = self._inner, self._outer
-            left = poses.by_table(held, circles, each, out)
-            each = tuple(numbers[left] for numbers in each)
-            out[left] = poses.by_cells(held, self._outline, each, self._by_cells)
-        else:
-            for number, pose in enumerate(zip(*(numbers.tolist() for numbers in each))):
-                out[number] = self._hits(held, *pose)
-        return found  # type: ignore[no-any-return]
+        are answered for the cells as they are when the call starts. It takes 60 bytes for each
+        pose, and 10 MB at most for the corners."""
+        with reading(area) as held:
+            arrays = poses.flat(x, y, theta)
+            each = tuple(numbers.ravel() for numbers in arrays)
+            near = self._is_near(held, *each[:2])
+            found = numpy().full(near.size, held.edge == WALLED)
+            found[near] = poses.hits_of(held, self._outline, tuple(part[near] for part in each))
+            return found.reshape(arrays[0].shape)  # type: ignore[no-any-return]
+
+    def _is_near(self, held: Held, x: Any, y: Any) -> Any:
+        """Whether poses are near enough to the map to hit one of its cells: numbers, or arrays."""
+        (width, height), far = held.size, self._outer + 1
+        return (-far <= x) & (x <= width + far) & (-far <= y) & (y <= height + far)
 
     # ---- clearances
 
@@ -104,7 +101,8 @@ class Footprint:
         1048576 cells from the map's first corner.
         """
         pose = _pose(x, y, theta)
-        square = self._square(held_of(area), pose)
+        with reading(area) as held:
+            square = self._square(held, pose)
         if square is None:
             return math.inf
         return root_float_below(square * self._cell * self._cell, self._moved(pose) * self._cell)
@@ -122,13 +120,13 @@ class Footprint:
         """
         if not within >= 1 / 512:
             raise ValueError(f"within is {within}, where 1/512 of a cell or more is wanted")
-        held = held_of(area)
+        with reading(area) as held:
 
-        def cells(pose: Pose) -> float:
-            square = self._square(held, _pose(*pose))
-            return math.inf if square is None else root_float_below(square, self._moved(pose))
+            def cells(pose: Pose) -> float:
+                square = self._square(held, _pose(*pose))
+                return math.inf if square is None else root_float_below(square, self._moved(pose))
 
-        found, at = tightest_pose(cells, checked(way), self._outer, within)
+            found, at = tightest_pose(cells, checked(way), self._outer, within)
         return TightestPose(found if found in (0, math.inf) else self._metres(found), at)
 
     def _metres(self, cells: float) -> float:
@@ -146,47 +144,6 @@ class Footprint:
             raise ValueError(f"a pose of {pose}, where at most {FARTHEST} cells off is wanted")
         found = nearest(held, placed(self._outline, *pose), STEPS)
         return None if found is None else Fraction(*found[0]) / (STEPS * STEPS)
-
-    # ---- one pose
-
-    def _hits(self, held: Held, x: float, y: float, theta: float) -> bool:
-        """By the circles, and if these don't decide, by the cells."""
-        width, height = held.size
-        far = self._outer + 1
-        if not (-far <= x <= width + far and -far <= y <= height + far):
-            return held.edge == WALLED
-        told = self._by_circles(held, x, y)
-        return self._by_cells(held, x, y, theta) if told is None else told
-
-    def _by_circles(self, held: Held, x: float, y: float) -> Optional[bool]:
-        """False if all obstacles are outside the outer circle, True if one meets the inner circle,
-        otherwise None."""
-        column, row = math.floor(x), math.floor(y)
-        width, height = held.size
-        if not (0 <= column < width and 0 <= row < height):
-            return None
-        away = self._outer + HALF_DIAGONAL + math.hypot(x - column - 0.5, y - row - 0.5)
-        near = _nearer(held, column, row, int(away * away) + 1)
-        if near is None:
-            return False
-        gap_x, gap_y = (max(n - at, at - n - 1, 0) for n, at in zip(near, (x, y)))
-        return True if math.hypot(gap_x, gap_y) < self._inner else None
-
-    def _by_cells(self, held: Held, x: float, y: float, theta: float) -> bool:
-        """Whether a covered cell is an obstacle."""
-        width, height = held.size
-        corners = placed(self._outline, x, y, theta)
-        if held.edge == WALLED and _leaves(corners, width * STEPS, height * STEPS):
-            return True
-        cells = held.memory.cells
-        for row, first, end in rows_of(corners, 0, height):
-            first, end = max(first, 0), min(end, width)
-            if first < end:
-                words = cells[row, first // 64 : (end + 63) // 64].tobytes()
-                bits = int.from_bytes(words, "little") >> first % 64
-                if bits & ((1 << (end - first)) - 1):
-                    return True
-        return False
 
 
 def _pose(*pose: Real) -> Pose:
@@ -208,35 +165,9 @@ def _number(name: str, given: Real) -> float:
         raise TypeError(f"{name} is of {kind}, where a number is wanted: {many}") from None
 
 
-def held_of(area: Map) -> Held:
-    """The cells of a map as they are now."""
+def reading(area: Map) -> Reading:
+    """A look at the cells of a map as they are now."""
     if not isinstance(area, Map):
         kind = type(area).__name__
         raise TypeError(f"a map of {kind}, where a Map is wanted: clearmap.Map(grid) makes one")
-    return area._held
-
-
-def _circles(outline: Iterable[Corner]) -> Tuple[float, float]:
-    """The radii of the largest circle around the centre inside a polygon, 0 if there is none, and
-    of the smallest that contains it."""
-    corners = list(outline)
-    inner = min(
-        cross(a, b, (0, 0)) / math.hypot(b[0] - a[0], b[1] - a[1])
-        for a, b in zip(corners, corners[1:] + corners[:1])
-    )
-    outer = max(math.hypot(x, y) for x, y in corners)
-    return max(inner, 0.0) / STEPS, outer / STEPS
-
-
-def _leaves(corners: Iterable[Corner], right: int, below: int) -> bool:
-    """Whether a polygon isn't wholly on a map of this size in steps."""
-    return not all(0 <= x <= right and 0 <= y <= below for x, y in corners)
-
-
-def _nearer(held: Held, x: int, y: int, limit: int) -> Optional[Tuple[int, int]]:
-    """The nearest obstacle of a cell, if the square of its distance is below a limit."""
-    point, found = array("H", (x, y)), CFound()
-    where = *held.where, number_of(EUCLID2), held.edge, point.buffer_info()[0], 1, limit
-    check(library().clearmap_bits_clear_of(*where, ctypes.byref(found)))
-    near = found.near
-    return None if near.dist == NO_OBSTACLE else (near.x, near.y)
+    return Reading(area)

@@ -6,9 +6,10 @@ from typing import TYPE_CHECKING, Any, Iterable, List, Tuple
 from . import poses
 from .decimals import Number, exact
 from .errors import RosError
-from .footprints import Footprint, held_of
+from .footprints import Footprint, reading
+from .held import Reading
 from .library import numpy
-from .maps import Held, Map
+from .maps import Map
 from .ways import Pose, TightestPose
 
 if TYPE_CHECKING:
@@ -23,15 +24,15 @@ UPSIDE_DOWN = (
 )
 
 
-def held_in(frame: Frame, area: Map) -> Held:
-    """The cells of a frame's map as they are now. RosError for a map that isn't of its size, and
-    for one whose row 0 is the lowest."""
-    held = held_of(area)
-    if held.size != frame.size:
-        raise RosError(f"the map has {held.size} cells, and its frame {frame.size}")
+def reading_in(frame: Frame, area: Map) -> Reading:
+    """A look at the cells of a frame's map as they are now. RosError for a map that isn't of its
+    size, and for one whose row 0 is the lowest."""
+    look = reading(area)
+    if area.size != frame.size:
+        raise RosError(f"the map has {area.size} cells, and its frame {frame.size}")
     if area.is_upside_down:
         raise RosError(UPSIDE_DOWN)
-    return held
+    return look
 
 
 def _in_cells(frame: Frame, x: ArrayLike, y: ArrayLike, theta: ArrayLike) -> List[Any]:
@@ -69,7 +70,7 @@ class FramedFootprint:
 
     def hits(self, area: Map, x: Number, y: Number, theta: Number) -> bool:
         """Whether the robot is on an obstacle of the map at this pose."""
-        held_in(self._frame, area)
+        reading_in(self._frame, area)
         return self.in_cells.hits(area, *self._frame.pose_in_cells(x, y, theta))
 
     def is_clear(self, area: Map, x: Number, y: Number, theta: Number) -> bool:
@@ -82,13 +83,13 @@ class FramedFootprint:
         """`hits` of each pose of three arrays, which numpy broadcasts, as `Footprint.hits_many`.
         Metres are floats here, where `hits` takes them for the decimals that they are written as.
         """
-        held_in(self._frame, area)
+        reading_in(self._frame, area)
         return self.in_cells.hits_many(area, *_in_cells(self._frame, x, y, theta))
 
     def clearance(self, area: Map, x: Number, y: Number, theta: Number) -> float:
         """How far the robot is from the nearest obstacle at this pose, in metres, and never more
         than that: 0 if it hits or touches one, infinite where there is none."""
-        held_in(self._frame, area)
+        reading_in(self._frame, area)
         return self.in_cells.clearance(area, *self._frame.pose_in_cells(x, y, theta))
 
     def clearance_along(
@@ -96,7 +97,7 @@ class FramedFootprint:
     ) -> TightestPose:
         """The least clearance on the way through poses, and the pose where it was found, as
         `Footprint.clearance_along` has it; `within` is in cells."""
-        held_in(self._frame, area)
+        reading_in(self._frame, area)
         cells: List[Pose] = [self._frame.pose_in_cells(*pose) for pose in way]
         found, (across, down, turn) = self.in_cells.clearance_along(area, cells, within)
         x, y = self._frame.point((across, down))

@@ -9,14 +9,20 @@ from __future__ import annotations
 import math
 from dataclasses import dataclass
 from fractions import Fraction
-from typing import Iterable, Iterator, List, Sequence, Tuple
+from typing import TYPE_CHECKING, Any, Iterable, Iterator, List, Sequence, Tuple, overload
 
 from .decimals import Number, exact, float_below, root_below
 from .errors import RosError
 from .framed import FramedFootprint
 from .library import NO_OBSTACLE
 from .requests import CHESS, CITY, EUCLID2, LONGEST_PATH, Cell, Whole, whole
+from .stairs import cells_many, corners, crossed, stairs
 from .ways import Pose
+
+if TYPE_CHECKING:
+    from numpy.typing import ArrayLike, NDArray
+
+    from .stairs import Places
 
 Point = Tuple[Number, Number]
 
@@ -129,14 +135,25 @@ class Frame:
             return math.inf
         return float_below(max(Fraction(0), root_below(number) - less) * self.resolution)
 
-    def staircase(self, plan: Sequence[Point]) -> List[Cell]:
+    def cell_many(self, xs: ArrayLike, ys: ArrayLike) -> Tuple[Places, Places]:
+        """`cell` of each point of two arrays in metres, which numpy broadcasts: columns and rows,
+        as `Map.at_many` takes them. RosError names the first point that isn't on the map."""
+        return cells_many(self, xs, ys)
+
+    @overload
+    def staircase(self, plan: NDArray[Any]) -> Places: ...
+    @overload
+    def staircase(self, plan: Sequence[Point]) -> List[Cell]: ...
+    def staircase(self, plan: Any) -> Any:
         """A path for clearmap along a plan of points in metres: its corners, each in the row or
-        column of the one before.
+        column of the one before. Of an array of the shape (points, 2) it is an array too.
 
         The path goes through exactly the cells that the plan's segments cross, and where one goes
         through a corner, through one of the two next to it. So each point of the plan lies in a
         cell of the path, and the middle of each such cell is less than one cell from the plan.
         """
+        if hasattr(plan, "dtype"):
+            return stairs(self, plan)
         ends = [self._upwards(point) for point in plan]
         if not ends:
             raise RosError("the plan has no point")
@@ -144,31 +161,6 @@ class Frame:
         for start, end in zip(ends, ends[1:]):
             walked += crossed(start, end)
         return corners([(x, self.height - 1 - up) for x, up in walked])
-
-
-def crossed(start: Tuple[Fraction, Fraction], end: Tuple[Fraction, Fraction]) -> Iterator[Cell]:
-    """The cells that a segment enters after the cell that it begins in, in their order; each is
-    next to the one before."""
-    x, y = math.floor(start[0]), math.floor(start[1])
-    crossings = []
-    for axis in (0, 1):
-        first, last = math.floor(start[axis]), math.floor(end[axis])
-        step = 1 if last > first else -1
-        for at in range(first, last, step):
-            edge = at + 1 if step > 0 else at
-            crossings.append(((edge - start[axis]) / (end[axis] - start[axis]), axis, step))
-    for _, axis, step in sorted(crossings):
-        x, y = (x + step, y) if axis == 0 else (x, y + step)
-        yield x, y
-
-
-def corners(cells: Sequence[Cell]) -> List[Cell]:
-    """A path of neighbouring cells by its ends and the cells where it turns."""
-    kept = [cells[0]]
-    for before, here, after in zip(cells, cells[1:], cells[2:]):
-        if (here[0] - before[0], here[1] - before[1]) != (after[0] - here[0], after[1] - here[1]):
-            kept.append(here)
-    return kept if len(cells) == 1 else kept + [cells[-1]]
 
 
 def pieces(path: Sequence[Cell]) -> Iterator[Sequence[Cell]]:

@@ -5,8 +5,8 @@ import ctypes
 from typing import Iterable, List, Optional, Sequence, Tuple
 
 from .grids import EDGES, WALL, number_of
-from .library import NO_OBSTACLE, CNear, check, library
-from .maps import Held
+from .held import Held
+from .library import NO_OBSTACLE, CNear, check, quick
 from .polygons import Corner, cross
 from .requests import EUCLID2, Cell
 
@@ -108,7 +108,7 @@ class _Search:
             for middle, side in zip(middles, held.size)
         )
         where = *held.where, number_of(EUCLID2), held.edge, x, y
-        check(library().clearmap_bits_at(*where, ctypes.byref(near)))
+        check(quick().clearmap_bits_at(*where, ctypes.byref(near)))
         if near.dist != NO_OBSTACLE:
             self._offer((near.x, near.y))
 

@@ -1,4 +1,4 @@
-"""Finds libclearmap.so.1, and declares its calls as clients/c/clearmap.h has them."""
+"""Finds libclearmap.so.2, and declares its calls as clients/c/clearmap.h has them."""
 import ctypes
 import functools
 import importlib
@@ -9,12 +9,12 @@ from typing import Any, Dict, List, Optional
 
 from .errors import ClearmapError
 
-FILE = "libclearmap.so.1"
-VERSION = "0.3."  # the start of the versions of the library that have the calls below
+FILE = "libclearmap.so.2"
+VERSION = "0.4."  # the start of the versions of the library that have the calls below
 NO_OBSTACLE = 0xFFFF_FFFF  # the distance where there is no obstacle at all
 NOWHERE = -2  # the column and the row of no obstacle
 
-DONE, CROOKED, MEMORY = 0, 8, 10  # statuses
+DONE, OUTSIDE, CROOKED, MEMORY, BENT = 0, 7, 8, 10, 16  # statuses
 
 
 class Bytes(ctypes.Structure):
@@ -68,18 +68,27 @@ def _declare(library: ctypes.CDLL) -> None:
             "rect": [u32, u32, u32, u32, ctypes.POINTER(CFound)],
             "path": [address, length, ctypes.POINTER(CFound)],
             "clear_of": [address, length, u32, ctypes.POINTER(CFound)],
+            "at_many": [address, length, address, length, ctypes.POINTER(length)],
+            "clear_many": [address, length, u32, address, length, ctypes.POINTER(length)],
+            "costs": [address, length, u32, u32, address, length],
         }
         for name, rest in calls.items():
             call = getattr(library, f"clearmap_{kind}_{name}")
             call.argtypes, call.restype = [*on_map, *rest], u32
+        hits: Dict[str, List[Any]] = {"hits": [address], "hits_many": [length, address, length]}
+        for name, rest in hits.items():  # which take no metric
+            call = getattr(library, f"clearmap_{kind}_{name}")
+            call.argtypes, call.restype = [*on_map[:-1], address, length, *rest], u32
     by_bytes, by_bits = ctypes.POINTER(Bytes), ctypes.POINTER(Bits)
     library.clearmap_pack.argtypes = [address, length, by_bytes, address, length, by_bits]
     library.clearmap_unpack.argtypes = [
         address, length, by_bits, ctypes.c_uint8, ctypes.c_uint8, address, length,
     ]  # fmt: skip
     library.clearmap_mark.argtypes = [address, length, by_bits, length]
-    for call in (library.clearmap_pack, library.clearmap_unpack, library.clearmap_mark):
-        call.restype = u32
+    for name in ("pack", "unpack", "mark", "paint", "clear"):
+        getattr(library, f"clearmap_{name}").restype = u32
+    for call in (library.clearmap_paint, library.clearmap_clear):
+        call.argtypes = [address, length, by_bits, u32, u32, u32, u32]
 
 
 def _places() -> List[pathlib.Path]:
@@ -120,10 +129,21 @@ def _why_not(path: str, fault: Optional[OSError]) -> str:
 
 
 @functools.lru_cache(maxsize=None)
+def quick() -> ctypes.PyDLL:
+    """The same library, whose calls keep the interpreter's lock: for those of some microseconds,
+    which would wait for it longer than they run next to busy threads, and which nothing else of
+    this process may come between. They neither wait nor call back, so the lock is held no longer
+    than they run."""
+    loaded = ctypes.PyDLL(library()._name, handle=library()._handle)
+    _declare(loaded)
+    return loaded
+
+
+@functools.lru_cache(maxsize=None)
 def library() -> ctypes.CDLL:
     """The library, loaded at the first use. ImportError if it isn't there, or is another one.
 
-    It isn't loaded by PyDLL: the interpreter's lock is released while a call runs."""
+    The interpreter's lock is released while one of its calls runs: see `quick`."""
     path = _found()
     try:
         loaded = ctypes.CDLL(path)
@@ -139,6 +159,7 @@ def library() -> ctypes.CDLL:
     return loaded
 
 
+@functools.lru_cache(maxsize=None)
 def numpy() -> Any:
     """The module numpy, imported at the first use."""
     try:

@@ -5,10 +5,10 @@ import copy
 import ctypes
 import functools
 import math
-from array import array
 from typing import (
     TYPE_CHECKING,
     Any,
+    Callable,
     Dict,
     Iterable,
     List,
@@ -21,30 +21,35 @@ from typing import (
 )
 
 from . import carried, requests
-from .errors import BadArguments, BadPath, Crooked, OutOfRange, Refused, Size, extent
+from .asking import FAR, FEW_CELLS, clear_many, near_many, outside, refused
+from .drawing import Drawing
+from .errors import BadArguments, BadPath, Crooked, Refused, Size
 from .grids import EDGES, OPEN, Memory, edge_of, map_of, number_of
+from .held import Held, Reading, change
 from .images import pbm_map
-from .library import CROOKED, NO_OBSTACLE, Bits, CFound, CNear, check, library, numpy
+from .library import CROOKED, NO_OBSTACLE, Bits, CFound, CNear, check, library, numpy, quick
 from .limits import Limits
+from .many import Nears, Way, address_of, packed_way, way_of
 from .occupancy import lying, occupancy_map
 from .requests import (
-    EUCLID2, LARGEST_SIDE, LONGEST_PATH, Cell, Near, Points, Request, Tightest, Whole, whole,
+    END, EUCLID2, LARGEST_SIDE, Near, Points, Request, Tightest, Whole, whole,
 )  # fmt: skip
 from .rows import distances_of
+from .shapes import Region, draw_region, put_region
 from .signed import NO_BANDS, gradients_of, signed_of
 from .turns import Turn
-from .words import copied, drawn, marked, rows_for
+from .words import draw, marked, rows_for
 
 if TYPE_CHECKING:
     import numpy as np
-    from numpy.typing import NDArray
+    from numpy.typing import ArrayLike, NDArray
 
     from .frames import Frame
     from .rows import Distances, Indices, Nearest, Obstacles
     from .signed import Reals
+    from .slopes import Slopes
 
 M = TypeVar("M", bound="Map")
-END = 1 << 32  # nothing below it can be asked for
 
 
 def packed(memory: Memory) -> Memory:
@@ -67,24 +72,12 @@ def unpacked(memory: Memory, y0: int, y1: int) -> Any:
 
 
 @functools.lru_cache(maxsize=None)
-def _call(name: str) -> Any:
-    """A query of the library, over bits."""
-    return getattr(library(), f"clearmap_bits_{name}")
+def _call(name: str, is_quick: bool) -> Any:
+    """A query over bits, which keeps the interpreter's lock if it is quick."""
+    return getattr(quick() if is_quick else library(), f"clearmap_bits_{name}")
 
 
-class Held:
-    """The cells of a map at one time, which nobody writes, the number of its edge, and how a call
-    takes them."""
-
-    __slots__ = ("memory", "edge", "size", "where")
-
-    def __init__(self, memory: Memory, edge: int) -> None:
-        self.memory, self.edge = memory, edge
-        self.size: Size = int(memory.layout.width), int(memory.layout.height)
-        self.where = memory.cells.ctypes.data, memory.length, ctypes.byref(memory.layout)
-
-
-class Map:
+class Map(Drawing):
     """A map of this process: the cells of a grid, as `distances` takes it, in an eighth of a byte
     per cell. The grid isn't used afterwards. Queries return what those of a `Pinned` return, and
     raise what they raise.
@@ -95,9 +88,10 @@ class Map:
     by `Map.of_occupancy(data, frame)`.
 
     Any threads may query, paint and clear one map at any time: a query answers for the cells as
-    they are when it starts. `paint` and `clear` copy the map's bits, and wait only for each other;
-    a signal's handler may call neither. A child that is forked meanwhile has the cells from before
-    or after the change, and its own turn.
+    they are when it starts. `paint` and `clear` change the map's bits in place, unless a call that
+    lasts still reads them, or a copy of the map shares them: then they copy them first. They wait
+    for each other, and a call that lasts waits for them; a signal's handler may call neither. A
+    child that is forked meanwhile has the cells from before or after the change, and its own turn.
 
     A map can be copied and pickled, with what a subclass keeps besides, and two are equal if their
     sizes, edges and obstacles are, and both have the same row on top. It has no hash, since it may
@@ -117,18 +111,24 @@ class Map:
     ) -> None:
         self._begin(packed(map_of(grid, Limits(low, high, unknown))), edge)
 
-    def _begin(self, memory: Memory, edge: str) -> None:
-        """Holds a map in bits that nobody writes any more."""
+    def _begin(self, memory: Memory, edge: str, is_shared: bool = False) -> None:
+        """Holds a map in bits that nobody else writes any more."""
         self._edge, self._turn = edge_of(edge), Turn()
-        self._held = Held(memory, self._edge)
+        self._held = Held(memory, self._edge, is_shared)
         self._size = self._held.size
 
     @classmethod
-    def _of(cls: Type[M], memory: Memory, edge: str) -> M:
-        """A map of cells that are already packed."""
+    def _of(cls: Type[M], memory: Memory, edge: str, is_shared: bool = False) -> M:
+        """A map of cells that are already packed. If they are shared, it changes a copy of them."""
         made = cls.__new__(cls)
-        made._begin(memory, edge)
+        made._begin(memory, edge, is_shared)
         return made
+
+    def _lent(self) -> Memory:
+        """The cells as they are now, for others to keep: this map changes them no more."""
+        with Reading(self) as held:
+            held.is_shared = True
+            return held.memory
 
     @classmethod
     def of_pbm(cls: Type[M], image: object, edge: str = OPEN) -> M:
@@ -200,17 +200,17 @@ class Map:
 
     def copy(self) -> Map:
         """A map of the same cells and edge, which may be painted and cleared."""
-        made = Map._of(self._held.memory, self.edge)  # cells that nobody writes
+        made = Map._of(self._lent(), self.edge, True)
         made._is_upside_down = self._is_upside_down
         return made
 
     def __copy__(self: M) -> M:
-        made = type(self)._of(self._held.memory, self.edge)
+        made = type(self)._of(self._lent(), self.edge, True)
         vars(made).update(carried.others(self))
         return made
 
     def __deepcopy__(self: M, memo: Dict[int, Any]) -> M:
-        made = memo[id(self)] = type(self)._of(self._held.memory, self.edge)
+        made = memo[id(self)] = type(self)._of(self._lent(), self.edge, True)
         vars(made).update(copy.deepcopy(carried.others(self), memo))
         return made
 
@@ -249,10 +249,15 @@ class Map:
 
     # ---- queries
 
-    def _asked(self, name: str, metric: str, *rest: Any) -> int:
-        """The status of a call about the cells as they are now."""
-        held = self._held  # not freed before the call is done
-        return int(_call(name)(*held.where, number_of(metric), self._edge, *rest))
+    def _asked(self, name: str, cells: int, metric: str, *rest: Any) -> int:
+        """The status of a call about the cells as they are now, which looks at this many of them:
+        for a few it keeps the interpreter's lock."""
+        numbers = number_of(metric), self._edge
+        if cells <= FEW_CELLS:
+            held = self._held  # not freed before the call is done
+            return int(_call(name, True)(*held.where, *numbers, *rest))
+        with Reading(self) as held:
+            return int(_call(name, False)(*held.where, *numbers, *rest))
 
     def at(self, x: Whole, y: Whole, metric: str = EUCLID2) -> Optional[Near]:
         """As `Pinned.at`."""
@@ -263,9 +268,9 @@ class Map:
         """The nearest obstacle as the library returns it."""
         width, height = self._size
         if not (0 <= x < width and 0 <= y < height):
-            raise _outside((x, y), requests.at(x, y, metric), self._size)
+            raise outside((x, y), requests.at(x, y, metric), self._size)
         near = CNear()
-        check(self._asked("at", metric, x, y, ctypes.byref(near)))
+        check(self._asked("at", 1, metric, x, y, ctypes.byref(near)))
         return near
 
     def gradient(
@@ -286,9 +291,10 @@ class Map:
     ) -> Optional[Tightest]:
         """As `Pinned.rect`."""
         number_of(metric)
-        corners = self._corners(f"RECT {metric}", x0, y0, x1, y1)
-        found = CFound()
-        check(self._asked("rect", metric, *corners, ctypes.byref(found)))
+        left, top, right, bottom = self._corners(f"RECT {metric}", x0, y0, x1, y1)
+        found, cells = CFound(), (right - left) * (bottom - top)
+        where = left, top, right, bottom, ctypes.byref(found)
+        check(self._asked("rect", cells, metric, *where))
         return _tightest(found)
 
     def path(self, points: Points, metric: str = EUCLID2) -> Optional[Tightest]:
@@ -309,27 +315,66 @@ class Map:
         self, distance: Optional[int], points: Points, metric: str
     ) -> Optional[Tightest]:
         """PATH without a distance, otherwise CLEAROF."""
-        cells = _cells(points)
-        if not self._has(cells) or not (distance is None or 0 <= distance < END):
-            raise self._bad_path(distance, cells, metric)
-        numbers = array("H", [number for cell in cells for number in cell])
-        found = CFound()
+        way = way_of(points)
+        numbers = packed_way(way, self._size)
+        if numbers is None or not (distance is None or 0 <= distance < END):
+            raise self._bad_path(distance, way, metric)
+        found, count = CFound(), len(way)
         name, limit = ("path", ()) if distance is None else ("clear_of", (distance,))
-        way = numbers.buffer_info()[0], len(cells)
-        status = self._asked(name, metric, *way, *limit, ctypes.byref(found))
+        where = address_of(numbers), count, *limit, ctypes.byref(found)
+        status = self._asked(name, count * max(self._size), metric, *where)
         if status == CROOKED:
-            raise self._bad_path(distance, cells, metric)
+            raise self._bad_path(distance, way, metric)
         check(status)
         return _tightest(found)
 
-    # ---- what a server refuses
+    # ---- many cells
 
-    def _has(self, cells: List[Cell]) -> bool:
-        """Whether these are the points of a path on the map."""
-        width, height = self._size
-        return 0 < len(cells) <= LONGEST_PATH and all(
-            0 <= x < width and 0 <= y < height for x, y in cells
-        )
+    def at_many(self, xs: ArrayLike, ys: ArrayLike, metric: str = EUCLID2) -> Nears:
+        """`at` of each cell of two arrays of whole numbers, columns and rows, which numpy
+        broadcasts: arrays of their shape. All are answered for the cells as they are when the call
+        starts. If one isn't on the map, OutOfRange names the first of them, and none is answered.
+        TypeError for what isn't whole, as floats, and for a masked array."""
+        return near_many(self, xs, ys, metric)
+
+    def clear_many(
+        self, xs: ArrayLike, ys: ArrayLike, distance: Whole, metric: str = EUCLID2
+    ) -> NDArray[np.bool_]:
+        """Whether no obstacle is nearer than a distance to each of many cells, as of `at_many`: an
+        array of bools. It is faster than `at_many` if the distance is small. With euclid2 the
+        distance is a square, as `clear_of` takes it and `clear_distance` gives it; 0 is clear
+        everywhere."""
+        return clear_many(self, xs, ys, whole(distance), metric)
+
+    def distance_and_gradient(self, frame: Frame, xs: ArrayLike, ys: ArrayLike) -> Slopes:
+        """The Euclidean distance from obstacles at points in metres on a frame's map, how it grows,
+        and what is free, as of `Slopes`: arrays of the shape that numpy broadcasts `xs` and `ys`
+        to.
+
+        The distance is a surface over the middles of the cells, at each of which it is that of the
+        cell, from middle to middle. Between the four middles around a point it is bilinear: with
+        the point a part f of a cell to the right of the left ones, and g below the upper ones, it
+        is (1 - g) * ((1 - f) * upper left + f * upper right) + g * ((1 - f) * lower left + f *
+        lower right). Off the map, the nearest middle on it stands for a middle; with the edge
+        `wall` the middles of the frame are 0, as obstacles. So it is 0 at the middle of an
+        obstacle, and nowhere below 0.
+
+        The gradient is that of this surface, to the right and upwards, in metres a metre: on a line
+        through middles that of the square to the right of it, or below. The distance isn't a safe
+        bound: it is less or more than that of the point itself to the nearest obstacle's middle, by
+        at most 0.71 of a cell. `free` is one: never more than the distance of any point of the cell
+        from any point of an obstacle, as of `Frame.free_metres`. Without an obstacle both are
+        infinite, and the gradient is 0.
+
+        RosError for a map that isn't of the frame's size or whose row 0 is the lowest, and for the
+        first point that isn't on it. All points are answered for the cells as they are when the
+        call starts.
+        """
+        from .slopes import slopes_of_map  # which has maps itself
+
+        return slopes_of_map(self, frame, xs, ys)
+
+    # ---- what a server refuses
 
     def _corners(self, name: str, *corners: Whole) -> Tuple[int, ...]:
         """The corners x0, y0, x1, y1 of a rectangle that has a cell and is on the map."""
@@ -338,21 +383,22 @@ class Map:
         if not (0 <= x0 < x1 <= LARGEST_SIDE and 0 <= y0 < y1 <= LARGEST_SIDE):
             raise BadArguments(12, "BadArguments", (), requests.draw(name, *numbers).line)
         if not (x1 <= self.width and y1 <= self.height):
-            raise _outside(numbers, requests.draw(name, *numbers), self._size)
+            raise outside(numbers, requests.draw(name, *numbers), self._size)
         return numbers
 
-    def _bad_path(self, distance: Optional[int], cells: List[Cell], metric: str) -> Refused:
+    def _bad_path(self, distance: Optional[int], way: Way, metric: str) -> Refused:
         """The refusal of a path."""
+        cells = way if isinstance(way, list) else [(x, y) for x, y in way.tolist()]
         request: Request[Any] = requests.path(cells, metric)
         if distance is not None:
             request = requests.clear_of(distance, cells, metric)
         numbers = [number for cell in cells for number in cell] + [distance or 0]
         if not cells and 0 <= numbers[0] < END:
             return BadPath(8, "BadPath", (), request.line)
-        if not self._has(cells):
-            return _outside(numbers, request, self._size)
+        if packed_way(way, self._size) is None:
+            return outside(numbers, request, self._size)
         if not 0 <= numbers[-1] < END:
-            return _refused(BadArguments, request, f"a distance is 0 to {END - 1}")
+            return refused(BadArguments, request, FAR)
         pairs = enumerate(zip(cells, cells[1:]), 1)
         index = next(k for k, (a, b) in pairs if a[0] != b[0] and a[1] != b[1])
         return Crooked(9, "Crooked", (index,), request.line)
@@ -373,24 +419,28 @@ class Map:
     ) -> Tuple[Distances, Indices]: ...
     def distances(self, metric: str = EUCLID2, nearest: Nearest = False, threads: int = 1) -> Any:
         """As the package's `distances`, of this map and its edge."""
-        return distances_of(self._held.memory, metric, self.edge, nearest, threads)
+        with Reading(self) as held:
+            return distances_of(held.memory, metric, self.edge, nearest, threads)
 
     def signed_distances(
         self, metric: str = EUCLID2, resolution: float = 1.0, threads: int = 1
     ) -> Reals:
         """As the package's `signed_distances`, of this map and its edge."""
-        return signed_of(self._held.memory, metric, self.edge, resolution, threads)
+        with Reading(self) as held:
+            return signed_of(held.memory, metric, self.edge, resolution, threads)
 
     def gradients(self, metric: str = EUCLID2, inside: bool = False, threads: int = 1) -> Reals:
         """As the package's `gradients`, of this map and its edge."""
-        return gradients_of(self._held.memory, metric, self.edge, inside, threads)
+        with Reading(self) as held:
+            return gradients_of(held.memory, metric, self.edge, inside, threads)
 
     def grid(self, y0: Whole = 0, y1: Optional[Whole] = None) -> NDArray[np.bool_]:
         """The cells as an array of bools by rows, True for an obstacle: of rows y0 to y1 - 1, which
         are on the map, else OutOfRange; without y1 up to the last."""
         last = self.height if y1 is None else y1
         _, first, _, end = self._corners("the rows of", 0, y0, self.width, last)
-        return unpacked(self._held.memory, first, end)  # type: ignore[no-any-return]
+        with Reading(self) as held:
+            return unpacked(held.memory, first, end)  # type: ignore[no-any-return]
 
     # ---- changes
 
@@ -404,51 +454,19 @@ class Map:
         self._draw("CLEAR", x0, y0, x1, y1)
 
     def _draw(self, name: str, *corners: Whole) -> None:
-        """Replaces the cells, which queries may still read, by a changed copy."""
-        x0, y0, x1, y1 = self._corners(name, *corners)
-        first, mask = _mask(x0, x1)
-        with self._turn.lock():
-            _, cells, _, old = self._held.memory
-            rows, end = copied(cells, old.width), first + len(mask)
-            part = rows[y0:y1, first:end]
-            if name == "PAINT":
-                part |= mask
-            else:
-                part &= ~mask
-            memory = drawn(rows, old, y0, y1, first, end, name == "PAINT")
-            self._held = Held(memory, self._edge)
+        """Draws the cells of a rectangle."""
+        numbers = self._corners(name, *corners)
+        self._change(lambda held: draw(held, numbers, name == "PAINT"))
 
+    def _draw_region(self, region: Region, full: bool) -> None:
+        self._change(lambda held: draw_region(held, region, full), in_place=False)
 
-def _mask(x0: int, x1: int) -> Tuple[int, Any]:
-    """The first word of a row with some of the columns x0 to x1 - 1, and these bits of it and of
-    the words after it."""
-    first, last = x0 // 64, (x1 - 1) // 64
-    row = ((1 << x1) - (1 << x0)) >> (64 * first)
-    words = [row >> (64 * k) & (2**64 - 1) for k in range(last - first + 1)]
-    return first, numpy().array(words, "u8")
+    def _put_region(self, region: Region) -> None:
+        self._change(lambda held: put_region(held, region), in_place=False)
 
-
-def _outside(numbers: Iterable[int], request: Request[Any], size: Size) -> Refused:
-    """The refusal of a request whose numbers don't fit a line, or whose cells aren't all on the map
-    of this size."""
-    fits = all(0 <= number < END for number in numbers)
-    return _refused(OutOfRange if fits else BadArguments, request, extent(size))
-
-
-def _refused(kind: Type[Refused], request: Request[Any], cure: str) -> Refused:
-    """A refusal, and what would have been taken."""
-    number = 1 if kind is OutOfRange else 12
-    refusal = kind(number, kind.__name__, (), request.line)
-    refusal.cure = cure
-    return refusal
-
-
-def _cells(points: Points) -> List[Cell]:
-    """The points of a path. One of too many is refused before they are read."""
-    cells = list(points)
-    if len(cells) > LONGEST_PATH:
-        raise BadPath(8, "BadPath", (), f"a path of {len(cells)} points")
-    return [(whole(x), whole(y)) for x, y in cells]
+    def _change(self, work: Callable[[Held], None], in_place: bool = True) -> None:
+        """Does work on the map's cells, in place where that is one call."""
+        change(self, work, in_place)
 
 
 def _tightest(found: CFound) -> Optional[Tightest]:

@@ -15,6 +15,7 @@ from typing import (
 )
 
 from . import requests
+from .batches import BATCH, Batch
 from .connection import Connection
 from .copies import copied
 from .errors import ClearmapError, ConnectionLost, OutOfRange, Refused, WrongAnswer, raised
@@ -37,10 +38,11 @@ from .requests import (
 )
 
 if TYPE_CHECKING:
-    from .client import Client
-    from .rows import Distances, Indices, Nearest, Obstacles
+    from numpy.typing import ArrayLike
 
-BATCH = 64  # requests that are sent before their replies are read
+    from .client import Client
+    from .many import Nears
+    from .rows import Distances, Indices, Nearest, Obstacles
 
 
 class Pinned:
@@ -159,6 +161,19 @@ class Pinned:
             if isinstance(answer, Tightest):
                 least = min(least, math.sqrt(answer.distance))
         return least
+
+    def at_many(self, xs: "ArrayLike", ys: "ArrayLike", metric: str = EUCLID2) -> "Nears":
+        """`at` of each cell of two arrays of whole numbers, columns and rows, which numpy
+        broadcasts: arrays of their shape, all by this version. Sends 64 cells per write. If one is
+        refused, the error names the first of them, and none is answered. It needs numpy, else
+        ImportError; TypeError for what isn't whole, as floats, and for a masked array."""
+        batch = Batch(xs, ys, metric)
+        try:
+            self._exchange(batch.work)
+        except Refused as refusal:
+            batch.name(refusal)
+            raise
+        return batch.nears()
 
     def clearances(self, cells: Points) -> List[float]:
         """For each cell its Euclidean distance to the nearest obstacle, in cells: 0 for an obstacle

@@ -7,7 +7,7 @@ from typing import Iterable, Iterator, List, NamedTuple, Optional, Sequence, Tup
 
 from .decimals import Number, exact, root_float_below
 from .errors import RosError
-from .framed import held_in
+from .framed import reading_in
 from .frames import Frame, Point
 from .gaps import nearest
 from .maps import Map
@@ -56,19 +56,20 @@ def plan_clearance(
     frame's size or whose row 0 is the lowest, and for a point that isn't on it. All segments are
     answered for the cells as they are when the call starts.
     """
-    held = held_in(frame, area)
+    look = reading_in(frame, area)
     robot, points = exact(radius), [frame.place(point) for point in plan]
     if robot < 0:
         raise RosError("a radius is 0 or more")
     if not points:
         raise RosError("the plan has no point")
     told = []
-    for number, ends in enumerate(list(zip(points, points[1:])) or [(points[0], points[0])]):
-        corners, steps = _in_steps(ends)
-        found = nearest(held, corners, steps)
-        if found is None:
-            return None
-        told.append((Fraction(*found[0]) / (steps * steps), number, found[1]))
+    with look as held:
+        for number, ends in enumerate(list(zip(points, points[1:])) or [(points[0], points[0])]):
+            corners, steps = _in_steps(ends)
+            found = nearest(held, corners, steps)
+            if found is None:
+                return None
+            told.append((Fraction(*found[0]) / (steps * steps), number, found[1]))
     square, segment, cell = min(told)
     metres = root_float_below(square * frame.resolution**2, robot)
     return TightestSegment(metres, segment, cell)

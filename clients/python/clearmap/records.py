@@ -6,6 +6,7 @@ from dataclasses import dataclass
 from typing import Any, Dict, List, NamedTuple, Tuple
 
 from .errors import BadVersion, ClearmapError, Size
+from .held import Reading
 from .library import numpy
 from .maps import Map
 from .size import size_of
@@ -88,8 +89,8 @@ def hash_of(data: bytes) -> bytes:
 
 def compressed_tiles(area: Map) -> Tuple[List[bytes], Dict[bytes, bytes]]:
     """The hashes of a map's tiles in order, and what is stored of each."""
-    words = area._held.memory.cells
-    cells = [cells_of(words, tile) for tile in tiles_of(area.size)]
+    with Reading(area) as held:
+        cells = [cells_of(held.memory.cells, tile) for tile in tiles_of(area.size)]
     hashes = [hash_of(part) for part in cells]
     return hashes, {key: zlib.compress(part, LEVEL) for key, part in zip(hashes, cells)}
 

@@ -26,6 +26,7 @@ T_co = TypeVar("T_co", covariant=True)
 LONGEST_LINE = 16_384  # bytes of a request line, without its line feed
 LONGEST_PATH = 1000  # points
 LARGEST_SIDE = 4096  # cells
+END = 1 << 32  # numbers of a line are below it
 LARGEST_DUMP = 17_100_000  # bytes; the text of the largest map is below it
 
 

@@ -2,6 +2,7 @@
 from __future__ import annotations
 
 import ctypes
+import functools
 from typing import TYPE_CHECKING, Any, Callable, Literal, Optional, Tuple, Union, overload
 
 from .grids import OPEN, Memory, edge_of, map_of, number_of
@@ -45,10 +46,13 @@ def fill(memory: Memory, metric: int, edge: int, y0: int, y1: int, out: Any) -> 
     """Writes the answers of rows y0 to y1 - 1 to a contiguous array of these rows: of distances, or
     of distances with obstacles."""
     name = "distances" if out.dtype.names is None else "nearest"
-    kind, cells, length, layout = memory
-    call = getattr(library(), f"clearmap_{kind}_{name}")
-    where = cells.ctypes.data, length, ctypes.byref(layout)
-    check(call(*where, metric, edge, y0, y1, out.ctypes.data, out.size))
+    call = getattr(library(), f"clearmap_{memory.kind}_{name}")
+    check(call(*where_of(memory), metric, edge, y0, y1, out.ctypes.data, out.size))
+
+
+def where_of(memory: Memory) -> Tuple[Any, ...]:
+    """A map as calls of the library take it."""
+    return memory.cells.ctypes.data, memory.length, ctypes.byref(memory.layout)
 
 
 def shared(memory: Memory, threads: int) -> Memory:
@@ -61,6 +65,7 @@ def shared(memory: Memory, threads: int) -> Memory:
     return packed(memory)
 
 
+@functools.lru_cache(maxsize=None)
 def near_type() -> Any:
     """clearmap_near, as numpy has it."""
     return numpy().dtype([("dist", "u4"), ("x", "i2"), ("y", "i2")])

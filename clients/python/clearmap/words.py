@@ -1,9 +1,14 @@
 """Maps in bits, with the marks of their blank tiles after the rows."""
+from __future__ import annotations
+
 import ctypes
-from typing import Any
+from typing import TYPE_CHECKING, Any, Sequence
 
 from .grids import Memory
-from .library import Bits, check, library, numpy
+from .library import Bits, check, library, numpy, quick
+
+if TYPE_CHECKING:
+    from .held import Held
 
 SIDE = 64  # columns and rows of a tile
 
@@ -36,17 +41,27 @@ def marked(rows: Any, width: int) -> Memory:
     return Memory("bits", rows, words.size, bits)
 
 
-def drawn(rows: Any, old: Any, y0: int, y1: int, first: int, end: int, full: bool) -> Memory:
-    """A map of the layout `old` once cells of the words `first` to `end` - 1 in rows y0 to y1 - 1
-    are drawn: each of their tiles has an obstacle now if it is full, and else may be blank."""
-    marks, blank = marks_of(rows), int(old.blank_bands)
-    for band in range(y0 // SIDE, (y1 - 1) // SIDE + 1):
-        part = rows[band * SIDE : (band + 1) * SIDE, first:end]
-        some = [True] * (end - first) if full else part.any(axis=0).tolist()
-        mark = int(marks[band])
-        for tile, is_some in enumerate(some, first):
-            mark = mark & ~(1 << tile) | (not is_some) << tile
-        marks[band] = mark
-        blank = blank & ~(1 << band) | (mark == 2**64 - 1) << band
-    bits = Bits(old.width, old.height, old.stride, blank, old.tiles)
-    return Memory("bits", rows, rows.base.size, bits)
+def draw(held: Held, corners: Sequence[int], full: bool) -> None:
+    """Makes the cells of a rectangle obstacles, or free, and maintains the marks: of cleared rows
+    anew by bands of tiles, from their cells alone. Bits past the last column stay 0."""
+    x0, y0, x1, y1 = corners
+    call = quick().clearmap_paint if full else quick().clearmap_clear
+    check(call(*held.where, x0, y0, x1, y1))
+    bands = range(y0 // SIDE, (y1 - 1) // SIDE + 1)
+    if not full:
+        for band in bands:
+            mark_band(held, band)
+    elif held.size[0] % SIDE:
+        ends = held.memory.cells[bands.start * SIDE : bands.stop * SIDE, -1]
+        ends &= numpy().uint64((1 << held.size[0] % SIDE) - 1)
+
+
+def mark_band(held: Held, band: int) -> None:
+    """Marks the blank tiles of 64 rows, as their cells are now."""
+    bits, (_, cells, length, _) = held.memory.layout, held.memory
+    first = band * SIDE
+    start, left = first * bits.stride, min(SIDE, bits.height - first)
+    part = Bits(bits.width, left, bits.stride)
+    address, at = held.where[0] + 8 * start, bits.tiles + band - start
+    check(quick().clearmap_mark(address, length - start, ctypes.byref(part), at))
+    bits.blank_bands = bits.blank_bands & ~(1 << band) | (part.blank_bands & 1) << band
