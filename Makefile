@@ -34,12 +34,12 @@ fleet = places.py publisher.py scripts.py source.py store.py
 # The library: what is proved comes from rt, and clients/c/clearmap.c goes with it.
 library = crates/libclearmap/out
 archive = $(library)/liblibclearmap.a
-lib_crates = metric bits column envelope field clearance libclearmap
+lib_crates = metric bits column envelope field clearance footprint libclearmap
 lib_sources = $(shell find $(lib_crates:%=crates/%) -name out -prune -o -name '*.rt' -print \
     -o -name '*.antt' -print)
 CFLAGS = -O2
 lib_cflags = -std=c11 -fPIC $(CFLAGS)
-lib_links = -Wl,-soname,libclearmap.so.1 -Wl,--version-script=clients/c/clearmap.map -Wl,-z,defs \
+lib_links = -Wl,-soname,libclearmap.so.2 -Wl,--version-script=clients/c/clearmap.map -Wl,-z,defs \
     $(lib_needs)
 # So that the system's loader refuses it to a processor without SSE 4.2.
 lib_needs = $(if $(findstring x86_64,$(shell $(CC) -dumpmachine)),-Wl$(comma)-z$(comma)x86-64-v2)
@@ -136,7 +136,7 @@ wheel: all lib
 release: all lib
 	tools/package/make_release.sh packages gate.log
 
-lib: $(library)/libclearmap.a $(library)/libclearmap.so.1
+lib: $(library)/libclearmap.a $(library)/libclearmap.so.2
 
 $(archive): $(lib_sources)
 	cd crates/libclearmap && rt lib
@@ -154,7 +154,7 @@ $(library)/libclearmap.a: $(archive) $(library)/clearmap.o
 	rm -f $@
 	$(AR) rcs $@ $(library)/whole.o
 
-$(library)/libclearmap.so.1: $(archive) $(library)/clearmap.o clients/c/clearmap.map Makefile
+$(library)/libclearmap.so.2: $(archive) $(library)/clearmap.o clients/c/clearmap.map Makefile
 	$(CC) -shared $(lib_links) -o $@ $(library)/clearmap.o \
 	    -Wl,--whole-archive $(archive) -Wl,--no-whole-archive
 
@@ -178,8 +178,8 @@ install-lib: lib
 	    $(INSTALL) -m 644 clients/cpp/$$header '$(to)/include/'$$header || exit 1; \
 	done
 	$(INSTALL) -D -m 644 $(library)/libclearmap.a '$(libdir)/libclearmap.a'
-	$(INSTALL) -m 644 $(library)/libclearmap.so.1 '$(libdir)/libclearmap.so.1'
-	ln -sf libclearmap.so.1 '$(libdir)/libclearmap.so'
+	$(INSTALL) -m 644 $(library)/libclearmap.so.2 '$(libdir)/libclearmap.so.2'
+	ln -sf libclearmap.so.2 '$(libdir)/libclearmap.so'
 	$(INSTALL) -d '$(DESTDIR)$(PKGCONFIGDIR)' '$(to)/share/clearmap/cmake'
 	$(filled) packaging/libclearmap.pc.in > '$(DESTDIR)$(PKGCONFIGDIR)/libclearmap.pc'
 	for part in clearmapConfig.cmake clearmapConfigVersion.cmake; do \
@@ -187,7 +187,7 @@ install-lib: lib
 	done
 
 uninstall-lib:
-	rm -f '$(to)/include/clearmap.h' '$(libdir)/libclearmap.a' '$(libdir)/libclearmap.so.1' \
+	rm -f '$(to)/include/clearmap.h' '$(libdir)/libclearmap.a' '$(libdir)/libclearmap.so.2' \
 	    '$(libdir)/libclearmap.so' '$(DESTDIR)$(PKGCONFIGDIR)/libclearmap.pc'
 	for header in $(filter-out clearmap.hpp,$(headers)); do rm -f '$(to)/include/'$$header; done
 	[ -e '$(to)/bin/clearmap' ] || rm -rf $(shared)

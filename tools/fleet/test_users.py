@@ -1,5 +1,5 @@
 #!/usr/bin/env python3
-"""Tests of a Redis as docs/use/RUNNING.md sets it up: its users, TLS, and a replica with users."""
+"""Tests of a Redis as docs/use/FLEET.md sets it up: its users, TLS, and a replica with users."""
 import pathlib
 import re
 import shutil
@@ -12,7 +12,7 @@ import redis
 from test_publish import Publishes
 from testing import HERE, PATIENCE, Direct, Keys, Publishing, Redis, clearmap, np, until
 
-PAGE = HERE.parent.parent / "docs/use/RUNNING.md"
+PAGE = HERE.parent.parent / "docs/use/FLEET.md"
 DEPOT, ROBOT = "depot:publishing@", "robot:following@"
 
 
@@ -159,7 +159,7 @@ class Encrypted(unittest.TestCase):
             with clearmap.Follower(other, "yard") as follower:
                 with self.assertRaises(clearmap.NoVersion):
                     follower.wait(timeout=1)
-                self.assertIsNotNone(follower.error)
+                self.assertTrue(until(lambda: follower.error is not None))
 
     def shows(self, direct, grid):
         """Whether a version could be published."""

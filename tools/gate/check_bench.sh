@@ -59,6 +59,7 @@ parts check.py hard_maps.py program.py twin.py
 # Over the library.
 runs library.py 'library python-numpy-scipy-cv2' --sizes 40 --rounds 1
 runs library_queries.py 'library gcc rustc' --side 1000 --rounds 1
+runs library_many.py 'library g++ python-numpy-scipy-cv2' --rounds 1
 runs footprints.py 'library g++ python-numpy' --rounds 1
 
 # Over programs of their own.

@@ -31,15 +31,19 @@ for test in clients/python/test_clearmap.py clients/python/test_in_step.py \
 done
 
 # What works in process: with the built library, or the one that CLEARMAP_LIBRARY names.
-library=${CLEARMAP_LIBRARY:-crates/libclearmap/out/libclearmap.so.1}
+library=${CLEARMAP_LIBRARY:-crates/libclearmap/out/libclearmap.so.2}
 arrays=$(tools/python_with numpy)
 if [ -n "$arrays" ] && [ -e "$library" ]; then
     for test in clients/python/test_library.py clients/python/test_maps.py \
         clients/python/test_tiles.py clients/python/test_footprints.py \
+        clients/python/test_rings.py \
         clients/python/test_clearances.py clients/python/test_plans.py \
         clients/python/test_signed.py clients/python/test_carried.py \
         clients/python/test_images.py clients/python/test_transforms.py \
-        clients/python/test_metres.py clients/python/test_gray.py; do
+        clients/python/test_metres.py clients/python/test_gray.py \
+        clients/python/test_many.py clients/python/test_held.py clients/python/test_slopes.py \
+        clients/python/test_inflation.py clients/python/test_fields.py \
+        clients/python/test_shapes.py clients/python/test_stairs.py; do
         tried "$arrays" "$test"
     done
     for rules in legacy weak; do # numpy's on numbers of few bits: those of numpy 1 and of 2

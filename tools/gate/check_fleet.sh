@@ -8,7 +8,7 @@ cd "$(dirname "$0")/../.." || exit 1
 CLEARMAP=${CLEARMAP:-$PWD/crates/clearmap/out/clearmap}
 export CLEARMAP PYTHONDONTWRITEBYTECODE=1
 "$CLEARMAP" --version > /dev/null || exit 1
-library=${CLEARMAP_LIBRARY:-crates/libclearmap/out/libclearmap.so.1}
+library=${CLEARMAP_LIBRARY:-crates/libclearmap/out/libclearmap.so.2}
 python=$(tools/python_with numpy, redis)
 if [ -z "$python" ] || [ ! -e "$library" ] || ! command -v redis-server > /dev/null; then
     echo "the fleet left out: there is no redis-server, no python3 with numpy and redis," \

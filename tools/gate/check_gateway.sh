@@ -7,7 +7,7 @@ cd "$(dirname "$0")/../.." || exit 1
 built=${CLEARMAP:-$PWD/crates/clearmap/out/clearmap}
 export PYTHONDONTWRITEBYTECODE=1
 "$built" --version > /dev/null || exit 1
-library=${CLEARMAP_LIBRARY:-crates/libclearmap/out/libclearmap.so.1}
+library=${CLEARMAP_LIBRARY:-crates/libclearmap/out/libclearmap.so.2}
 python=$(tools/python_with numpy)
 if [ -z "$python" ] || [ ! -e "$library" ]; then
     echo "the gateway left out: there is no python3 with numpy, or no $library"

@@ -156,7 +156,7 @@ tried_scripts() { # tried_scripts PREFIX: the scripts and the client there
 tried_scripts "$usr"
 
 # The library, where it is built, and the installed package over it.
-if [ -e crates/libclearmap/out/libclearmap.so.1 ]; then
+if [ -e crates/libclearmap/out/libclearmap.so.2 ]; then
     make -s -o lib install-lib DESTDIR="$scratch/root" PREFIX=/usr || wrong=$((wrong + 1))
     arrays=$(tools/python_with numpy)
     if [ -n "$arrays" ]; then
@@ -164,7 +164,7 @@ if [ -e crates/libclearmap/out/libclearmap.so.1 ]; then
 import clearmap, clearmap.library as it
 it.library()
 print(it._found(), clearmap.distances([[True, False, False]]).tolist())')" \
-            "$usr/lib/libclearmap.so.1 [[0, 1, 4]]"
+            "$usr/lib/libclearmap.so.2 [[0, 1, 4]]"
         for part in "$usr"/share/clearmap/python/clearmap_*.py; do
             part=$(basename "$part" .py)
             [ "$part" = clearmap_ros2_node ] && continue # which wants ROS 2
@@ -240,7 +240,7 @@ CPP
 cat > "$scratch/CMakeLists.txt" << 'CMAKE'
 cmake_minimum_required(VERSION 3.13)
 project(ten_lines CXX)
-find_package(clearmap 0.3 REQUIRED)
+find_package(clearmap 0.4 REQUIRED)
 add_executable(by_cmake main.cpp)
 target_link_libraries(by_cmake clearmap::clearmap)
 CMAKE
@@ -281,7 +281,7 @@ fi
 
 # The installed gateway to this server, which finds the installed package and library.
 arrays=$(tools/python_with numpy)
-if [ -n "$arrays" ] && [ -e "$usr/lib/libclearmap.so.1" ]; then
+if [ -n "$arrays" ] && [ -e "$usr/lib/libclearmap.so.2" ]; then
     : > "$scratch/gate"
     timeout 300 "$arrays" "$usr/bin/clearmap-gateway" --port "$port" --links 2 > "$scratch/gate" &
     gateway=$!
@@ -295,7 +295,7 @@ fi
 
 # The installed publisher of this server, and a follower, by the installed package and library.
 shared=$(tools/python_with numpy, redis)
-if [ -n "$shared" ] && [ -e "$usr/lib/libclearmap.so.1" ] \
+if [ -n "$shared" ] && [ -e "$usr/lib/libclearmap.so.2" ] \
     && command -v redis-server > /dev/null; then
     redis-server --port 0 --unixsocket "$scratch/redis" --save '' --dir "$scratch" > /dev/null &
     store=$!

@@ -52,12 +52,12 @@ heap() { # heap COMPILER FILE
 heap gcc "$scratch/heap.o"
 
 # The shared library shows the calls of the header, has its own name, and needs the C library alone.
-nm -D --defined-only "$library/libclearmap.so.1" | sed 's/.* //' | sort > "$scratch/shown"
+nm -D --defined-only "$library/libclearmap.so.2" | sed 's/.* //' | sort > "$scratch/shown"
 sed '/^static inline/d' clients/c/clearmap.h | grep -oE '\*?clearmap_[a-z_]+\(' \
     | grep -oE 'clearmap_[a-z_]+' | sort -u > "$scratch/told"
 try 'shown names' diff "$scratch/told" "$scratch/shown"
-readelf -d "$library/libclearmap.so.1" > "$scratch/dynamic"
-grep -q 'SONAME.*\[libclearmap.so.1\]' "$scratch/dynamic" \
+readelf -d "$library/libclearmap.so.2" > "$scratch/dynamic"
+grep -q 'SONAME.*\[libclearmap.so.2\]' "$scratch/dynamic" \
     || { failed=1; echo 'the soname is another one'; }
 [ "$(grep -c NEEDED "$scratch/dynamic")" = "$(grep -c 'NEEDED.*\[libc.so' "$scratch/dynamic")" ] \
     || { failed=1; echo 'it needs more than the C library'; }
@@ -68,6 +68,25 @@ if gcc $flags -O2 $test "$scratch/heap.o" "$library/libclearmap.a" -Wl,--wrap=ma
     try 'test' "$scratch/test" "${MAPS:-40}"
     wants valgrind 'valgrind' \
         && try 'valgrind' valgrind -q --error-exitcode=9 --leak-check=full "$scratch/test" 5
+else
+    failed=1
+fi
+
+if gcc $flags -O2 clients/c/test_planning.c "$scratch/heap.o" "$library/libclearmap.a" \
+    -Wl,--wrap=malloc -o "$scratch/test"; then
+    try 'calls for planners' "$scratch/test" "${MAPS:-60}"
+    wants valgrind 'valgrind' \
+        && try 'valgrind, of calls for planners' valgrind -q --error-exitcode=9 --leak-check=full \
+            "$scratch/test" 5
+else
+    failed=1
+fi
+
+if gcc $flags -O2 clients/c/test_hits.c "$library/libclearmap.a" -Wl,--wrap=malloc -lm \
+    -o "$scratch/test"; then
+    try 'calls for footprints' "$scratch/test" "${MAPS:-400}"
+    wants valgrind 'valgrind' \
+        && try 'valgrind, of calls for footprints' valgrind -q --error-exitcode=9 "$scratch/test" 20
 else
     failed=1
 fi
@@ -95,6 +114,12 @@ if wants aarch64-linux-gnu-gcc 'the library for ARM' && wants qemu-aarch64 'the 
     if aarch64-linux-gnu-gcc $flags -O2 -static $test "$scratch/heap_arm.o" \
         "$library/aarch64/libclearmap.a" -Wl,--wrap=malloc -lpthread -o "$scratch/arm"; then
         try 'test on ARM' qemu-aarch64 "$scratch/arm" 5
+    else
+        failed=1
+    fi
+    if aarch64-linux-gnu-gcc $flags -O2 -static clients/c/test_planning.c "$scratch/heap_arm.o" \
+        "$library/aarch64/libclearmap.a" -Wl,--wrap=malloc -o "$scratch/arm"; then
+        try 'calls for planners on ARM' qemu-aarch64 "$scratch/arm" 5
     else
         failed=1
     fi
@@ -140,7 +165,7 @@ header_test() { # header_test NAME MAPS COMPILER FLAG ..: a test of the headers 
     shift 2
     wants "$1" "test_$name.cpp by $1" || return
     case $name in
-        map) links='' asked=$ports ;;
+        map | many) links='' asked=$ports ;;
         field) links='-Wl,--wrap=malloc' asked='' ;;
         footprint) links='' asked=$cases ;;
         signed) links='' asked='' ;;
@@ -159,7 +184,7 @@ header_test() { # header_test NAME MAPS COMPILER FLAG ..: a test of the headers 
         esac
     fi
 }
-for name in map field footprint signed limits; do
+for name in map many field footprint signed limits; do
     header_test "$name" "${MAPS:-40}" g++ -O2
     header_test "$name" 5 clang++ -O1
     for compiler in g++ clang++; do
@@ -210,10 +235,10 @@ fi
 
 # A processor without SSE 4.2 isn't given the shared library: the loader says why.
 if [ "$(uname -m)" = x86_64 ]; then
-    readelf -n "$library/libclearmap.so.1" | grep -q 'ISA needed: .*x86-64-v2' \
+    readelf -n "$library/libclearmap.so.2" | grep -q 'ISA needed: .*x86-64-v2' \
         || { failed=1; echo 'the shared library does not say that it needs x86-64-v2'; }
     if wants qemu-x86_64 'a processor without SSE 4.2'; then
-        gcc -std=c11 -Iclients/c "$scratch/page.c" "$library/libclearmap.so.1" -lm \
+        gcc -std=c11 -Iclients/c "$scratch/page.c" "$library/libclearmap.so.2" -lm \
             -Wl,-rpath,"$library" -o "$scratch/page" || failed=1
         timeout 60 qemu-x86_64 -cpu core2duo "$scratch/page" > "$scratch/log" 2>&1
         grep -q 'CPU ISA level is lower than required' "$scratch/log" \
@@ -228,7 +253,7 @@ if [ -n "$arrays" ]; then
     export PYTHONPATH="$prefix/share/clearmap/python"
     says 'page by Python' "$python_says" "$arrays" "$scratch/page.py"
     try 'its library' "$arrays" -c 'import clearmap.library as it; it.library(); print(it._found())'
-    [ "$(cat "$scratch/log")" = "$prefix/lib/libclearmap.so.1" ] || failed=1
+    [ "$(cat "$scratch/log")" = "$prefix/lib/libclearmap.so.2" ] || failed=1
     unset PYTHONPATH
 else
     echo "the page's lines in Python left out: there is no python3 with numpy"

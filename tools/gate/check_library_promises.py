@@ -98,7 +98,7 @@ def check_calls(folder, archive):
         stack = max(stack, deep)
         check(deep <= 1024 * most_stack, f"{line}: over {most_stack} KB of stack")
         check(held == 0, f"{line}: {held} bytes aren't freed")
-        if name.endswith(("distances", "nearest")):
+        if name.endswith(("distances", "nearest", "costs")):
             columns.append(check_memory(line, width, height, asked))
         else:
             check(requests_made == 0, f"{line}: {requests_made} requests for memory")
@@ -145,7 +145,7 @@ def check_names(archive, shared):
     sizes = re.findall(sections, run("size", "-A", archive), re.M)
     check(not any(map(int, sizes)), f"{archive.name} has {sizes} bytes of globals")
     given = {name for kind, name in symbols(archive) if kind in "TWVRDBuiC"}
-    check(len(given) == 17, f"{archive.name} gives {len(given)} names")
+    check(len(given) == 29, f"{archive.name} gives {len(given)} names")
     for name in sorted(given):
         check(name.startswith("clearmap_"), f"{archive.name}: {name} may clash")
     for name in sorted({name for kind, name in symbols(archive) if kind == "U"} - given):
@@ -200,7 +200,7 @@ def check_texts(shared, of_c):
     calls.clearmap_status_text.restype = ctypes.c_char_p
     pattern = r"CLEARMAP_(\w+) = (\d+),? +/\* (.*?) \*/"
     comments = re.findall(pattern, HEADER[: HEADER.index("Metrics, edges")], re.S)
-    check(len(comments) == 13, f"{len(comments)} statuses in the header")
+    check(len(comments) == 17, f"{len(comments)} statuses in the header")
     for name, number, comment in comments:
         text = calls.clearmap_status_text(int(number)).decode()
         start = " ".join(comment.split()[:5])
@@ -209,7 +209,7 @@ def check_texts(shared, of_c):
 
 def main():
     folder = pathlib.Path(sys.argv[1] if len(sys.argv) > 1 else TOP / "crates/libclearmap/out")
-    archive, shared = folder.resolve() / "libclearmap.a", folder.resolve() / "libclearmap.so.1"
+    archive, shared = folder.resolve() / "libclearmap.a", folder.resolve() / "libclearmap.so.2"
     with tempfile.TemporaryDirectory() as scratch:
         scratch = pathlib.Path(scratch)
         of_c = numbers_of(scratch)

@@ -24,7 +24,7 @@ expect() { # expect WHAT GOT WANTED
     echo "$1: '$2' where '$3' was wanted"
 }
 
-if [ ! -x "$program" ] || [ ! -e crates/libclearmap/out/libclearmap.so.1 ]; then
+if [ ! -x "$program" ] || [ ! -e crates/libclearmap/out/libclearmap.so.2 ]; then
     echo 'the packages left out: the program or the library is not built'
     exit 0
 fi
@@ -34,7 +34,7 @@ sed -n '/^```cpp$/,/^```$/{/^```/d;p}' docs/use/LIBRARY.md > "$scratch/plan.cpp"
 cat > "$scratch/CMakeLists.txt" << 'PROJECT'
 cmake_minimum_required(VERSION 3.16)
 project(plan CXX)
-find_package(clearmap 0.3 REQUIRED)
+find_package(clearmap 0.4 REQUIRED)
 add_executable(plan plan.cpp)
 target_link_libraries(plan clearmap::clearmap)
 PROJECT
@@ -93,18 +93,34 @@ tried_cpp "$all" /usr/lib /usr/share/pkgconfig
 make -s uninstall DESTDIR="$all" PREFIX=/usr || wrong=$((wrong + 1))
 expect 'what is left' "$(find "$all" ! -type d)" ''
 
+# Another checkout of the same sources, with what is built here. Packages from it are the same.
+twin=$scratch/twin
+mkdir -p "$twin"
+git ls-files -z | tar -c --null -T - 2> /dev/null | tar -x -C "$twin"
+for crate in clearmap libclearmap; do
+    mkdir -p "$twin/crates/$crate/out"
+    find "crates/$crate/out" -maxdepth 1 -type f -exec cp {} "$twin/crates/$crate/out/" \;
+done
+find "$twin" -type f -exec touch {} +
+SOURCE_DATE_EPOCH=$(git log -1 --format=%ct 2> /dev/null || date +%s)
+export SOURCE_DATE_EPOCH
+
 # The packages for Debian, unpacked over one another. No path is in two of them.
 if wants dpkg-deb 'the packages for Debian' && wants strip 'the packages for Debian'; then
     debs=$(timeout 300 tools/package/make_deb.sh "$scratch/packages") || wrong=$((wrong + 1))
     expect 'their names' "$(echo "$debs" | sed 's|.*/||; s|_.*||' | tr '\n' ' ')" \
-        'clearmap libclearmap1 libclearmap-dev '
+        'clearmap libclearmap2 libclearmap-dev '
     for deb in $debs; do
         expect "the version of $deb" "clearmap $(dpkg-deb -f "$deb" Version)" "$version"
         dpkg-deb -x "$deb" "$scratch/unpacked"
         dpkg-deb --fsys-tarfile "$deb" | tar -t | grep -v '/$' >> "$scratch/paths"
     done
+    timeout 300 "$twin/tools/package/make_deb.sh" "$scratch/again" > /dev/null || wrong=$((wrong + 1))
+    for deb in $debs; do
+        cmp "$deb" "$scratch/again/${deb##*/}" || wrong=$((wrong + 1))
+    done
     expect 'paths in two packages' "$(sort "$scratch/paths" | uniq -d)" ''
-    folder=$(cd "$scratch/unpacked" && dirname "$(find usr/lib -name libclearmap.so.1)")
+    folder=$(cd "$scratch/unpacked" && dirname "$(find usr/lib -name libclearmap.so.2)")
     tried_program "$scratch/unpacked" "/$folder"
     expect "Debian's python3" "clearmap $(
         cd "$scratch" && PYTHONPATH=$scratch/unpacked/usr/lib/python3/dist-packages /usr/bin/python3 \
@@ -122,6 +138,10 @@ bare() { env -i HOME="$scratch" PATH=/usr/bin:/bin PIP_NO_INDEX=1 "$@"; }
 python=${arrays:-python3}
 if "$python" -c 'import ensurepip, venv' 2> /dev/null; then
     wheels=$(clients/python/build_wheel.py "$scratch/wheels") || wrong=$((wrong + 1))
+    "$twin/clients/python/build_wheel.py" "$scratch/wheels-again" > /dev/null || wrong=$((wrong + 1))
+    for wheel in $wheels; do
+        cmp "$wheel" "$scratch/wheels-again/${wheel##*/}" || wrong=$((wrong + 1))
+    done
     wheel=$(echo "$wheels" | grep "linux_$(uname -m)\.whl$")
     for kind in '' --system-site-packages; do
         venv=$scratch/venv$kind
@@ -134,7 +154,7 @@ if "$python" -c 'import ensurepip, venv' 2> /dev/null; then
             'import clearmap.library as it; it.library(); print(it._found())')
         expect "what $wheel may need" "$(bare "$venv/bin/python" -c "$needs")" "$needs_are"
         expect "the library of $wheel" "${found#"$venv"/lib/python*/}" \
-            'site-packages/clearmap/libclearmap.so.1'
+            'site-packages/clearmap/libclearmap.so.2'
     done
     if [ -n "$arrays" ]; then
         expect 'distances' "$(cd "$scratch" && bare "$venv/bin/python" -c "$row")" '[[0, 1, 4]]'
@@ -167,7 +187,7 @@ if wants git 'a release' && wants dpkg-deb 'a release'; then
     release '243 passed, 0 failed' || { wrong=$((wrong + 1)); cat "$scratch/log"; }
     expect 'sums of a release' "$(cd "$scratch/clone/packages" && sha256sum -c --quiet SHA256SUMS \
         2>&1 && ls | sed 's/[-_].*//' | LC_ALL=C sort -u | tr '\n' ' ')" \
-        'SHA256SUMS clearmap gate libclearmap libclearmap1 '
+        'SHA256SUMS clearmap gate libclearmap libclearmap2 '
     expect 'what a release leaves in the tree' "$(git -C "$scratch/clone" status --porcelain \
         --untracked-files=no)" ''
 fi
@@ -178,7 +198,7 @@ if python3 -m pip --version > /dev/null 2>&1; then
         --target "$scratch/pip" clients/python || wrong=$((wrong + 1))
     expect 'by pip' "clearmap $(cd "$scratch" && PYTHONPATH=$scratch/pip python3 -c \
         'import clearmap, importlib.metadata as it; print(it.version("clearmap"))')" "$version"
-    for part in py.typed libclearmap.so.1; do
+    for part in py.typed libclearmap.so.2; do
         [ -e "$scratch/pip/clearmap/$part" ] || { wrong=$((wrong + 1)); echo "pip: no $part"; }
     done
 else

@@ -21,7 +21,7 @@ from check_pages import blocks
 
 PROGRAM = os.path.abspath(os.environ.get("CLEARMAP", TOP / "crates/clearmap/out/clearmap"))
 LIBRARY = os.path.abspath(
-    os.environ.get("CLEARMAP_LIBRARY", TOP / "crates/libclearmap/out/libclearmap.so.1")
+    os.environ.get("CLEARMAP_LIBRARY", TOP / "crates/libclearmap/out/libclearmap.so.2")
 )
 COMMAND = re.compile(r"house=|printf |clearmap|cell=|g\+\+ |python3 |\{ echo ")
 LEFT_OUT = re.compile(r"sudo |http://")

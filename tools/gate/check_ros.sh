@@ -25,7 +25,7 @@ tried python3 tools/ros/test_clearmap_grid.py
 tried python3 tools/ros/test_clearmap_order.py
 
 # Costmaps, with the built library or the one that CLEARMAP_LIBRARY names.
-library=${CLEARMAP_LIBRARY:-crates/libclearmap/out/libclearmap.so.1}
+library=${CLEARMAP_LIBRARY:-crates/libclearmap/out/libclearmap.so.2}
 arrays=$(tools/python_with numpy, PIL.Image)
 if [ -n "$arrays" ] && [ -e "$library" ]; then
     for test in answers costmap follow ros2_node; do

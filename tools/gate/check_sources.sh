@@ -7,11 +7,11 @@
 set -u
 cd "$(dirname "$0")/../.." || exit 1
 export PYTHONDONTWRITEBYTECODE=1
-for test in check_memory proof_times prove_below try_edits; do
+for test in check_memory for_change proof_times prove_below try_edits; do
     echo "tools/gate/test_$test.py"
     timeout 60 python3 "tools/gate/test_$test.py" || exit 1
 done
-found=$(find crates -name out -prune -o -path '*_tests' -prune -o -path '*/src/*.rt' -print | xargs grep -nwE 'ManuallyDrop|forget|leak' | grep -vE '^[^:]*:[0-9]+: *//')
+found=$(find crates -name out -prune -o -path '*_tests' -prune -o -path '*/src/*.rt' -print | xargs grep -nwE 'ManuallyDrop|MaybeUninit|forget|leak|into_raw|into_raw_with_allocator' | grep -vE '^[^:]*:[0-9]+: *//')
 if [ -n "$found" ]; then
     echo "code that may forget what it holds:"
     echo "$found"

@@ -14,10 +14,12 @@ TOP = pathlib.Path(__file__).resolve().parents[2]
 HEADER = TOP / "clients/c/clearmap.h"
 SOURCES = TOP / "crates/libclearmap/src"
 CELL = TOP / "crates/metric/src/cell.rt"
+CORNER = TOP / "crates/footprint/src/corner.rt"
 NUMBERS = {
     "u8": "uint8_t",
     "u16": "uint16_t",
     "i16": "int16_t",
+    "i32": "int32_t",
     "u32": "uint32_t",
     "u64": "uint64_t",
     "usize": "size_t",
@@ -125,7 +127,7 @@ def c_version(header):
 def main():
     header = re.sub(r"/\*.*?\*/", "", HEADER.read_text(), flags=re.S)
     texts = {path.stem: path.read_text() for path in sorted(SOURCES.glob("*.rt"))}
-    sources = "\n".join([*texts.values(), CELL.read_text()])
+    sources = "\n".join([*texts.values(), CELL.read_text(), CORNER.read_text()])
     sources = re.sub(r"^\s*///.*\n", "", sources, flags=re.M)
     version = re.search(
         r'^version = "(.*)"', (TOP / "clients/python/pyproject.toml").read_text(), re.M

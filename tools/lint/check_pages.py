@@ -4,7 +4,8 @@ runs at a terminal, the conversation of docs/use/PROTOCOL.md, links, and names i
 
 A block after `<!-- from FILE -->` stands so in that file; a line `..` in it stands for what is left
 out. A block whose first line has `$ ` in front is run by bash, with `clearmap` on the path, in a
-scratch folder of its page; blocks that name a port are left out, as they take two terminals.
+scratch folder of its page. Blocks that name a port are left out, as they take two terminals, and
+those of `clearmap-ros`, which check_readme.sh runs.
 """
 import os
 import pathlib
@@ -60,7 +61,7 @@ def check_runs(page, text, folder):
     """Each command prints what stands below it."""
     count = 0
     for _, block in blocks(text):
-        if not block.startswith("$ ") or "--port" in block:
+        if not block.startswith("$ ") or "--port" in block or "clearmap-ros" in block:
             continue
         for command, printed in re.findall(r"^\$ (.*)\n?((?:(?!\$ ).*\n?)*)", block, flags=re.M):
             count += 1

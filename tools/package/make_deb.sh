@@ -1,7 +1,8 @@
 #!/bin/sh
-# Writes packages for Debian into a folder: clearmap, libclearmap1 and libclearmap-dev. Together
+# Writes packages for Debian into a folder: clearmap, libclearmap2 and libclearmap-dev. Together
 # they are what `make install` installs. The program and the library have to be built. Needs
-# dpkg-deb, and strip and objdump of binutils.
+# dpkg-deb, and strip and objdump of binutils. Made twice of one commit and one build they are the
+# same bytes.
 #   tools/package/make_deb.sh FOLDER
 set -eu
 [ $# = 1 ] || { echo 'make_deb.sh: name the folder for the packages' >&2; exit 2; }
@@ -20,13 +21,14 @@ arch=$(dpkg --print-architecture)
 lib=/usr/lib/$(dpkg-architecture -q DEB_HOST_MULTIARCH 2> /dev/null || gcc -print-multiarch)
 maintainer='The clearmap authors <authors@clearmap.example>'
 date=${SOURCE_DATE_EPOCH:-$(git log -1 --format=%ct 2> /dev/null || date +%s)}
+export SOURCE_DATE_EPOCH="$date" # of what dpkg-deb writes, too
 
 # All that is installed goes to the package clearmap; the library's parts are taken out of it.
 root=$roots/clearmap
 make -s -o all -o lib install DESTDIR="$root" PREFIX=/usr LIBDIR="$lib" \
     PKGCONFIGDIR="$lib/pkgconfig"
 rm "$root/usr/share/doc/clearmap/LICENSE"
-strip --strip-unneeded "$root/usr/bin/clearmap" "$root$lib/libclearmap.so.1"
+strip --strip-unneeded "$root/usr/bin/clearmap" "$root$lib/libclearmap.so.2"
 strip --strip-debug "$root$lib/libclearmap.a"
 for script in "$root"/usr/share/clearmap/python/*.py "$root"/usr/share/clearmap/view/*.py \
     "$root"/usr/share/clearmap/gateway/*.py "$root"/usr/share/clearmap/fleet/*.py \
@@ -45,7 +47,7 @@ take() { # take PACKAGE PATH ..: moves files or folders to another package
         mv "$root$path" "$to${path%/*}/"
     done
 }
-take libclearmap1 "$lib/libclearmap.so.1"
+take libclearmap2 "$lib/libclearmap.so.2"
 take libclearmap-dev /usr/include "$lib" /usr/share/clearmap/cmake /usr/share/pkgconfig
 
 copyright() {
@@ -75,7 +77,8 @@ package() { # package NAME SECTION FIELD ..: writes it; the description comes on
     mkdir -p "$place/usr/share/doc/$name" "$place/DEBIAN"
     copyright > "$place/usr/share/doc/$name/copyright"
     changelog | gzip -9n > "$place/usr/share/doc/$name/changelog.gz"
-    (cd "$place" && find usr -type f -exec md5sum {} +) > "$place/DEBIAN/md5sums"
+    (cd "$place" && find usr -type f -print0 | LC_ALL=C sort -z | xargs -0 md5sum) \
+        > "$place/DEBIAN/md5sums"
     {
         printf '%s\n' "Package: $name" 'Source: clearmap' "Version: $version" \
             "Architecture: $arch" "Maintainer: $maintainer" "Section: $section" \
@@ -91,7 +94,7 @@ package() { # package NAME SECTION FIELD ..: writes it; the description comes on
 
 libc=$(libc_of "$root/usr/bin/clearmap")
 package clearmap science "Depends: $libc, python3" \
-    "Recommends: libclearmap1 (= $version), python3-numpy" \
+    "Recommends: libclearmap2 (= $version), python3-numpy" \
     "Suggests: python3-aiohttp, python3-pil, python3-redis, python3-uvloop, python3-rospy, \
 python3-nav-msgs, python3-map-msgs, python3-sensor-msgs, python3-visualization-msgs, \
 python3-roslaunch, redis-server, rviz" << 'DESCRIPTION'
@@ -104,20 +107,20 @@ Description: clearance maps of robots, with a proved server
  (clearmap-ros-node) and conversions of ROS's maps are tested, not proved.
 DESCRIPTION
 
-mkdir "$roots/libclearmap1/DEBIAN"
-echo "libclearmap 1 libclearmap1 (>= $version)" > "$roots/libclearmap1/DEBIAN/shlibs"
-echo 'activate-noawait ldconfig' > "$roots/libclearmap1/DEBIAN/triggers"
-libc=$(libc_of "$roots/libclearmap1$lib/libclearmap.so.1")
-package libclearmap1 libs "Depends: $libc" 'Multi-Arch: same' << 'DESCRIPTION'
+mkdir "$roots/libclearmap2/DEBIAN"
+echo "libclearmap 2 libclearmap2 (>= $version)" > "$roots/libclearmap2/DEBIAN/shlibs"
+echo 'activate-noawait ldconfig' > "$roots/libclearmap2/DEBIAN/triggers"
+libc=$(libc_of "$roots/libclearmap2$lib/libclearmap.so.2")
+package libclearmap2 libs "Depends: $libc" 'Multi-Arch: same' << 'DESCRIPTION'
 Description: exact distances to the nearest obstacle of a map
  Distances and nearest obstacles of a map in the caller's own memory: of all
  cells of some rows, of one cell, of a rectangle or along a path. What each
  call does is proved.
 DESCRIPTION
 
-package libclearmap-dev libdevel "Depends: libclearmap1 (= $version)" << 'DESCRIPTION'
+package libclearmap-dev libdevel "Depends: libclearmap2 (= $version)" << 'DESCRIPTION'
 Description: exact distances to the nearest obstacle of a map, headers
- Headers for C and C++ and the static library of libclearmap1, and the client
+ Headers for C and C++ and the static library of libclearmap2, and the client
  for C++ of the server in the package clearmap, found by pkg-config and CMake.
  The headers are tested and not proved.
 DESCRIPTION

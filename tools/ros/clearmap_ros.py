@@ -20,11 +20,12 @@ from clearmap import OPEN, WALL, Frame, RosError, clear_distance, plan_clearance
 from clearmap import RosMap as Map
 from clearmap import read_plan, read_poses
 from clearmap.decimals import Number, exact, float_below, root_below
-from clearmap.frames import Point, corners, pieces, query_lines
+from clearmap.frames import Point, pieces, query_lines
 from clearmap.gray import Gray, read_image, read_pgm
 from clearmap.requests import METRICS
 from clearmap.ros_maps import obstacles, value_of
 from clearmap.settings import MODES, Settings, read_settings
+from clearmap.stairs import corners
 
 __all__ = [
     "MODES", "Frame", "Gray", "Map", "Number", "Point", "RosError", "Settings", "clear_distance",
