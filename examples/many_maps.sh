@@ -2,7 +2,7 @@
 # Distances of a folder of maps by three processes of Dask. One is killed on the way, and what it
 # had to do is done by the others.
 # Needs the modules: numpy, distributed
-# Needs the library: crates/libclearmap/out/libclearmap.so.1
+# Needs the library: crates/libclearmap/out/libclearmap.so.2
 . "$(dirname "$0")/setup.bash"
 python=$(tools/python_with numpy, distributed)
 
