@@ -21,8 +21,6 @@ mod distance_tables;
 #[cfg(test)]
 mod draws;
 #[cfg(test)]
-mod footprints;
-#[cfg(test)]
 mod gates;
 #[cfg(test)]
 mod image_limits;
