@@ -878,6 +878,9 @@ public:
     Queries& at(Cell c, Metric m = Metric::euclid2) {
         return add(Kind::at, c, "AT", m, detail::points({c}));
     }
+    Queries& at(detail::Whole x, detail::Whole y, Metric m = Metric::euclid2) {
+        return at(Cell{x, y}, m);
+    }
     Queries& rect(detail::Whole x0, detail::Whole y0, detail::Whole x1, detail::Whole y1,
                   Metric m = Metric::euclid2) {
         return add(Kind::tightest, {}, "RECT", m, detail::points({{x0, y0}, {x1, y1}}));
@@ -956,6 +959,9 @@ public:
         const Answer answer = ask(Queries().at(c, m))[0];
         if (answer.refused) throw *answer.refused;
         return near(answer);
+    }
+    std::optional<Near> at(detail::Whole x, detail::Whole y, Metric m = Metric::euclid2) {
+        return at(Cell{x, y}, m);
     }
 
     /// The first cell, in row-major order, with the least distance in columns x0 to x1 - 1 of rows

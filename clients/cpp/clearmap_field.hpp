@@ -41,6 +41,7 @@ public:
         if (!inside(c)) detail::check(CLEARMAP_OUTSIDE);
         return detail::answer(near(c));
     }
+    std::optional<Near> at(detail::Whole x, detail::Whole y) const { return at(Cell{x, y}); }
 
     // -- look-ups of a cell that IS in the map; only an assertion checks it
 

@@ -392,6 +392,9 @@ public:
         ask(clearmap_bits_at, m, detail::numbered(c.x), detail::numbered(c.y), &near);
         return detail::answer(near);
     }
+    std::optional<Near> at(detail::Whole x, detail::Whole y, Metric m = Metric::euclid2) const {
+        return at(Cell{x, y}, m);
+    }
 
     /// `at` of each of many cells, in their order. Throws std::out_of_range for the first that
     /// isn't in the map, with its index.

@@ -61,9 +61,10 @@ static void queries(std::uint16_t port) {
 static void walls(std::uint16_t port) {
     Client client(port);
     Pinned map = client.pin();
-    CHECK(map.at({0, 1})->distance == 1 && map.at({0, 1})->obstacle == (Cell{-1, 1}));
+    CHECK(map.at(0, 1)->distance == 1 && map.at(0, 1)->obstacle == (Cell{-1, 1}));
     CHECK(map.at({3, 0})->distance == 1 && map.at({3, 0})->obstacle == (Cell{3, -1}));
-    CHECK(map.at({5, 2})->obstacle == (Cell{6, 2}) && map.at({4, 3})->obstacle == (Cell{4, 4}));
+    CHECK(map.at({5, 2})->obstacle == (Cell{6, 2}));
+    CHECK(map.at(4, 3, Metric::euclid2)->obstacle == (Cell{4, 4}));
     CHECK(map.at({2, 2})->obstacle == (Cell{2, 1}));
     auto least = map.rect(4, 1, 5, 2);
     CHECK(least->distance == 4 && least->cell == (Cell{4, 1}) && least->obstacle == (Cell{2, 1}));

@@ -471,8 +471,8 @@ static void moved() {
 
     Field field(map);
     Field other = std::move(field);
-    CHECK(other.at({98, 69})->distance == 1 && field.size() == (Size{0, 0}));
-    CHECK(refused_as<std::out_of_range>(CLEARMAP_OUTSIDE, [&] { field.at({0, 0}); }));
+    CHECK(other.at(98, 69)->distance == 1 && field.size() == (Size{0, 0}));
+    CHECK(refused_as<std::out_of_range>(CLEARMAP_OUTSIDE, [&] { field.at(0, 0); }));
     Frame frame{100, 70, 0.5, -1, -2};
     CHECK(other.metres(frame, 48.75, -1.75) == 0.0);  // the obstacle, at the lower right
     CHECK(other.metres(frame, -0.75, -1.75) == 99 * 0.5);
