@@ -51,8 +51,8 @@ headers = $(notdir $(wildcard clients/cpp/clearmap*.hpp))
 # What both install-program and install-lib put in place: it goes with the last of the two.
 shared = '$(to)/include/clearmap.hpp' '$(to)/share/clearmap'
 
-.PHONY: all lib lib-arm deb wheel release install install-program install-lib uninstall \
-    uninstall-program uninstall-lib
+.PHONY: all lib lib-arm deb wheel release release-check install install-program install-lib \
+    uninstall uninstall-program uninstall-lib
 
 all:
 	./clearmap --version
@@ -133,8 +133,11 @@ wheel: all lib
 	clients/python/build_wheel.py packages
 
 # From a clone whose gate has passed: .ci/run 2>&1 | tee gate.log
-release: all lib
+release: release-check all lib
 	tools/package/make_release.sh packages gate.log
+
+release-check:
+	tools/package/make_release.sh --check gate.log
 
 lib: $(library)/libclearmap.a $(library)/libclearmap.so.2
 

@@ -179,15 +179,20 @@ if wants git 'a release' && wants dpkg-deb 'a release'; then
     for crate in clearmap libclearmap; do
         ln -s "$PWD/crates/$crate/out" "$scratch/clone/crates/$crate/out"
     done
-    release() { # release LAST_LINE: by a log that ends so
-        echo "$1" > "$scratch/clone/gate.log"
+    commit="commit $(git rev-parse HEAD)"
+    release() { # release COMMIT LAST_LINE: by a log that says so
+        printf '%s\n' "$@" > "$scratch/clone/gate.log"
         timeout 300 make -s -C "$scratch/clone" -o all -o lib release > "$scratch/log" 2>&1
     }
-    release '243 passed, 1 failed' && expect 'a release of what failed' made refused
-    release '243 passed, 0 failed' || { wrong=$((wrong + 1)); cat "$scratch/log"; }
+    release "$commit" '243 passed, 1 failed' && expect 'a release of what failed' made refused
+    release 'commit 0123456' '243 passed, 0 failed' \
+        && expect 'a release by the log of another commit' made refused
+    release "$commit" '243 passed, 0 failed' || { wrong=$((wrong + 1)); cat "$scratch/log"; }
     expect 'sums of a release' "$(cd "$scratch/clone/packages" && sha256sum -c --quiet SHA256SUMS \
         2>&1 && ls | sed 's/[-_].*//' | LC_ALL=C sort -u | tr '\n' ' ')" \
         'SHA256SUMS clearmap gate libclearmap libclearmap2 '
+    expect 'what a release tells of the gate' "$(cat "$scratch"/clone/packages/gate-*.txt)" \
+        "$(printf '%s\n' "$commit" '243 passed, 0 failed')"
     expect 'what a release leaves in the tree' "$(git -C "$scratch/clone" status --porcelain \
         --untracked-files=no)" ''
 fi
