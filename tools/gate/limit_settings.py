@@ -84,7 +84,10 @@ def workers(numbers, answers):
             check("it is served once another one ends", waits.reply(), "OK 0")
 
 
-@row("`--workers` of `dist`, threads that share the rows; from 2 on, an extra one writes")
+@row(
+    "`--workers` of `dist`, threads that share the rows; from 2 on, an extra one writes; below "
+    "2^22 cells one does all"
+)
 def threads(numbers, answers):
     least, most, default = numbers
     refused("dist", "--workers", least - 1, most + 1)
