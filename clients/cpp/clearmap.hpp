@@ -1163,8 +1163,8 @@ public:
         : Client(port, Options{std::nullopt, timeout, full_log, false}) {}
 
     /// Ends the connection, once the call of another thread is done; what was accepted stays
-    /// accepted, and a pin is left. It may be called again, and `Options::reconnect` doesn't undo
-    /// it.
+    /// accepted, and a pin is left. It may be called again, and `reconnect` of its Options doesn't
+    /// undo it.
     void close() {
         if (!wire_ || !wire_->owned()) return;
         std::lock_guard<std::mutex> turn(wire_->turn);
@@ -1219,7 +1219,7 @@ public:
     /// Appends the draft as the next version, and returns its number, which has its place in the
     /// log too. Refused as VersionsFull too: where older versions are collected there is room again
     /// after each publish. Their floor is none if that was refused. Throws ConnectionLost, once, if
-    /// changes may be lost, as `Options::reconnect` says.
+    /// changes may be lost, as `reconnect` of its Options says.
     Published publish(OldVersions old = OldVersions::kept) {
         detail::Turn turn(wire_);
         turn->check_draft();

@@ -10,10 +10,10 @@
 namespace clearmap {
 
 /// The rule of costmap_2d: a cost by a cell's distance from its nearest obstacle, from middle to
-/// middle, which is exact here. It is 254 in an obstacle; 253 up to the inscribed radius; from
-/// there on 252 * exp(-scaling * (distance - inscribed)), rounded down; and 0 beyond the inflation
-/// radius, which is taken in whole cells, rounded up. All is in metres, and computed in doubles as
-/// costmap_2d computes it: three cells of 0.05 are above an inscribed radius of 0.15.
+/// middle, which is exact here. It is 254 in an obstacle, and 253 up to the inscribed radius. From
+/// there on it is 252 * exp(-scaling * (distance - inscribed)), rounded down. Beyond the inflation
+/// radius, which is taken in whole cells, rounded up, it is 0. All is in metres, and computed in
+/// doubles as costmap_2d computes it: three cells of 0.05 are above an inscribed radius of 0.15.
 class Inflation {
 public:
     /// Throws std::invalid_argument for a radius or a factor below 0 or not finite, a resolution

@@ -47,10 +47,14 @@ namespace clearmap {
 /// What surrounds a map: nothing, or a frame of obstacles.
 enum class Edge { open, wall };
 
-/// The bytes that mark obstacles: low to high. {65, 100} for an occupancy grid's occupied cells,
-/// {65, 255} with the unknown ones, which are -1; {253, 254} for a costmap's lethal ones, and
-/// {253, 255} with the unknown ones; {0, 0} for an image's zeros. Throws std::invalid_argument for
-/// a number that is no byte, and would become another one.
+/// The bytes that mark obstacles: low to high. Throws std::invalid_argument for a number that is no
+/// byte, and would become another one.
+///
+///     {65, 100}    an occupancy grid's occupied cells
+///     {65, 255}    these and the unknown ones, which are -1
+///     {253, 254}   a costmap's lethal cells
+///     {253, 255}   these and the unknown ones
+///     {0, 0}       an image's zeros
 struct Range {
     std::uint8_t low, high;
     Range() = default;

@@ -35,10 +35,11 @@ def inflate(
     high: Optional[float] = None,
     unknown: Optional[float] = None,
 ) -> NDArray[np.uint8]:
-    """The cost of each cell of a grid or a Map by the rule of costmap_2d, as an array of uint8: 254
-    in an obstacle; 253 up to the inscribed radius; from there on
-    252 * exp(-scaling * (distance - inscribed)), rounded down; and 0 beyond the inflation
-    `radius`. The distance is exact, from the middle of the cell to that of its nearest obstacle.
+    """The cost of each cell of a grid or a Map by the rule of costmap_2d, as an array of uint8.
+
+    It is 254 in an obstacle, and 253 up to the inscribed radius. From there on it is
+    252 * exp(-scaling * (distance - inscribed)), rounded down. Beyond the inflation `radius` it is
+    0. The distance is exact, from the middle of the cell to that of its nearest obstacle.
     The radii are in metres, and `resolution` is metres a cell: as costmap_2d does, it takes a
     radius in whole cells, rounded up, for the last one.
 

@@ -352,12 +352,16 @@ class Map(Drawing):
         to.
 
         The distance is a surface over the middles of the cells, at each of which it is that of the
-        cell, from middle to middle. Between the four middles around a point it is bilinear: with
-        the point a part f of a cell to the right of the left ones, and g below the upper ones, it
-        is (1 - g) * ((1 - f) * upper left + f * upper right) + g * ((1 - f) * lower left + f *
-        lower right). Off the map, the nearest middle on it stands for a middle; with the edge
-        `wall` the middles of the frame are 0, as obstacles. So it is 0 at the middle of an
-        obstacle, and nowhere below 0.
+        cell, from middle to middle. Between the four middles around a point it is bilinear. Let
+        the point be a part f of a cell to the right of the left ones, and a part g below the upper
+        ones. The distance is then
+
+            (1 - g) * ((1 - f) * upper left + f * upper right)
+                + g * ((1 - f) * lower left + f * lower right)
+
+        Off the map, the nearest middle on it stands for a middle; with the edge `wall` the middles
+        of the frame are 0, as obstacles. So it is 0 at the middle of an obstacle, and nowhere below
+        0.
 
         The gradient is that of this surface, to the right and upwards, in metres a metre: on a line
         through middles that of the square to the right of it, or below. The distance isn't a safe

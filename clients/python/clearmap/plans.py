@@ -16,8 +16,8 @@ from .requests import Cell
 
 
 class TightestSegment(NamedTuple):
-    """The least clearance of a plan in metres, rounded down; the number of the segment that has it,
-    from 0; and the obstacle."""
+    """The least clearance of a plan in metres, rounded down, the number of the segment that has it,
+    from 0, and the obstacle."""
 
     clearance: float
     segment: int

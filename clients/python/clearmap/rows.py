@@ -170,11 +170,11 @@ def distances(
     integers for integers; for floats they are rounded to the dtype, and a NaN is a ValueError. With
     `edge="wall"` each cell of the frame around the grid is an obstacle too.
 
-    With `nearest=True` the result is (distances, obstacles), two views of one array: obstacles has
+    With `nearest=True` the result is (distances, obstacles), two views of one array. Obstacles has
     the shape (rows, columns, 2) and the dtype int16, and obstacles[y, x] is the column and the row
-    of the nearest obstacle of cell (x, y); on the frame of a wall either is -1, or one after the
-    last; NOWHERE, twice, if there is none. Ties go to the least column; among those to the fewest
-    rows away, and of two such to the upper one.
+    of the nearest obstacle of cell (x, y). On the frame of a wall either is -1, or one after the
+    last. Where there is none both are NOWHERE. Ties go to the least column, among those to the
+    fewest rows away, and of two such to the upper one.
 
     These are no indices of numpy, which have the row first, and for which -1 and -2 count from the
     end. `nearest="indices"` gives (distances, indices) with indices as scipy's: of the shape (2,
