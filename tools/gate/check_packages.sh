@@ -101,6 +101,8 @@ for crate in clearmap libclearmap; do
     mkdir -p "$twin/crates/$crate/out"
     find "crates/$crate/out" -maxdepth 1 -type f -exec cp {} "$twin/crates/$crate/out/" \;
 done
+[ ! -d crates/libclearmap/out/aarch64 ] \
+    || cp -r crates/libclearmap/out/aarch64 "$twin/crates/libclearmap/out/"
 find "$twin" -type f -exec touch {} +
 SOURCE_DATE_EPOCH=$(git log -1 --format=%ct 2> /dev/null || date +%s)
 export SOURCE_DATE_EPOCH
