@@ -5,6 +5,7 @@ ghost use Rattle.metric.specs.Fault.{fault_name};
 ghost use Rattle.metric.specs.declared.fault.PbmFault.TheVariants.{Memory};
 ghost use Rattle.metric.specs.declared.refusal.Refusal.{Refusal};
 
+use crate::no_memory::NoMemory;
 use crate::refusal::Refusal;
 use std::fmt;
 
@@ -31,6 +32,15 @@ pub enum PbmFault {
     JunkNotSpaced,
     /// There was no memory for the bitmap.
     Memory,
+}
+
+/// There was no memory for the bitmap.
+impl From<NoMemory> for PbmFault {
+    ghost from_gives = { λ _ fault. fault ≡ Memory };
+
+    fn from(_refused: NoMemory) -> PbmFault {
+        PbmFault::Memory
+    }
 }
 
 impl PbmFault {

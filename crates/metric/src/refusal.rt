@@ -7,6 +7,7 @@ ghost use Rattle.metric.specs.declared.refusal.Refusal.TheVariants.{Memory};
 ghost use Rattle.std.specs.IoError.{error_kind};
 
 use crate::fault::PbmFault;
+use crate::no_memory::NoMemory;
 use std::alloc::{AllocError, AllocFailed};
 use std::fmt;
 use std::io::{self, ErrorKind};
@@ -58,7 +59,16 @@ pub enum Refusal {
     PlacesUsed,
 }
 
-/// An allocation that was refused. Nothing else makes `Memory`: callers pass it on with `?`.
+/// A growth that was refused.
+impl From<NoMemory> for Refusal {
+    ghost from_gives = { λ _ refusal. refusal ≡ Memory };
+
+    fn from(_refused: NoMemory) -> Refusal {
+        Refusal::Memory
+    }
+}
+
+/// An allocation that was refused.
 impl From<AllocError> for Refusal {
     ghost from_gives = { λ _ refusal. refusal ≡ Memory };
 
