@@ -13,7 +13,7 @@ use crate::raw_raster::{WORD_PIXELS, bytes_across};
 use crate::raw_row::MOST_ACROSS;
 use crate::window::{ImageStop, Window};
 use bits::Bitmap;
-use metric::Source;
+use metric::{NoMemory, PbmFault, Source};
 use std::alloc::Global;
 
 /// Takes the pixels into a blank bitmap, a word at a time.
@@ -119,13 +119,16 @@ fn take_image<R: Source>(
     ensures counts { CountsReads (R.failed_reads reader.old) result (R.failed_reads reader.new) }
 {
     let header = window.next_header(reader)?;
-    let mut bitmap = header.blank(alloc)?;
+    let mut bitmap = match header.blank(alloc) {
+        Ok(bitmap) => bitmap,
+        Err(refused) => return Err(ImageStop::Fault(PbmFault::from(refused))),
+    };
     take_raster(window, reader, header.form, &mut bitmap)?;
     Ok(bitmap)
 }
 
-/// Reads and drops what a source has left, unless the window has met its end. A count of blocks
-/// that overflows is more than any memory holds.
+/// Reads and drops what a source has left, unless the window has met its end. The window's buffer,
+/// whose bytes are done with, then has a byte for each block: it is long before it has to grow.
 fn pass_rest<R: Source>(window: &mut Window, reader: &mut R) -> Result<(), ImageStop>
     requires can_fail { CanFail (R.failed_reads reader.old) }
     requires open { IsOpen window.old (R.rest reader.old) }
@@ -136,12 +139,14 @@ fn pass_rest<R: Source>(window: &mut Window, reader: &mut R) -> Result<(), Image
     if window.ended {
         return Ok(());
     }
+    window.bytes.clear();
     'turns: for _ in 0..u64::MAX {
         if reader.next_block(window.block.as_mut_slice())? == 0 {
             return Ok(());
         }
+        window.bytes.push(0).map_err(NoMemory::from)?;
     }
-    Err(ImageStop::Memory)
+    unreachable!()
 }
 
 /// Reads the image at the front of a source, and the source to its end.
