@@ -1,6 +1,8 @@
 //! Out of memory, as a value that only a refused growth makes.
 
-ghost use Rattle.std.specs.Prelude.{◌≡◌};
+ghost use Rattle.std.specs.Prelude.{◌≡◌, [], IfOk};
+ghost use Rattle.std.specs.Io.Buffered.{reader_buffer, reader_capacity, reader_inner};
+ghost use Rattle.std.specs.Io.Buffered.{writer_buffer, writer_capacity, writer_inner};
 ghost use Rattle.std.specs.IoError.{error_kind};
 
 use std::alloc::{AllocError, AllocFailed, Global};
@@ -40,7 +42,11 @@ pub fn buffered_reader<R: Read + Drop>(
     alloc: Global,
     capacity: usize,
     reader: R,
-) -> Result<BufReader<R>, NoMemory> {
+) -> Result<BufReader<R>, NoMemory>
+    ensures reader { IfOk result (λ buffered. reader_inner buffered ≡ reader) }
+    ensures empty { IfOk result (λ buffered. reader_buffer buffered ≡ []) }
+    ensures capacity { IfOk result (λ buffered. reader_capacity buffered ≡ capacity) }
+{
     BufReader::with_capacity(alloc, capacity, reader).map_err(|fault| NoMemory::of_buffer(&fault))
 }
 
@@ -49,6 +55,10 @@ pub fn buffered_writer<W: Write + Drop>(
     alloc: Global,
     capacity: usize,
     writer: W,
-) -> Result<BufWriter<W>, NoMemory> {
+) -> Result<BufWriter<W>, NoMemory>
+    ensures writer { IfOk result (λ buffered. writer_inner buffered ≡ writer) }
+    ensures empty { IfOk result (λ buffered. writer_buffer buffered ≡ []) }
+    ensures capacity { IfOk result (λ buffered. writer_capacity buffered ≡ capacity) }
+{
     BufWriter::with_capacity(alloc, capacity, writer).map_err(|fault| NoMemory::of_buffer(&fault))
 }

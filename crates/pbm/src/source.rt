@@ -1,6 +1,6 @@
 //! Reads an image from a source, and packs it as its bytes come.
 
-ghost use Rattle.std.specs.Prelude.{◌≡◌, ◌*◌, List, [], Bool, false, Ok, IfOk, IfErr, OnOk};
+ghost use Rattle.std.specs.Prelude.{◌≡◌, ◌*◌, List, [], Bool, false, true, Ok, IfOk, IfErr, OnOk};
 ghost use Rattle.metric.specs.Stream.{AreAll, CanFail};
 ghost use Rattle.bits.specs.Cells.{cells_where};
 ghost use Rattle.pbm.specs.Faults.{cells_of_pixels, image, pixels, raster, raw_raster};
@@ -127,8 +127,24 @@ fn take_image<R: Source>(
     Ok(bitmap)
 }
 
+/// Reads and drops up to 2^32 - 1 blocks. Returns whether the source has ended.
+fn pass_some<R: Source>(window: &mut Window, reader: &mut R) -> Result<bool, ImageStop>
+    requires { CanFail (R.failed_reads reader.old) }
+    ensures ended { result ≡ Ok true → AreAll (R.rest reader.new) [] }
+    ensures no_fault { IfErr result (λ stop. IsFaultOf stop (λ met. ⊥)) }
+    ensures counts { CountsReads (R.failed_reads reader.old) result (R.failed_reads reader.new) }
+    ensures bytes { window.new.bytes ≡ window.old.bytes }
+{
+    'turns: for _ in 0..u32::MAX {
+        if reader.next_block(window.block.as_mut_slice())? == 0 {
+            return Ok(true);
+        }
+    }
+    Ok(false)
+}
+
 /// Reads and drops what a source has left, unless the window has met its end. The window's buffer,
-/// whose bytes are done with, then has a byte for each block: it is long before it has to grow.
+/// whose bytes are done with, counts: it has a byte for every 2^32 - 1 blocks.
 fn pass_rest<R: Source>(window: &mut Window, reader: &mut R) -> Result<(), ImageStop>
     requires can_fail { CanFail (R.failed_reads reader.old) }
     requires open { IsOpen window.old (R.rest reader.old) }
@@ -141,7 +157,7 @@ fn pass_rest<R: Source>(window: &mut Window, reader: &mut R) -> Result<(), Image
     }
     window.bytes.clear();
     'turns: for _ in 0..u64::MAX {
-        if reader.next_block(window.block.as_mut_slice())? == 0 {
+        if pass_some(window, reader)? {
             return Ok(());
         }
         window.bytes.push(0).map_err(NoMemory::from)?;

@@ -15,7 +15,7 @@ pub const BLOCK: usize = 65_536;
 pub enum ImageStop {
     /// A read failed.
     Failed,
-    /// There was no memory for the bytes read, or to count the blocks after an image.
+    /// There was no memory for the bytes read.
     Memory(NoMemory),
     /// The image has this fault, or there was no memory for its bitmap.
     Fault(PbmFault),
