@@ -1,9 +1,8 @@
 #!/bin/sh
 # Looks for what no contract sees: code that forgets what it should free, by whatever name it was
-# imported (tests may, to leave a session out), and code that reports out of memory though no
-# allocation was refused. Modules named as libraries, lines of over 100 columns, and words that have
-# a plainer one, too. First the tests of what judges sources and edits, and of what proves crates
-# side by side.
+# imported (tests may, to leave a session out), and lines that say by themselves that there is no
+# memory. Modules named as libraries, lines of over 100 columns, and words that have a plainer one,
+# too. First the tests of what judges sources and edits, and of what proves crates side by side.
 set -u
 cd "$(dirname "$0")/../.." || exit 1
 export PYTHONDONTWRITEBYTECODE=1

@@ -76,3 +76,17 @@ pub lease_made : {M : Type 1} {𝓤 : Ura M} (𝓛 : Logic 𝓤) → Unit {0}
 lease_made 𝓛 f =
     makes_shadow 𝓛 (lease_own (lease_val ∷ [])) (λ _. (tt, ((λ _. (tt, tt)), tt)))
     ((vstruct vnil ∷ [], tt), (refl, ((tt, (refl, tt)), tt)))
+
+-- a refusal's machine value is empty
+abbrev pub refusal_val : Val
+refusal_val = vstruct vnil
+
+-- a refusal's fields own this at these machine values
+abbrev pub refusal_own : List Val → Fml
+refusal_own = (plainly []).own_val tt
+
+-- what a refusal's fields own at its machine value is made of nothing
+pub refusal_made : {M : Type 1} {𝓤 : Ura M} (𝓛 : Logic 𝓤)
+    → ent 𝓤 (emp 𝓤) (sem 𝓛 (refusal_own (refusal_val ∷ [])))
+refusal_made 𝓛 =
+    makes_shadow 𝓛 (refusal_own (refusal_val ∷ [])) (λ _. (tt, tt)) (tt, (refl, tt))

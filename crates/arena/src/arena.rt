@@ -3,14 +3,13 @@
 //! The free blocks hold the list themselves: the first word of a free block is the number of the
 //! next.
 
-ghost use Rattle.std.specs.Prelude.{◌≡◌, ◌≤◌, [], ◌∷◌, length, MatchOption, IfOk, IfErr};
-ghost use Rattle.metric.specs.declared.refusal.Refusal.TheVariants.{Memory};
+ghost use Rattle.std.specs.Prelude.{◌≡◌, ◌≤◌, [], ◌∷◌, length, MatchOption, IfOk};
 ghost use Rattle.std.specs.List.{range_with_len};
 ghost use Rattle.arena.specs.Chain.{Pool, chain, IsArena, IsLeased};
 
 use crate::region::{Lease, Region, Tile};
 use core::mem::replace_with;
-use metric::Refusal;
+use metric::NoMemory;
 use std::alloc::Global;
 use std::marker::Model;
 
@@ -46,15 +45,12 @@ impl Arena {
     ///
     /// Fails only when out of memory.
     #[tactic(auto, using(crate::proofs::Chains::one_filled))]
-    pub fn new(alloc: Global, count: u32) -> Result<Arena, Refusal>
+    pub fn new(alloc: Global, count: u32) -> Result<Arena, NoMemory>
         requires { count ≤ 16384 }
         ensures count { IfOk result (λ a. a.home.count ≡ count) }
         ensures free { IfOk result (λ a. a.free ≡ range_with_len 0 count) }
-        ensures refused { IfErr result (λ refusal. refusal ≡ Memory) }
     {
-        let Some((mut region, lease)) = Region::new(&alloc, count) else {
-            return Err(Refusal::Memory);
-        };
+        let (mut region, lease) = Region::new(&alloc, count)?;
         'filling: for done in 0..count {
             let mut words = [0u64; 64];
             words[0] = u64::from(done) + 1;

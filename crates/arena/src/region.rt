@@ -4,7 +4,7 @@
 //! that is out.
 
 ghost use Rattle.std.specs.Prelude.{◌≡◌, ℕ, ◌<◌, List, length, slice_index_or, slice_set};
-ghost use Rattle.std.specs.Prelude.{replicate, IfSome, ◌≤◌};
+ghost use Rattle.std.specs.Prelude.{replicate, IfOk, ◌≤◌};
 ghost use Rattle.std.specs.Borrow.{full_share, lent_at, sem};
 ghost use Rattle.std.specs.List.{All};
 ghost use Rattle.std.specs.Ptr.{lies_at};
@@ -12,7 +12,7 @@ ghost use denote.RawPtr.{block_ptr};
 ghost use Rattle.arena.specs.Blocks.{Content, out, bare, held, IsHeld, Home, IsHome, IsBlock};
 ghost use Rattle.arena.specs.Ownership.{block_row, blocks_from, region_ty};
 
-use std::alloc::Allocator;
+use std::alloc::{AllocError, Allocator};
 use std::marker::{Model, PhantomData};
 
 /// The words of a block.
@@ -140,10 +140,10 @@ impl Region {
         Region { base }
     }
 
-    /// A region of this many blocks without words yet; `None` when out of memory.
-    pub fn new<A: Allocator>(alloc: &A, count: u32) -> Option<(Region, Lease<A>)>
+    /// A region of this many blocks without words yet, if its one request isn't refused.
+    pub fn new<A: Allocator>(alloc: &A, count: u32) -> Result<(Region, Lease<A>), AllocError>
         requires { count ≤ 16384 }
-        ensures { IfSome result (λ m. (m.0.blocks ≡ replicate count bare) × (m.0.home.count ≡ count)
+        ensures { IfOk result (λ m. (m.0.blocks ≡ replicate count bare) × (m.0.home.count ≡ count)
             × (m.1.alloc ≡ alloc.now)
             × (m.1.home ≡ m.0.home)) }
     {
@@ -151,9 +151,9 @@ impl Region {
             Ok(ptr) => {
                 let base = ptr as *mut Block;
                 let marker = PhantomData;
-                Some((Region { base }, Lease { marker }))
+                Ok((Region { base }, Lease { marker }))
             }
-            Err(_) => None,
+            Err(refused) => Err(refused),
         }
     }
 

@@ -84,7 +84,7 @@ pub is_standard : {T P : Type 0} (stop : Stop)
     → (◌≢◌ {A = Result T Stop} (Err stop) (Err Standard) → P) → (P → ⊥) → stop ≡ Standard
 is_standard Standard kept changed = refl
 is_standard Net kept changed = absurd (changed (kept (λ e. absurd cc)))
-is_standard Memory kept changed = absurd (changed (kept (λ e. absurd cc)))
+is_standard (Memory refused) kept changed = absurd (changed (kept (λ e. absurd cc)))
 
 -- where no call has failed, there is at most one failure
 pub no_failure : (reads before writes first : ℕ) → reads ≡ before → writes ≡ first
@@ -107,7 +107,7 @@ one_failed Standard reads before writes first last failed kept held same counts 
     omega (arith, failed refl, same refl)
 one_failed Net reads before writes first last failed kept held same counts =
     omega (arith, kept (λ e. absurd cc), held (λ e. absurd cc), counts)
-one_failed Memory reads before writes first last failed kept held same counts =
+one_failed (Memory refused) reads before writes first last failed kept held same counts =
     omega (arith, kept (λ e. absurd cc), held (λ e. absurd cc), counts)
 
 -- a run that is refused isn't done

@@ -60,14 +60,14 @@ end_line : (fault sound : Type 0) (stop : Stop) → stop ≢ stops.Standard → 
     → (stop ≢ stops.Net → sound) → IsEndLine fault sound (stop_text stop)
 end_line fault sound stops.Standard other blame calm = absurd (other refl)
 end_line fault sound stops.Net other blame calm = inl (refl, blame refl)
-end_line fault sound stops.Memory other blame calm = inr (refl, calm (λ e. absurd cc))
+end_line fault sound (stops.Memory refused) other blame calm = inr (refl, calm (λ e. absurd cc))
 
 -- a run of `ask` that stops tells nothing, or why in such a line
 last_line : (fault sound : Type 0) (stop : Stop) → (stop ≡ stops.Net → fault)
     → (stop ≢ stops.Net → sound) → (stop_text stop ≡ []) ⊎ IsEndLine fault sound (stop_text stop)
 last_line fault sound stops.Standard blame calm = inl refl
 last_line fault sound stops.Net blame calm = inr (inl (refl, blame refl))
-last_line fault sound stops.Memory blame calm = inr (inr (refl, calm (λ e. absurd cc)))
+last_line fault sound (stops.Memory refused) blame calm = inr (inr (refl, calm (λ e. absurd cc)))
 
 -- a prefix of what was read, and then the line that tells why it ended, end a run of `ask` early
 pub EndsEarly-line : (fault sound : Type 0) (unread left before middle after : Option (List ℕ))

@@ -251,7 +251,7 @@ Breaks-complete before after all = record {
 last_line : (stop : Stop) → IsLastLine (stop_text stop)
 last_line stops.Standard = inl refl
 last_line stops.Net = inr (inl refl)
-last_line stops.Memory = inr (inr refl)
+last_line (stops.Memory refused) = inr (inr refl)
 
 -- a run that stops tells no more than why
 pub Converses-stop : (before cut after : Talk) (stop : Stop) → Breaks before cut

@@ -24,7 +24,7 @@ pub record PassesFront (unread left held_before held_after : Option (List ℕ)) 
 abbrev pub stop_text : Stop → List ℕ
 stop_text stops.Standard = []
 stop_text stops.Net = net_text
-stop_text stops.Memory = memory_text
+stop_text (stops.Memory refused) = memory_text
 
 -- the line that says why a run of `ask` ended early: the network's fault, if it is so, or want of
 -- memory, if the connection is sound

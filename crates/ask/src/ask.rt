@@ -14,7 +14,7 @@ mod request;
 
 use crate::told::Hearer;
 use exchange::exchange;
-use metric::{Refusal, Sink, Source, Stream};
+use metric::{NoMemory, Refusal, Sink, Source, Stream};
 use request::read_request;
 use std::alloc::Global;
 use streams::{DONE, REFUSED, write_net_fault, write_refusal, write_text};
@@ -27,7 +27,7 @@ pub enum Stop {
     /// The connection failed, or the server ended it before the end of a reply that was due.
     Net,
     /// There was no memory for a line or a reply.
-    Memory,
+    Memory(NoMemory),
 }
 
 /// Sends the reader's lines to the stream, each with the bytes that it counts, and writes each
@@ -134,7 +134,9 @@ fn end<W: Sink>(writer: &mut W, stop: Stop) -> u8
     match stop {
         Stop::Standard => REFUSED,
         Stop::Net => write_net_fault(writer).unwrap_or(REFUSED),
-        Stop::Memory => write_refusal(writer, Refusal::Memory).unwrap_or(REFUSED),
+        Stop::Memory(refused) => {
+            write_refusal(writer, Refusal::from(refused)).unwrap_or(REFUSED)
+        }
     }
 }
 

@@ -36,6 +36,8 @@ where
     match Socket::new(alloc, stream) {
         Ok(mut socket) => ask_run(alloc, &mut socket, reader, writer, hearer),
         Err(NoSocket::Broken) => write_net_fault(writer).unwrap_or(REFUSED),
-        Err(NoSocket::Memory(_)) => write_refusal(writer, Refusal::Memory).unwrap_or(REFUSED),
+        Err(NoSocket::Memory(_, refused)) => {
+            write_refusal(writer, Refusal::from(refused)).unwrap_or(REFUSED)
+        }
     }
 }

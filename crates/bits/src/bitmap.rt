@@ -1,18 +1,17 @@
 //! A bitmap of 1 to 4096 cells a side.
 
-ghost use Rattle.std.specs.Prelude.{◌≡◌, ◌+◌, ◌*◌, ◌/◌, ◌%◌, ◌<◌, ◌≤◌, ◌↔◌, IsTrue, IfOk, IfErr};
+ghost use Rattle.std.specs.Prelude.{◌≡◌, ◌+◌, ◌*◌, ◌/◌, ◌%◌, ◌<◌, ◌≤◌, ◌↔◌, IsTrue, IfOk};
 ghost use Rattle.std.specs.Prelude.{false};
 ghost use Rattle.bits.specs.Cells.{has, cells_where, with_cell, IsSide, IsBitmap, IsInside};
 ghost use Rattle.bits.specs.Bands.{IsBanded, IsTiled};
 ghost use Rattle.bits.specs.Words.{words_across, IsRowOf};
 ghost use Rattle.bits.specs.Writes.{with_row, with_word};
-ghost use Rattle.metric.specs.declared.refusal.Refusal.TheVariants.{Memory};
 
 use crate::band::{marked, marked_by};
 use crate::tile_marks::TileMarks;
 use crate::word::{has_bit, with_bit};
 use crate::write::{write_row, write_word};
-use metric::{Cell, Rect, Refusal, WORD_BITS, WORD_CELLS};
+use metric::{Cell, NoMemory, Rect, WORD_BITS, WORD_CELLS};
 use std::alloc::Global;
 use std::marker::Model;
 
@@ -59,11 +58,10 @@ impl Model for Bitmap {
 
 impl Bitmap {
     /// A bitmap of this size without obstacles. Fails only when out of memory.
-    pub fn blank(alloc: Global, width: u16, height: u16) -> Result<Self, Refusal>
+    pub fn blank(alloc: Global, width: u16, height: u16) -> Result<Self, NoMemory>
         requires width { IsSide width }
         requires height { IsSide height }
-        ensures blank { IfOk result (λ bitmap. bitmap ≡ cells_where width height (λ x y. false)) }
-        ensures memory { IfErr result (λ refusal. refusal ≡ Memory) }
+        ensures { IfOk result (λ bitmap. bitmap ≡ cells_where width height (λ x y. false)) }
     {
         let across = usize::from(width).div_ceil(WORD_BITS);
         let words = vec![in alloc; 0u64; across * usize::from(height)]?;
@@ -220,9 +218,8 @@ impl Bitmap {
     }
 
     /// Copies the bitmap. Fails only when out of memory.
-    pub fn try_copy(&self, alloc: Global) -> Result<Self, Refusal>
-        ensures copy { IfOk result (λ copy. copy ≡ self.now) }
-        ensures memory { IfErr result (λ refusal. refusal ≡ Memory) }
+    pub fn try_copy(&self, alloc: Global) -> Result<Self, NoMemory>
+        ensures { IfOk result (λ copy. copy ≡ self.now) }
     {
         let words = Vec::from_slice(alloc, self.words.as_slice())?;
         let marks = self.marks.try_copy(alloc)?;

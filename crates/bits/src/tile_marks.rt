@@ -5,8 +5,8 @@ ghost use Rattle.std.specs.Prelude.{◌≡◌, ◌≢◌, ℕ, ◌<◌, ◌≤�
 ghost use Rattle.std.specs.Int.{bit_at};
 
 use crate::band::{renewed, with_mark, with_marks};
-use metric::{BAND_ROWS, MOST_SIDE};
-use std::alloc::{AllocError, Global};
+use metric::{BAND_ROWS, MOST_SIDE, NoMemory};
+use std::alloc::Global;
 use std::marker::Model;
 
 /// The most bands of a bitmap.
@@ -30,13 +30,13 @@ impl Model for TileMarks {
 
 impl TileMarks {
     /// Marks without any tile.
-    pub fn blank(alloc: Global) -> Result<Self, AllocError> {
+    pub fn blank(alloc: Global) -> Result<Self, NoMemory> {
         let bands = vec![in alloc; 0u64; MOST_BANDS]?;
         Ok(TileMarks { bands })
     }
 
     /// Copies the marks.
-    pub fn try_copy(&self, alloc: Global) -> Result<Self, AllocError>
+    pub fn try_copy(&self, alloc: Global) -> Result<Self, NoMemory>
         ensures { IfOk result (λ copy. copy ≡ self.now) }
     {
         let bands = Vec::from_slice(alloc, self.bands.as_slice())?;

@@ -10,7 +10,7 @@ use command_line::{
     words_of,
 };
 use engines::run_said;
-use metric::{Refusal, Source};
+use metric::{NoMemory, Source};
 use std::fs::{File, Files};
 use std::io;
 use std::io::Write;
@@ -45,14 +45,14 @@ where
     match words_of(rt) {
         Ok(words) => match run_words(rt, words.as_slice(), &held) {
             Ok(status) => status,
-            Err(refusal) => refuse(rt, refusal),
+            Err(refused) => refuse(rt, refused),
         },
         Err(fault) => tell_fault(rt, &fault),
     }
 }
 
 /// Runs what these words name. Returns the exit status.
-fn run_words<R>(rt: &R, words: &[String], held: &Held) -> Result<u8, Refusal>
+fn run_words<R>(rt: &R, words: &[String], held: &Held) -> Result<u8, NoMemory>
 where
     R: Input
         + Print

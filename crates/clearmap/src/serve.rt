@@ -26,7 +26,7 @@ fn read_map<R: Source>(alloc: Global, reader: &mut R) -> Result<Bitmap, Option<R
     match read_source(alloc, reader) {
         Ok(map) => Ok(map),
         Err(ImageStop::Fault(fault)) => Err(Some(Refusal::BadImage(fault))),
-        Err(ImageStop::Memory) => Err(Some(Refusal::Memory)),
+        Err(ImageStop::Memory(refused)) => Err(Some(Refusal::from(refused))),
         Err(ImageStop::Failed) => Err(None),
     }
 }

@@ -4,9 +4,8 @@
 //! The lines below the rows are known for one band, and the line below each band from one pass up
 //! the batch.
 
-ghost use Rattle.std.specs.Prelude.{◌≡◌, ◌+◌, ◌*◌, ◌<◌, IfErr, IfOk, length, replicate};
+ghost use Rattle.std.specs.Prelude.{◌≡◌, ◌+◌, ◌*◌, ◌<◌, IfOk, length, replicate};
 ghost use Rattle.metric.specs.Edge.{shift};
-ghost use Rattle.metric.specs.declared.refusal.Refusal.TheVariants.{Memory};
 ghost use Rattle.bits.specs.Cells.{IsBitmap};
 ghost use Rattle.bits.specs.Edges.{framed};
 ghost use Rattle.column.specs.Columns.{IsRowOfTable};
@@ -14,7 +13,7 @@ ghost use Rattle.column.specs.Columns.{IsRowOfTable};
 use crate::NONE;
 use crate::batch::Batch;
 use crate::lines::{BAND, fill_band, next_row, seek_bands};
-use metric::Refusal;
+use metric::NoMemory;
 use std::alloc::Global;
 
 /// What is known of the columns of a batch between two of its rows.
@@ -37,9 +36,8 @@ impl Carried {
     ghost use Rattle.column.specs.Carrying.{IsCarriedTo};
 
     /// The lines at the first row of the batch. Fails only when out of memory.
-    pub fn of(alloc: Global, batch: &Batch<'_>) -> Result<Self, Refusal>
-        ensures ready { IfOk result (λ carried. IsCarriedTo batch.now carried batch.now.y0) }
-        ensures memory { IfErr result (λ refusal. refusal ≡ Memory) }
+    pub fn of(alloc: Global, batch: &Batch<'_>) -> Result<Self, NoMemory>
+        ensures { IfOk result (λ carried. IsCarriedTo batch.now carried batch.now.y0) }
     {
         let width = batch.width();
         let count = usize::from((batch.y1 - batch.y0).div_ceil(BAND));
@@ -114,9 +112,8 @@ impl Carried {
 }
 
 /// This many entries for no obstacle. Fails only when out of memory.
-pub fn no_obstacles(alloc: Global, count: usize) -> Result<Vec<u16>, Refusal>
-    ensures count { IfOk result (λ entries. entries.items ≡ replicate count 65535) }
-    ensures memory { IfErr result (λ refusal. refusal ≡ Memory) }
+pub fn no_obstacles(alloc: Global, count: usize) -> Result<Vec<u16>, NoMemory>
+    ensures { IfOk result (λ entries. entries.items ≡ replicate count 65535) }
 {
     Ok(vec![in alloc; NONE; count]?)
 }

@@ -1,20 +1,18 @@
 //! A table of the nearest obstacles in all columns.
 
 ghost use Rattle.std.specs.Prelude.{◌≡◌, ◌≢◌, pos, ◌+◌, ◌*◌, ◌<◌, ◌≤◌, ◌<ℤ◌, ◌≤ℤ◌, ◌+ℤ◌, IfOk};
-ghost use Rattle.std.specs.Prelude.{IfErr};
 ghost use Rattle.std.specs.Option.{option_map};
 ghost use Rattle.metric.specs.Edge.{shift, spot_of};
 ghost use Rattle.bits.specs.Cells.{IsBitmap};
 ghost use Rattle.bits.specs.Edges.{framed};
 ghost use Rattle.column.specs.Columns.{IsRowOfTable, row_of};
 ghost use Rattle.column.specs.Spots.{IsNearestSpotRow};
-ghost use Rattle.metric.specs.declared.refusal.Refusal.TheVariants.{Memory};
 
 use crate::batch::Batch;
 use crate::columns::Columns;
 use crate::lines::put_line;
 use bits::Bitmap;
-use metric::{Edge, LAST_FRAMED, MOST_SIDE, Refusal};
+use metric::{Edge, LAST_FRAMED, MOST_SIDE, NoMemory};
 use std::alloc::Global;
 use std::marker::Model;
 
@@ -50,9 +48,8 @@ impl Model for ColumnTable {
 
 impl ColumnTable {
     /// The table of a bitmap with this edge. Fails only when out of memory.
-    pub fn of(alloc: Global, bitmap: &Bitmap, edge: Edge) -> Result<Self, Refusal>
-        ensures table { IfOk result (λ table. table ≡ record { cells = bitmap.now; edge = edge }) }
-        ensures memory { IfErr result (λ refusal. refusal ≡ Memory) }
+    pub fn of(alloc: Global, bitmap: &Bitmap, edge: Edge) -> Result<Self, NoMemory>
+        ensures { IfOk result (λ table. table ≡ record { cells = bitmap.now; edge = edge }) }
     {
         let (width, height) = (bitmap.width(), bitmap.height());
         let batch = Batch::new(bitmap, edge, 0, height);

@@ -1,8 +1,7 @@
 //! What the rows of a batch are computed from, in order: the nearest obstacles of all columns.
 
-ghost use Rattle.std.specs.Prelude.{◌≡◌, ◌+◌, ◌*◌, ◌<◌, IfErr, IfOk, length};
+ghost use Rattle.std.specs.Prelude.{◌≡◌, ◌+◌, ◌*◌, ◌<◌, IfOk, length};
 ghost use Rattle.metric.specs.Edge.{shift};
-ghost use Rattle.metric.specs.declared.refusal.Refusal.TheVariants.{Memory};
 ghost use Rattle.bits.specs.Cells.{IsBitmap};
 ghost use Rattle.bits.specs.Edges.{framed};
 ghost use Rattle.column.specs.Columns.{IsRowOfTable};
@@ -10,7 +9,7 @@ ghost use Rattle.column.specs.Columns.{IsRowOfTable};
 use crate::batch::Batch;
 use crate::carried::{Carried, no_obstacles};
 use crate::seek::nearest_rows;
-use metric::Refusal;
+use metric::NoMemory;
 use std::alloc::Global;
 
 /// The most rows for which each is searched outwards by itself; for more, one pass through the
@@ -35,9 +34,8 @@ impl Columns {
     ghost use Rattle.column.specs.Carrying.{IsNextRow};
 
     /// The columns of the batch, before its first row. Fails only when out of memory.
-    pub fn of(alloc: Global, batch: &Batch<'_>) -> Result<Self, Refusal>
-        ensures ready { IfOk result (λ columns. IsNextRow batch.now columns batch.now.y0) }
-        ensures memory { IfErr result (λ refusal. refusal ≡ Memory) }
+    pub fn of(alloc: Global, batch: &Batch<'_>) -> Result<Self, NoMemory>
+        ensures { IfOk result (λ columns. IsNextRow batch.now columns batch.now.y0) }
     {
         let mut entries = no_obstacles(alloc, usize::from(batch.columns()))?;
         let carried = if is_worth_a_walk(batch, entries.as_mut_slice()) {

@@ -6,8 +6,7 @@ ghost use Rattle.command_line.specs.ServeLine.{setting_served};
 use clap::Error as ClapError;
 use clap::error::ErrorKind;
 use events::Setting;
-use metric::{Edge, MetricKind, Workers};
-use std::alloc::AllocError;
+use metric::{Edge, MetricKind, NoMemory, Workers};
 use std::io;
 use thiserror::Error;
 
@@ -114,8 +113,12 @@ pub enum Fault<'a> {
     Memory,
 }
 
-impl From<AllocError> for Fault<'_> {
-    fn from(_error: AllocError) -> Self {
+impl From<NoMemory> for Fault<'_> {
+    ghost use Rattle.command_line.specs.declared.arguments.Fault.TheVariants.{Memory};
+
+    ghost from_gives = { λ _ fault. fault ≡ Memory };
+
+    fn from(_refused: NoMemory) -> Self {
         Fault::Memory
     }
 }

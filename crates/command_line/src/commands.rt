@@ -2,10 +2,9 @@
 
 ghost use Rattle.std.specs.Prelude.{◌≡◌, ℕ, List, [], ◌∷◌, IfOk, IfErr, OnErr, MatchResult, true};
 ghost use Rattle.std.specs.Prelude.{false, codes};
-ghost use Rattle.clap.specs.Words.{HasMatchesOf, app_of, found_of, kind_of};
+ghost use Rattle.clap.specs.Words.{HasMatchesOf, app_of, found_of};
 ghost use Rattle.clap.specs.Words.{rows_of, rule_of, takes};
 ghost use Rattle.clap.specs.declared.builder.command.Command.TheViews.{out-Command};
-ghost use Rattle.clap.specs.declared.error.kind.ErrorKind.TheVariants.{OutOfMemory};
 ghost use Rattle.command_line.specs.declared.arguments.Fault.TheVariants.{Memory};
 ghost use Rattle.command_line.specs.declared.arguments.Options.TheVariants.{Steps};
 ghost use Rattle.command_line.specs.CommandLine.{AreDistOptions, AreNoDistOptions, AreOptions};
@@ -15,9 +14,9 @@ ghost use Rattle.command_line.specs.Tables.{app_of_entry, rule_of_flag, with_ent
 use crate::arguments::{DistOptions, Fault, Options};
 use crate::serve_words::{edge_given, number_given, serve_or_ask};
 use crate::tables::{COMMANDS, Entry, Flag, Takes};
-use clap::{Arg, ArgAction, ArgMatches, Command, Error};
-use metric::{MetricKind, Workers};
-use std::alloc::{AllocError, Global};
+use clap::{Arg, ArgAction, ArgMatches, Command};
+use metric::{MetricKind, NoMemory, Workers};
+use std::alloc::Global;
 
 /// Reads the words of the command line, of which the first is the program's name.
 ///
@@ -62,16 +61,18 @@ fn dist_options<'a>(flags: &ArgMatches<'a>) -> Result<DistOptions<'a>, Fault<'a>
 }
 
 /// What the words say, by the program's commands and flags.
-fn matches_of<'a>(alloc: Global, words: &'a [&'a str]) -> Result<ArgMatches<'a>, Error>
+fn matches_of<'a>(alloc: Global, words: &'a [&'a str]) -> Result<ArgMatches<'a>, Fault<'a>>
     ensures found { IfOk result (HasMatchesOf program_app (texts_of words.entry.now)) }
-    ensures passes { IfErr result (λ error. takes program_app (texts_of words.entry.now) ≡ true
-        → kind_of error ≡ OutOfMemory) }
+    ensures passes { IfErr result (λ fault. takes program_app (texts_of words.entry.now) ≡ true
+        → fault ≡ Memory) }
 {
-    program(alloc)?.try_get_matches_from(words)
+    let program = program(alloc)?;
+    let matches = program.try_get_matches_from(words)?;
+    Ok(matches)
 }
 
 /// The program's commands and flags.
-fn program<'a>(alloc: Global) -> Result<Command<'a>, AllocError>
+fn program<'a>(alloc: Global) -> Result<Command<'a>, NoMemory>
     ensures { IfOk result (λ command. app_of command ≡ program_app) }
 {
     let program = Command::new(alloc, "clearmap")
@@ -89,7 +90,7 @@ fn with_commands<'a>(
     alloc: Global,
     mut program: Command<'a>,
     entries: &[Entry<'a>],
-) -> Result<Command<'a>, AllocError>
+) -> Result<Command<'a>, NoMemory>
     ensures { IfOk result (λ made. app_of made ≡ with_entries (app_of program.entry) entries.now) }
 {
     for entry in entries {
@@ -99,7 +100,7 @@ fn with_commands<'a>(
 }
 
 /// A command and its flags.
-fn command_of<'a>(alloc: Global, entry: Entry<'a>) -> Result<Command<'a>, AllocError>
+fn command_of<'a>(alloc: Global, entry: Entry<'a>) -> Result<Command<'a>, NoMemory>
     ensures app { IfOk result (λ command. app_of command ≡ app_of_entry entry.entry) }
     ensures local { IfOk result (λ command. (out-Command command).has_globals ≡ false) }
 {

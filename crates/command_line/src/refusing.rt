@@ -5,8 +5,8 @@ ghost use Rattle.metric.specs.Stream.{CanFail};
 ghost use Rattle.command_line.specs.Told.{Begins, IsFaultTold, IsStatusOf};
 
 use crate::arguments::Fault;
-use metric::{Refusal, Sink};
-use std::alloc::{AllocError, Global};
+use metric::{NoMemory, Refusal, Sink};
+use std::alloc::Global;
 use streams::{DONE, REFUSED, write_refusal, write_text};
 
 /// The status of a command line that was refused.
@@ -28,10 +28,10 @@ fn status_of(fault: &Fault<'_>) -> u8
 }
 
 /// The text to print: that of `clap` as it is, and any other with the program's name.
-fn text_of(alloc: Global, fault: &Fault<'_>) -> Result<String, AllocError> {
+fn text_of(alloc: Global, fault: &Fault<'_>) -> Result<String, NoMemory> {
     match fault {
-        Fault::Words(error) => format!(in alloc; "{error}"),
-        other => format!(in alloc; "clearmap: {other}\n"),
+        Fault::Words(error) => Ok(format!(in alloc; "{error}")?),
+        other => Ok(format!(in alloc; "clearmap: {other}\n")?),
     }
 }
 

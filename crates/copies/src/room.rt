@@ -1,15 +1,14 @@
 //! The copy of a version that a pin reads into, which a session keeps from one pin to the next.
 
-ghost use Rattle.std.specs.Prelude.{◌≡◌, ◌≢◌, ℕ, ◌<◌, None, IfOk, IfErr, IfSome, IsOk};
+ghost use Rattle.std.specs.Prelude.{◌≡◌, ◌≢◌, ℕ, ◌<◌, None, IfOk, IfSome, IsOk};
 ghost use Rattle.std.specs.Int.{bit_at};
 ghost use Rattle.bits.specs.Cells.{IsBitmap, IsSide};
 ghost use Rattle.bits.specs.Tiles.{tiles_down};
-ghost use Rattle.metric.specs.declared.refusal.Refusal.TheVariants.{Memory};
 
 use crate::copy::VersionCopy;
 use bits::Bitmap;
-use metric::Refusal;
-use std::alloc::{AllocError, Global};
+use metric::NoMemory;
+use std::alloc::Global;
 use std::marker::Model;
 
 /// The size of a store's map, and a copy of that size if a pin has left one. Contracts see the
@@ -40,7 +39,7 @@ fn renewed(
     alloc: Global,
     width: u16,
     height: u16,
-) -> Result<Box<VersionCopy>, Refusal>
+) -> Result<Box<VersionCopy>, NoMemory>
     requires width { IsSide width }
     requires height { IsSide height }
     requires left { IfSome left (λ copy. (copy.value.bitmap.width ≡ width)
@@ -51,14 +50,13 @@ fn renewed(
     ensures unread { IfOk result (λ copy. (k : ℕ) → k < tiles_down copy.value.bitmap.height
         → bit_at copy.value.unread k ≡ 1) }
     ensures free { left ≢ None → IsOk result }
-    ensures memory { IfErr result (λ refusal. refusal ≡ Memory) }
 {
     if let Some(mut copy) = left {
         copy.renew();
         return Ok(copy);
     }
     let bitmap = Bitmap::blank(alloc, width, height)?;
-    Ok(Box::new(alloc, VersionCopy::fresh(bitmap)).map_err(AllocError::from)?)
+    Ok(Box::new(alloc, VersionCopy::fresh(bitmap))?)
 }
 
 impl Room {
@@ -89,7 +87,7 @@ impl Room {
 
     /// A copy of this size of which no band has been read, in a bitmap with any cells: the one that
     /// a pin has left, or a new one. Fails only when out of memory.
-    pub fn take(&mut self, alloc: Global) -> Result<Box<VersionCopy>, Refusal>
+    pub fn take(&mut self, alloc: Global) -> Result<Box<VersionCopy>, NoMemory>
         requires width { IsSide self.old.width }
         requires height { IsSide self.old.height }
         ensures room { self.new ≡ self.old }
@@ -98,7 +96,6 @@ impl Room {
             × (copy.value.bitmap.height ≡ self.old.height)) }
         ensures unread { IfOk result (λ copy. (k : ℕ) → k < tiles_down copy.value.bitmap.height
             → bit_at copy.value.unread k ≡ 1) }
-        ensures memory { IfErr result (λ refusal. refusal ≡ Memory) }
     {
         renewed(self.copy.take(), alloc, self.width, self.height)
     }

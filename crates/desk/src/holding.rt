@@ -5,9 +5,8 @@ mod answer;
 mod judge;
 mod judged;
 
-ghost use Rattle.std.specs.Prelude.{◌≡◌, ◌+◌, [], length, IfOk, IfErr};
+ghost use Rattle.std.specs.Prelude.{◌≡◌, ◌+◌, [], length, IfOk};
 ghost use Rattle.bits.specs.Tiles.{tile_count};
-ghost use Rattle.metric.specs.declared.refusal.Refusal.TheVariants.{Memory};
 ghost use Rattle.events.specs.Blocks.{own_list};
 ghost use Rattle.events.specs.Setting.{bad_field};
 ghost use Rattle.grid.specs.Grids.{own_blocks};
@@ -18,7 +17,7 @@ use bits::Bitmap;
 use events::{Ledger, Setting};
 use grid::Grid;
 pub use judged::Judged;
-use metric::Refusal;
+use metric::NoMemory;
 use std::alloc::Global;
 
 /// What a desk holds of a map. It can't be dropped: end it.
@@ -33,11 +32,10 @@ impl Holding {
     /// bitmap, and the log is empty.
     ///
     /// Allocates everything here. Fails only when out of memory.
-    pub fn of(alloc: Global, setting: Setting, map: &Bitmap) -> Result<Holding, Refusal>
+    pub fn of(alloc: Global, setting: Setting, map: &Bitmap) -> Result<Holding, NoMemory>
         requires { bad_field (tile_count map.now) setting ≡ None }
-        ensures opened { IfOk result
+        ensures { IfOk result
             (IsToldByLog record { setting = setting; opening = map.now } []) }
-        ensures memory { IfErr result (λ refusal. refusal ≡ Memory) }
     {
         // Asking for a side brings the proof that `map` is a bitmap.
         let _ = map.width();
@@ -48,9 +46,9 @@ impl Holding {
                 grid,
                 arena,
             }),
-            Err(refusal) => {
+            Err(refused) => {
                 arena.end();
-                Err(refusal)
+                Err(refused)
             }
         }
     }

@@ -59,7 +59,9 @@ pub fn dist_run<R: Source, W: Sink, T: Threads + Sync>(
         Err(ImageStop::Fault(fault)) => {
             write_refusal(writer, Refusal::BadImage(fault)).unwrap_or(REFUSED)
         }
-        Err(ImageStop::Memory) => write_refusal(writer, Refusal::Memory).unwrap_or(REFUSED),
+        Err(ImageStop::Memory(refused)) => {
+            write_refusal(writer, Refusal::from(refused)).unwrap_or(REFUSED)
+        }
         Err(ImageStop::Failed) => REFUSED,
     }
 }
@@ -82,7 +84,7 @@ fn write_answer<W: Sink, T: Threads + Sync>(
     match options.query {
         Some(line) => match QueryReply::of(alloc, map, options.edge, line.as_bytes()) {
             Ok(reply) => write_text(writer, reply.text.as_bytes(), reply.status),
-            Err(refusal) => write_refusal(writer, refusal),
+            Err(refused) => write_refusal(writer, Refusal::from(refused)),
         },
         None => match options.metric {
             MetricKind::Euclid2 => write_map::<Euclid2, W, T>(rt, alloc, options, map, writer),
@@ -115,6 +117,6 @@ fn write_map<M: Metric + Sync, W: Sink, T: Threads + Sync>(
             table.write(rt, writer)?;
             Ok(DONE)
         }
-        Err(refusal) => write_refusal(writer, refusal),
+        Err(refused) => write_refusal(writer, Refusal::from(refused)),
     }
 }

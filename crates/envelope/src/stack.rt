@@ -1,13 +1,12 @@
 //! The buffers in which a row's spans are stacked, and the row phase.
 
-ghost use Rattle.std.specs.Prelude.{◌≡◌, ℕ, ◌+◌, ◌*◌, ◌<◌, ◌≤◌, length, IfOk, IfErr};
+ghost use Rattle.std.specs.Prelude.{◌≡◌, ℕ, ◌+◌, ◌*◌, ◌<◌, ◌≤◌, length, IfOk};
 ghost use Rattle.bits.specs.Cells.{Cells, IsBitmap};
 ghost use Rattle.column.specs.Columns.{IsRowOfTable};
 ghost use Rattle.envelope.specs.Columns.{AreEntries, AreSaid};
 ghost use Rattle.envelope.specs.Rows.{AreRowAnswers, AreRowNears, AreRowValues};
 ghost use Rattle.bits.specs.Edges.{framed};
 ghost use Rattle.metric.specs.Edge.{shift};
-ghost use Rattle.metric.specs.declared.refusal.Refusal.TheVariants.{Memory};
 
 use crate::answer::{CellAnswer, CellValue};
 use crate::beside::{SPARE, fill_beside};
@@ -16,7 +15,7 @@ use crate::cover::Span;
 use crate::piece::{Piece, fill_piece};
 use crate::scan::{are_many_far, fill_by_scans};
 use column::ColumnTable;
-use metric::{Edge, Metric, Near, Refusal};
+use metric::{Edge, Metric, Near, NoMemory};
 use std::alloc::Global;
 use std::marker::Model;
 
@@ -58,9 +57,8 @@ impl Model for Stack {
 
 impl Stack {
     /// A stack for rows of this width. Fails only when out of memory.
-    pub fn new(alloc: Global, width: u16) -> Result<Self, Refusal>
-        ensures stack { IfOk result (λ stack. stack ≡ width) }
-        ensures memory { IfErr result (λ refusal. refusal ≡ Memory) }
+    pub fn new(alloc: Global, width: u16) -> Result<Self, NoMemory>
+        ensures { IfOk result (λ stack. stack ≡ width) }
     {
         let spans = vec![in alloc; UNUSED; usize::from(width)]?;
         let parts = vec![in alloc; 0; usize::from(width) + SPARE]?;

@@ -1,14 +1,13 @@
 //! The effect of a command on a bitmap.
 
-ghost use Rattle.std.specs.Prelude.{◌≡◌, IfOk, IfErr, true};
+ghost use Rattle.std.specs.Prelude.{◌≡◌, IfOk, true};
 ghost use Rattle.bits.specs.Cells.{IsBitmap};
-ghost use Rattle.metric.specs.declared.refusal.Refusal.TheVariants.{Memory};
 ghost use Rattle.events.specs.Drawing.{drawn, draws, is_inside, lies_within, cells_changed};
 ghost use Rattle.events.specs.Ledger.{takes_room};
 
 use crate::command::Command;
 use bits::Bitmap;
-use metric::Refusal;
+use metric::NoMemory;
 use std::alloc::Global;
 
 impl Command {
@@ -57,9 +56,8 @@ impl Command {
     }
 
     /// Copies the command. Fails only when out of memory.
-    pub fn try_copy(&self, alloc: Global) -> Result<Self, Refusal>
-        ensures copy { IfOk result (λ copy. copy ≡ self.now) }
-        ensures memory { IfErr result (λ refusal. refusal ≡ Memory) }
+    pub fn try_copy(&self, alloc: Global) -> Result<Self, NoMemory>
+        ensures { IfOk result (λ copy. copy ≡ self.now) }
     {
         match self {
             Command::Paint { rect, black } => Ok(Command::Paint {

@@ -1,16 +1,15 @@
 //! The words of a world that is opened.
 
 ghost use Rattle.std.specs.Prelude.{◌≡◌, ℕ, ◌+◌, ◌*◌, ◌<◌, ◌≤◌, length, slice_index, None};
-ghost use Rattle.std.specs.Prelude.{IfOk, IfErr};
+ghost use Rattle.std.specs.Prelude.{IfOk};
 ghost use Rattle.bits.specs.Tiles.{tile_count, row_word};
-ghost use Rattle.metric.specs.declared.refusal.Refusal.TheVariants.{Memory};
 ghost use Rattle.events.specs.Runs.{AreOpeningWords};
 ghost use Rattle.events.specs.Setting.{bad_field};
 
 use crate::plan::Plan;
 use crate::setting::Setting;
 use bits::Bitmap;
-use metric::Refusal;
+use metric::NoMemory;
 use std::alloc::Global;
 
 /// Sets each position of the directory that starts at `start` to the block of the same number.
@@ -53,11 +52,10 @@ fn fill_blocks(words: &mut [u64], start: usize, map: &Bitmap)
 /// reader has announced.
 ///
 /// Fails only when out of memory. Requires the setting to be within its limits for the map.
-pub fn opening_words(alloc: Global, setting: Setting, map: &Bitmap) -> Result<Vec<u64>, Refusal>
+pub fn opening_words(alloc: Global, setting: Setting, map: &Bitmap) -> Result<Vec<u64>, NoMemory>
     requires { bad_field (tile_count map.now) setting ≡ None }
-    ensures words { IfOk result
+    ensures { IfOk result
         (λ words. AreOpeningWords record { setting = setting; opening = map.now } words.items) }
-    ensures memory { IfErr result (λ refusal. refusal ≡ Memory) }
 {
     let plan = Plan::of(setting, map);
     let mut list = vec![in alloc; 0u64; plan.words()]?;

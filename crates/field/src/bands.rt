@@ -1,14 +1,13 @@
 //! The nearest obstacles of all cells of a range of rows, computed in bands by threads.
 
-ghost use Rattle.std.specs.Prelude.{◌≡◌, ◌≤◌, ◌-◌, IfErr, IfOk, OnOk};
+ghost use Rattle.std.specs.Prelude.{◌≡◌, ◌≤◌, ◌-◌, IfOk, OnOk};
 ghost use Rattle.std.specs.Thread.{IsSync};
-ghost use Rattle.metric.specs.declared.refusal.Refusal.TheVariants.{Memory};
 ghost use Rattle.field.specs.Bands.{AreBands, HasBandRoom};
 ghost use Rattle.field.specs.Rows.{AreBandNears, AreNears};
 
 use crate::filling::fill;
 use column::Batch;
-use metric::{Gate, Metric, Near, Refusal, Workers};
+use metric::{Gate, Metric, Near, NoMemory, Workers};
 use std::alloc::Global;
 use std::thread::{Threads, join_mut};
 
@@ -40,10 +39,9 @@ pub fn rows_with<M: Metric + Sync, G: Gate + Sync, R: Threads + Sync>(
     batch: &Batch<'_>,
     workers: Workers,
     gate: &G,
-) -> Result<Vec<Option<Near>>, Refusal>
-    ensures rows { IfOk result (λ nears. AreNears M.distance batch.now.bitmap.now batch.now.edge
+) -> Result<Vec<Option<Near>>, NoMemory>
+    ensures { IfOk result (λ nears. AreNears M.distance batch.now.bitmap.now batch.now.edge
         batch.now.y0 batch.now.y1 nears.items) }
-    ensures memory { IfErr result (λ refusal. refusal ≡ Memory) }
 {
     let cells = usize::from(batch.y1 - batch.y0) * batch.width();
     let mut nears = vec![in alloc; None; cells]?;
@@ -65,13 +63,12 @@ fn work_bands<M: Metric + Sync, G: Gate + Sync, R: Threads + Sync>(
     above: u8,
     below: u8,
     nears: &mut [Option<Near>],
-) -> Result<(), Refusal>
+) -> Result<(), NoMemory>
     requires bands { AreBands shared.now.workers.count above below }
     requires room { HasBandRoom shared.now.batch.now shared.now.workers.count above below
         nears.old }
-    ensures rows { OnOk result (AreBandNears M.distance shared.now.batch.now
+    ensures { OnOk result (AreBandNears M.distance shared.now.batch.now
         shared.now.workers.count above below nears.new) }
-    ensures memory { IfErr result (λ refusal. refusal ≡ Memory) }
 {
     if below - above == 1 {
         return work_band::<M, G>(shared, below, nears);
@@ -99,7 +96,7 @@ fn work_beside<M: Metric + Sync, G: Gate + Sync, R: Threads + Sync>(
     halves: Halves,
     upper: &mut [Option<Near>],
     lower: &mut [Option<Near>],
-) -> Result<(), Refusal>
+) -> Result<(), NoMemory>
     requires upper_bands { AreBands shared.now.workers.count halves.above halves.middle }
     requires lower_bands { AreBands shared.now.workers.count halves.middle halves.below }
     requires upper { HasBandRoom shared.now.batch.now shared.now.workers.count halves.above
@@ -112,28 +109,25 @@ fn work_beside<M: Metric + Sync, G: Gate + Sync, R: Threads + Sync>(
         shared.now.workers.count halves.above halves.middle upper.new) }
     ensures lower { OnOk result (AreBandNears M.distance shared.now.batch.now
         shared.now.workers.count halves.middle halves.below lower.new) }
-    ensures memory { IfErr result (λ refusal. refusal ≡ Memory) }
 {
     let Halves {
         above,
         middle,
         below,
     } = halves;
-    let mut first = move || -> Result<(), Refusal>
+    let mut first = move || -> Result<(), NoMemory>
         requires { IsSync R.row × IsSync G.row × IsSync M.row
             × AreBands shared.now.workers.count above middle
             × HasBandRoom shared.now.batch.now shared.now.workers.count above middle upper.now }
-        ensures rows { OnOk result (AreBandNears M.distance shared.entry.now.batch.now
+        ensures { OnOk result (AreBandNears M.distance shared.entry.now.batch.now
             shared.entry.now.workers.count above middle upper.exit.now) }
-        ensures memory { IfErr result (λ refusal. refusal ≡ Memory) }
     { work_bands::<M, G, R>(rt, shared, above, middle, upper) };
-    let mut second = move || -> Result<(), Refusal>
+    let mut second = move || -> Result<(), NoMemory>
         requires { IsSync R.row × IsSync G.row × IsSync M.row
             × AreBands shared.now.workers.count middle below
             × HasBandRoom shared.now.batch.now shared.now.workers.count middle below lower.now }
-        ensures rows { OnOk result (AreBandNears M.distance shared.entry.now.batch.now
+        ensures { OnOk result (AreBandNears M.distance shared.entry.now.batch.now
             shared.entry.now.workers.count middle below lower.exit.now) }
-        ensures memory { IfErr result (λ refusal. refusal ≡ Memory) }
     { work_bands::<M, G, R>(rt, shared, middle, below, lower) };
     let (above_worked, below_worked) = join_mut(rt, &mut first, &mut second);
     above_worked?;
@@ -145,14 +139,13 @@ fn work_band<M: Metric, G: Gate>(
     shared: &Shared<'_, G>,
     band: u8,
     nears: &mut [Option<Near>],
-) -> Result<(), Refusal>
+) -> Result<(), NoMemory>
     requires first { 1 ≤ band }
     requires last { band ≤ shared.now.workers.count }
     requires room { HasBandRoom shared.now.batch.now shared.now.workers.count (band - 1) band
         nears.old }
-    ensures rows { OnOk result (AreBandNears M.distance shared.now.batch.now
+    ensures { OnOk result (AreBandNears M.distance shared.now.batch.now
         shared.now.workers.count (band - 1) band nears.new) }
-    ensures memory { IfErr result (λ refusal. refusal ≡ Memory) }
 {
     shared.gate.enter(band);
     let batch = shared.batch;

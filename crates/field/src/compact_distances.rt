@@ -1,15 +1,14 @@
 //! The distances of all cells of a range of rows, in two bytes per cell where they are short.
 
-ghost use Rattle.std.specs.Prelude.{◌≡◌, ◌↔◌, ℕ, ◌<◌, ◌≤◌, true, IfErr, IfOk};
+ghost use Rattle.std.specs.Prelude.{◌≡◌, ◌↔◌, ℕ, ◌<◌, ◌≤◌, true, IfOk};
 ghost use Rattle.std.specs.Prelude.{length, slice_index};
 ghost use Rattle.bits.specs.Edges.{IsBlocked};
 ghost use Rattle.field.specs.Distances.{IsFarAway, number_at};
-ghost use Rattle.metric.specs.declared.refusal.Refusal.TheVariants.{Memory};
 
 use crate::compact_strip::CompactStrip;
 use crate::strips::Strips;
 use column::Batch;
-use metric::{Gate, Metric, Refusal, Workers};
+use metric::{Gate, Metric, NoMemory, Workers};
 use std::alloc::Global;
 use std::marker::Model;
 use std::thread::Threads;
@@ -48,7 +47,7 @@ impl CompactDistances {
         batch: &Batch<'_>,
         workers: Workers,
         gate: &G,
-    ) -> Result<Self, Refusal>
+    ) -> Result<Self, NoMemory>
         ensures width { IfOk result (λ table. table.width ≡ batch.now.bitmap.now.width) }
         ensures from { IfOk result (λ table. table.y0 ≡ batch.now.y0) }
         ensures to { IfOk result (λ table. table.y1 ≡ batch.now.y1) }
@@ -56,7 +55,6 @@ impl CompactDistances {
             → batch.now.y0 ≤ y → y < batch.now.y1
             → IsFarAway M.distance (IsBlocked batch.now.bitmap.now batch.now.edge) x y
             (number_at table x y)) }
-        ensures memory { IfErr result (λ refusal. refusal ≡ Memory) }
     {
         let strips = Strips::of::<M, G, R>(rt, alloc, batch, workers, gate)?;
         Ok(CompactDistances { strips })

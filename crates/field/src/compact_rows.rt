@@ -1,7 +1,6 @@
 //! The distances of all cells of a range of rows, in order, in two bytes each where they are short.
 
-ghost use Rattle.std.specs.Prelude.{◌≡◌, [], IfErr, OnOk, length};
-ghost use Rattle.metric.specs.declared.refusal.Refusal.TheVariants.{Memory};
+ghost use Rattle.std.specs.Prelude.{◌≡◌, [], OnOk, length};
 ghost use Rattle.field.specs.Compact.{KeepsDistances, HasLines};
 ghost use Rattle.field.specs.Phases.{IsNextLine};
 
@@ -9,14 +8,14 @@ use crate::compact_strip::CompactStrip;
 use crate::phases::Phases;
 use crate::strips::Strip;
 use column::Batch;
-use metric::{Metric, Refusal};
+use metric::{Metric, NoMemory};
 use std::alloc::Global;
 
 /// The distances of all cells.
 impl Strip for CompactStrip {
     ghost holds = { KeepsDistances };
 
-    fn of<M: Metric>(alloc: Global, batch: &Batch<'_>) -> Result<Self, Refusal> {
+    fn of<M: Metric>(alloc: Global, batch: &Batch<'_>) -> Result<Self, NoMemory> {
         let width = batch.width();
         let mut phases = Phases::of(alloc, batch)?;
         let mut line = vec![in alloc; 0; width]?;
@@ -35,15 +34,14 @@ fn push_rows<M: Metric>(
     line: &mut [u32],
     halves: &mut [u16],
     strip: &mut CompactStrip,
-) -> Result<(), Refusal>
+) -> Result<(), NoMemory>
     requires phases { IsNextLine batch.now phases.old batch.now.y0 }
     requires line { length line.old ≡ batch.now.bitmap.now.width }
     requires halves { length halves.old ≡ batch.now.bitmap.now.width }
     requires lines { HasLines batch.now.bitmap.now.width strip.old }
     requires empty { strip.old.starts.items ≡ [] }
-    ensures rows { OnOk result (KeepsDistances M.distance batch.now.bitmap.now batch.now.edge
+    ensures { OnOk result (KeepsDistances M.distance batch.now.bitmap.now batch.now.edge
         batch.now.y0 batch.now.y1 strip.new) }
-    ensures memory { IfErr result (λ refusal. refusal ≡ Memory) }
 {
     'rows: for y in batch.y0..batch.y1 {
         phases.fill_line::<M, u32>(batch, y, line);

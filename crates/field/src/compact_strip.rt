@@ -1,12 +1,11 @@
 //! The distances of some rows, in two bytes each where all of a row's are short.
 
-ghost use Rattle.std.specs.Prelude.{◌≡◌, ℕ, ◌+◌, ◌*◌, ◌<◌, ◌≤◌, ◌++◌, [], IfErr, IfOk, OnOk};
+ghost use Rattle.std.specs.Prelude.{◌≡◌, ℕ, ◌+◌, ◌*◌, ◌<◌, ◌≤◌, ◌++◌, [], IfOk, OnOk};
 ghost use Rattle.std.specs.Prelude.{length, slice_index, vec_len};
-ghost use Rattle.metric.specs.declared.refusal.Refusal.TheVariants.{Memory};
 ghost use Rattle.field.specs.Compact.{HasHighLine, kept_as, numbers_in};
 
 use crate::halves::{HALF, put_high, put_low, put_numbers};
-use metric::Refusal;
+use metric::NoMemory;
 use std::alloc::Global;
 
 /// The distances of the cells of some rows, in row-major order, each in two halves. A row's line of
@@ -26,12 +25,11 @@ impl CompactStrip {
 
     /// No rows yet, with room for the low halves of this many rows of this width. Fails only when
     /// out of memory.
-    pub fn new(alloc: Global, width: usize, rows: u16) -> Result<Self, Refusal>
+    pub fn new(alloc: Global, width: usize, rows: u16) -> Result<Self, NoMemory>
         requires some { 1 ≤ width }
         requires across { width ≤ 4096 }
         ensures lines { IfOk result (HasLines width) }
         ensures empty { IfOk result (λ strip. strip.starts.items ≡ []) }
-        ensures memory { IfErr result (λ refusal. refusal ≡ Memory) }
     {
         let rows = usize::from(rows);
         Ok(CompactStrip {
@@ -44,7 +42,7 @@ impl CompactStrip {
     /// Appends the first of this many rows that are still to come. The memory reserved for the rows
     /// after it isn't touched. `halves` is a buffer for a row's halves. Fails only when out of
     /// memory.
-    pub fn push_row(&mut self, line: &[u32], halves: &mut [u16], rows: u16) -> Result<(), Refusal>
+    pub fn push_row(&mut self, line: &[u32], halves: &mut [u16], rows: u16) -> Result<(), NoMemory>
         requires lines { HasLines (length line.now) self.old }
         requires halves { length halves.old ≡ length line.now }
         requires few { vec_len self.old.starts < 65536 }
@@ -52,7 +50,6 @@ impl CompactStrip {
         ensures count { OnOk result (vec_len self.new.starts ≡ vec_len self.old.starts + 1) }
         ensures numbers { OnOk result (numbers_in (length line.now) self.new
             ≡ numbers_in (length line.now) self.old ++ line.now) }
-        ensures memory { IfErr result (λ refusal. refusal ≡ Memory) }
     {
         let most = put_low(line, halves);
         self.low.extend_from_slice(halves)?;
@@ -87,15 +84,14 @@ fn push_high(
     halves: &mut [u16],
     most: u32,
     rows: u16,
-) -> Result<u32, Refusal>
+) -> Result<u32, NoMemory>
     requires across { length line.now ≤ 4096 }
     requires halves { length halves.old ≡ length line.now }
     requires few { vec_len high.old ≤ 268435456 }
     requires room { length line.now ≤ vec_len high.old }
     requires zeros { (x : ℕ) → x < length line.now → slice_index high.old.items x ≡ 0 }
     requires most { (x : ℕ) → x < length line.now → kept_as (slice_index line.now x) ≤ most }
-    ensures high { IfOk result (HasHighLine line.now high.old.items high.new.items) }
-    ensures memory { IfErr result (λ refusal. refusal ≡ Memory) }
+    ensures { IfOk result (HasHighLine line.now high.old.items high.new.items) }
 {
     if most < HALF {
         return Ok(0);

@@ -2,7 +2,6 @@
 //! memory.
 
 ghost use Rattle.std.specs.Prelude.{◌≡◌, IfErr, OnOk};
-ghost use Rattle.metric.specs.declared.refusal.Refusal.TheVariants.{Memory};
 ghost use Rattle.bits.specs.Cells.{IsBitmap};
 ghost use Rattle.field.specs.Bands.{AreAnswers, AreValues, HasRoom};
 ghost use Rattle.field.specs.Distances.{AreMeasuredRows};
@@ -10,7 +9,7 @@ ghost use Rattle.field.specs.Distances.{AreMeasuredRows};
 use crate::phases::Phases;
 use column::Batch;
 use envelope::{CellAnswer, CellValue};
-use metric::{Metric, Refusal};
+use metric::{Metric, NoMemory};
 use std::alloc::Global;
 
 /// Fills `answers` with those of the cells of a batch, in row-major order.
@@ -20,11 +19,10 @@ pub fn fill<M: Metric, A: CellAnswer>(
     alloc: Global,
     batch: &Batch<'_>,
     answers: &mut [A],
-) -> Result<(), Refusal>
+) -> Result<(), NoMemory>
     requires room { HasRoom batch.now.bitmap.now batch.now.y0 batch.now.y1 answers.old }
     ensures rows { OnOk result (AreAnswers A.told A.nothing M.distance batch.now.bitmap.now
         batch.now.edge batch.now.y0 batch.now.y1 answers.new) }
-    ensures memory { IfErr result (λ refusal. refusal ≡ Memory) }
     ensures kept { IfErr result (λ _. answers.new ≡ answers.old) }
 {
     fill_values::<M, A>(alloc, batch, answers)
@@ -38,11 +36,10 @@ pub fn measure<M: Metric>(
     alloc: Global,
     batch: &Batch<'_>,
     distances: &mut [u32],
-) -> Result<(), Refusal>
+) -> Result<(), NoMemory>
     requires room { HasRoom batch.now.bitmap.now batch.now.y0 batch.now.y1 distances.old }
     ensures rows { OnOk result (AreMeasuredRows M.distance batch.now.bitmap.now batch.now.edge
         batch.now.y0 batch.now.y1 distances.new) }
-    ensures memory { IfErr result (λ refusal. refusal ≡ Memory) }
     ensures kept { IfErr result (λ _. distances.new ≡ distances.old) }
 {
     fill_values::<M, u32>(alloc, batch, distances)
@@ -53,11 +50,10 @@ fn fill_values<M: Metric, V: CellValue>(
     alloc: Global,
     batch: &Batch<'_>,
     values: &mut [V],
-) -> Result<(), Refusal>
+) -> Result<(), NoMemory>
     requires room { HasRoom batch.now.bitmap.now batch.now.y0 batch.now.y1 values.old }
     ensures rows { OnOk result (AreValues V.says V.unset M.distance batch.now.bitmap.now
         batch.now.edge batch.now.y0 batch.now.y1 values.new) }
-    ensures memory { IfErr result (λ refusal. refusal ≡ Memory) }
     ensures kept { IfErr result (λ _. values.new ≡ values.old) }
     ensures bitmap { IsBitmap batch.now.bitmap.now }
 {

@@ -1,16 +1,15 @@
 //! The nearest obstacles of all cells of a range of rows in a third of the memory: only positions,
 //! from which the distances follow.
 
-ghost use Rattle.std.specs.Prelude.{◌≡◌, ◌↔◌, ◌+◌, ◌-◌, ◌*◌, ◌<◌, ◌≤◌, true, IfErr, IfOk, None};
+ghost use Rattle.std.specs.Prelude.{◌≡◌, ◌↔◌, ◌+◌, ◌-◌, ◌*◌, ◌<◌, ◌≤◌, true, IfOk, None};
 ghost use Rattle.std.specs.Prelude.{length, slice_index_or, slice_range};
 ghost use Rattle.field.specs.Obstacles.{AreMeasured, nears_told, seen_from};
 ghost use Rattle.field.specs.Rows.{AreNears};
-ghost use Rattle.metric.specs.declared.refusal.Refusal.TheVariants.{Memory};
 
 use crate::obstacle_cell::ObstacleCell;
 use crate::strips::Strips;
 use column::Batch;
-use metric::{Gate, Metric, Near, Refusal, Workers};
+use metric::{Gate, Metric, Near, NoMemory, Workers};
 use std::alloc::Global;
 use std::marker::{Model, PhantomData};
 use std::thread::Threads;
@@ -48,13 +47,12 @@ impl<M: Metric + Sync> ObstacleTable<M> {
         batch: &Batch<'_>,
         workers: Workers,
         gate: &G,
-    ) -> Result<Self, Refusal>
+    ) -> Result<Self, NoMemory>
         ensures width { IfOk result (λ table. table.width ≡ batch.now.bitmap.now.width) }
         ensures from { IfOk result (λ table. table.y0 ≡ batch.now.y0) }
         ensures to { IfOk result (λ table. table.y1 ≡ batch.now.y1) }
         ensures rows { IfOk result (λ table. AreNears M.distance batch.now.bitmap.now
             batch.now.edge batch.now.y0 batch.now.y1 (nears_told M.distance table)) }
-        ensures memory { IfErr result (λ refusal. refusal ≡ Memory) }
     {
         let strips = Strips::of::<M, G, R>(rt, alloc, batch, workers, gate)?;
         Ok(ObstacleTable {

@@ -1,12 +1,11 @@
 //! The column phase and the row phase over the rows of a batch, in order.
 
-ghost use Rattle.std.specs.Prelude.{◌≡◌, ◌<◌, ◌+◌, IfErr, IfOk, length};
-ghost use Rattle.metric.specs.declared.refusal.Refusal.TheVariants.{Memory};
+ghost use Rattle.std.specs.Prelude.{◌≡◌, ◌<◌, ◌+◌, IfOk, length};
 ghost use Rattle.envelope.specs.Rows.{AreRowValues};
 
 use column::{Batch, Columns};
 use envelope::{CellValue, Stack, values_from};
-use metric::{Metric, Refusal};
+use metric::{Metric, NoMemory};
 use std::alloc::Global;
 
 /// What both phases need between two rows of a batch.
@@ -30,9 +29,8 @@ impl Phases {
     ghost use Rattle.field.specs.Phases.{IsNextLine};
 
     /// Both phases before the batch's first row. Fails only when out of memory.
-    pub fn of(alloc: Global, batch: &Batch<'_>) -> Result<Self, Refusal>
-        ensures ready { IfOk result (λ phases. IsNextLine batch.now phases batch.now.y0) }
-        ensures memory { IfErr result (λ refusal. refusal ≡ Memory) }
+    pub fn of(alloc: Global, batch: &Batch<'_>) -> Result<Self, NoMemory>
+        ensures { IfOk result (λ phases. IsNextLine batch.now phases batch.now.y0) }
     {
         let columns = Columns::of(alloc, batch)?;
         let stack = Stack::new(alloc, batch.columns())?;

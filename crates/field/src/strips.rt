@@ -1,10 +1,9 @@
 //! What is kept of a range of rows in strips of equal height, each computed by a thread of its own
 //! into memory of its own.
 
-ghost use Rattle.std.specs.Prelude.{◌≡◌, ℕ, ◌+◌, ◌-◌, ◌/◌, ◌%◌, ◌<◌, ◌≤◌, All, IfErr, IfOk, Ok};
+ghost use Rattle.std.specs.Prelude.{◌≡◌, ℕ, ◌+◌, ◌-◌, ◌/◌, ◌%◌, ◌<◌, ◌≤◌, IfOk, Ok};
 ghost use Rattle.std.specs.Prelude.{length, map, slice_index_or};
 ghost use Rattle.metric.specs.declared.edge.Edge.{Edge};
-ghost use Rattle.metric.specs.declared.refusal.Refusal.TheVariants.{Memory};
 ghost use Rattle.bits.specs.Cells.{Cells};
 ghost use Rattle.field.specs.Bands.{AreValues};
 ghost use Rattle.field.specs.Strips.{AreStrips, HoldRows, IsStripOf, line_in, strip_row};
@@ -12,7 +11,7 @@ ghost use Rattle.field.specs.Strips.{AreStrips, HoldRows, IsStripOf, line_in, st
 use crate::table::values;
 use column::Batch;
 use envelope::CellValue;
-use metric::{Gate, Metric, Refusal, Workers};
+use metric::{Gate, Metric, NoMemory, Workers};
 use std::alloc::Global;
 use std::thread::{Threads, map_indices};
 
@@ -22,10 +21,9 @@ pub trait Strip: Drop + Send + Sized {
     ghost holds: { (ℕ → ℕ → ℕ) → Cells → Edge → ℕ → ℕ → Self → Type 0 };
 
     /// What is kept of the rows of a batch. Fails only when out of memory.
-    fn of<M: Metric>(alloc: Global, batch: &Batch<'_>) -> Result<Self, Refusal>
-        ensures rows { IfOk result (holds M.distance batch.now.bitmap.now batch.now.edge
-            batch.now.y0 batch.now.y1) }
-        ensures memory { IfErr result (λ refusal. refusal ≡ Memory) };
+    fn of<M: Metric>(alloc: Global, batch: &Batch<'_>) -> Result<Self, NoMemory>
+        ensures { IfOk result (holds M.distance batch.now.bitmap.now batch.now.edge
+            batch.now.y0 batch.now.y1) };
 }
 
 /// The values of all cells.
@@ -33,7 +31,7 @@ impl<V: CellValue + Send> Strip for Vec<V> {
     ghost holds = { λ distance cells edge from to strip.
         AreValues V.says V.unset distance cells edge from to strip.items };
 
-    fn of<M: Metric>(alloc: Global, batch: &Batch<'_>) -> Result<Self, Refusal> {
+    fn of<M: Metric>(alloc: Global, batch: &Batch<'_>) -> Result<Self, NoMemory> {
         values::<M, V>(alloc, batch)
     }
 }
@@ -58,22 +56,20 @@ impl<S: Strip> Strips<S> {
         batch: &Batch<'_>,
         workers: Workers,
         gate: &G,
-    ) -> Result<Self, Refusal>
+    ) -> Result<Self, NoMemory>
         ensures width { IfOk result (λ strips. strips.width ≡ batch.now.bitmap.now.width) }
         ensures from { IfOk result (λ strips. strips.y0 ≡ batch.now.y0) }
         ensures to { IfOk result (λ strips. strips.y1 ≡ batch.now.y1) }
         ensures rows { IfOk result (λ strips. HoldRows S.holds M.distance batch.now strips.height
             strips.all.items) }
-        ensures memory { IfErr result (λ refusal. refusal ≡ Memory) }
     {
         let (y0, y1, count) = (batch.y0, batch.y1, workers.count);
         let height = (y1 - y0).div_ceil(u16::from(count)).max(1);
         let parts = Parts { batch, height };
-        let work = |strip: usize| -> Result<S, Refusal>
+        let work = |strip: usize| -> Result<S, NoMemory>
             requires { strip < 16 }
-            ensures rows { IfOk result (IsStripOf S.holds M.distance parts.entry.batch.now
+            ensures { IfOk result (IsStripOf S.holds M.distance parts.entry.batch.now
                 parts.entry.height strip) }
-            ensures memory { IfErr result (λ refusal. refusal ≡ Memory) }
         {
             gate.enter(strip as u8 + 1);
             S::of::<M>(alloc, &parts.rows_of(strip as u8))
@@ -156,10 +152,8 @@ impl<'a> Parts<'a> {
 }
 
 /// The results of all strips. Fails if one of them failed, or when out of memory.
-fn gather<T: Drop>(alloc: Global, found: Vec<Result<T, Refusal>>) -> Result<Vec<T>, Refusal>
-    requires memory { All (λ cells. IfErr cells (λ refusal. refusal ≡ Memory)) found.items }
-    ensures found { IfOk result (λ strips. found.items ≡ map (λ strip. Ok strip) strips.items) }
-    ensures memory { IfErr result (λ refusal. refusal ≡ Memory) }
+fn gather<T: Drop>(alloc: Global, found: Vec<Result<T, NoMemory>>) -> Result<Vec<T>, NoMemory>
+    ensures { IfOk result (λ strips. found.items ≡ map (λ strip. Ok strip) strips.items) }
 {
     let mut strips = Vec::with_capacity(alloc, found.len())?;
     'strips: for cells in found {

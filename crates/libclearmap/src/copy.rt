@@ -1,6 +1,6 @@
 //! Copies of a map that is read word by word: as a bitmap, and as words.
 
-ghost use Rattle.std.specs.Prelude.{◌≡◌, ℕ, ◌<◌, ◌≤◌, ◌+◌, ◌*◌, IfOk, IfErr, length};
+ghost use Rattle.std.specs.Prelude.{◌≡◌, ℕ, ◌<◌, ◌≤◌, ◌+◌, ◌*◌, IfOk, length};
 ghost use Rattle.std.specs.Prelude.{◌/◌, false, slice_index};
 ghost use Rattle.std.specs.Int.{bit_at};
 ghost use Rattle.bits.specs.Cells.{IsObstacle};
@@ -8,18 +8,16 @@ ghost use Rattle.bits.specs.Stored.{cells_stored, is_stored};
 ghost use Rattle.bits.specs.Words.{words_across};
 ghost use Rattle.bits.specs.Writes.{with_row};
 ghost use Rattle.clearance.specs.Rows.{IsBlankRow, words_of_row};
-ghost use Rattle.metric.specs.declared.refusal.Refusal.TheVariants.{Memory};
 
 use crate::marks::without;
 use bits::Bitmap;
 use clearance::Rows;
-use metric::{BAND_ROWS, Refusal};
+use metric::{BAND_ROWS, NoMemory};
 use std::alloc::Global;
 
 /// Copies the map into a bitmap. Fails only when out of memory.
-pub fn bitmap_of<R: Rows>(alloc: Global, rows: &mut R) -> Result<Bitmap, Refusal>
+pub fn bitmap_of<R: Rows>(alloc: Global, rows: &mut R) -> Result<Bitmap, NoMemory>
     ensures copy { IfOk result (λ bitmap. bitmap ≡ R.cells rows.old) }
-    ensures memory { IfErr result (λ refusal. refusal ≡ Memory) }
     ensures rows { rows.new ≡ rows.old }
 {
     let (width, height) = (rows.width(), rows.height());

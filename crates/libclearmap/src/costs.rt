@@ -3,7 +3,6 @@
 ghost use Rattle.std.specs.Prelude.{◌≡◌, ◌≢◌, ℕ, ◌+◌, ◌-◌, ◌*◌, ◌<◌, ◌≤◌, length, min, slice_index};
 ghost use Rattle.std.specs.Prelude.{slice_index_or, take, IfErr, OnOk};
 ghost use Rattle.metric.specs.Kind.{distance_of};
-ghost use Rattle.metric.specs.declared.refusal.Refusal.TheVariants.{Memory};
 ghost use Rattle.bits.specs.Cells.{IsBitmap};
 ghost use Rattle.field.specs.Bands.{HasRoom};
 ghost use Rattle.libclearmap.specs.Costs.{AreCosts, ArePriced, IsNextRowOf, cost_of};
@@ -15,12 +14,12 @@ ghost use Rattle.libclearmap.specs.Statuses.{IsStatus, costs_status, first_wrong
 use crate::near::NO_OBSTACLE;
 use crate::row_distances::{Away, RowDistances};
 use crate::setting::{Setting, edge_of, kind_of};
-use crate::status::{COSTS, DONE, MEMORY, check_setting};
+use crate::status::{COSTS, DONE, check_setting, no_memory};
 use crate::tables::map_of;
 use clearance::Rows;
 use envelope::CellValue;
 use field::Batch;
-use metric::{Chess, City, Euclid2, Metric, MetricKind, Refusal};
+use metric::{Chess, City, Euclid2, Metric, MetricKind, NoMemory};
 use std::alloc::Global;
 use std::ops::Range;
 
@@ -68,7 +67,7 @@ pub fn costs_in<R: Rows>(
         &mut costs[..count],
     ) {
         Ok(()) => DONE,
-        Err(_) => MEMORY,
+        Err(refused) => no_memory(refused),
     }
 }
 
@@ -81,12 +80,11 @@ fn fill_by(
     batch: &Batch<'_>,
     table: &[u8],
     costs: &mut [u8],
-) -> Result<(), Refusal>
+) -> Result<(), NoMemory>
     requires some { 1 ≤ length table.now }
     requires room { HasRoom batch.now.bitmap.now batch.now.y0 batch.now.y1 costs.old }
     ensures rows { OnOk result (AreCosts table.now (distance_of kind) batch.now.bitmap.now
         batch.now.edge batch.now.y0 batch.now.y1 costs.new) }
-    ensures memory { IfErr result (λ refusal. refusal ≡ Memory) }
     ensures kept { IfErr result (λ _. costs.new ≡ costs.old) }
 {
     match kind {
@@ -104,12 +102,11 @@ fn fill<M: Metric>(
     batch: &Batch<'_>,
     table: &[u8],
     costs: &mut [u8],
-) -> Result<(), Refusal>
+) -> Result<(), NoMemory>
     requires some { 1 ≤ length table.now }
     requires room { HasRoom batch.now.bitmap.now batch.now.y0 batch.now.y1 costs.old }
     ensures rows { OnOk result (ArePriced table.now M.distance batch.now.bitmap.now
         batch.now.edge batch.now.y0 batch.now.y1 costs.new) }
-    ensures memory { IfErr result (λ refusal. refusal ≡ Memory) }
     ensures kept { IfErr result (λ _. costs.new ≡ costs.old) }
     ensures bitmap { IsBitmap batch.now.bitmap.now }
 {

@@ -1,13 +1,12 @@
 //! The distances of the cells of a batch, one row after another.
 
-ghost use Rattle.std.specs.Prelude.{◌≡◌, ◌+◌, ◌<◌, length, IfErr, IfOk};
-ghost use Rattle.metric.specs.declared.refusal.Refusal.TheVariants.{Memory};
+ghost use Rattle.std.specs.Prelude.{◌≡◌, ◌+◌, ◌<◌, length, IfOk};
 ghost use Rattle.envelope.specs.Rows.{AreRowValues};
 
 use crate::near::NO_OBSTACLE;
 use column::{Batch, Columns};
 use envelope::{CellValue, Stack, values_from};
-use metric::{Metric, Near, Refusal};
+use metric::{Metric, Near, NoMemory};
 use std::alloc::Global;
 
 /// The distance of a cell's nearest obstacle; `NO_OBSTACLE` where there is none.
@@ -58,9 +57,8 @@ impl RowDistances {
     ghost use Rattle.libclearmap.specs.Costs.{IsNextRowOf, no_distance, says_away};
 
     /// Before the batch's first row. Fails only when out of memory.
-    pub fn of(alloc: Global, batch: &Batch<'_>) -> Result<Self, Refusal>
-        ensures ready { IfOk result (λ rows. IsNextRowOf batch.now rows batch.now.y0) }
-        ensures memory { IfErr result (λ refusal. refusal ≡ Memory) }
+    pub fn of(alloc: Global, batch: &Batch<'_>) -> Result<Self, NoMemory>
+        ensures { IfOk result (λ rows. IsNextRowOf batch.now rows batch.now.y0) }
     {
         let columns = Columns::of(alloc, batch)?;
         let stack = Stack::new(alloc, batch.columns())?;

@@ -7,7 +7,7 @@ ghost use Rattle.libclearmap.specs.Statuses.{IsChecked, first_wrong, range_statu
 ghost use Rattle.libclearmap.specs.Statuses.{room_status, setting_status, shape_status};
 
 use crate::layout::ClearmapBytes;
-use metric::{MOST_SIDE, Refusal};
+use metric::{MOST_SIDE, NoMemory, Refusal};
 
 /// The call is done.
 pub const DONE: u32 = 0;
@@ -122,6 +122,14 @@ pub fn first_wrong(first: u32, next: u32) -> u32
     ensures { result ≡ first_wrong first next }
 {
     if first != DONE { first } else { next }
+}
+
+/// The status of a call that was refused memory.
+pub fn no_memory(refused: NoMemory) -> u32
+    ensures { result ≡ 10 }
+{
+    let _ = refused;
+    MEMORY
 }
 
 /// The status of a path that is refused for this reason.

@@ -3,13 +3,12 @@
 ghost use Rattle.std.specs.Prelude.{◌≡◌, ℕ, IfErr, List, OnOk};
 ghost use Rattle.metric.specs.Kind.{distance_of};
 ghost use Rattle.metric.specs.declared.edge.Edge.{Edge};
-ghost use Rattle.metric.specs.declared.refusal.Refusal.TheVariants.{Memory};
 ghost use Rattle.bits.specs.Cells.{Cells};
 ghost use Rattle.field.specs.Bands.{HasRoom};
 
 use crate::near::ClearmapNear;
 use field::{Batch, fill, measure};
-use metric::{Chess, City, Euclid2, MetricKind, Refusal};
+use metric::{Chess, City, Euclid2, MetricKind, NoMemory};
 use std::alloc::Global;
 
 /// An answer for a cell.
@@ -26,11 +25,10 @@ pub trait TableCell: Copy {
         kind: MetricKind,
         batch: &Batch<'_>,
         cells: &mut [Self],
-    ) -> Result<(), Refusal>
+    ) -> Result<(), NoMemory>
         requires room { HasRoom batch.now.bitmap.now batch.now.y0 batch.now.y1 cells.old }
         ensures rows { OnOk result (are_answers (distance_of kind) batch.now.bitmap.now
             batch.now.edge batch.now.y0 batch.now.y1 cells.new) }
-        ensures memory { IfErr result (λ refusal. refusal ≡ Memory) }
         ensures kept { IfErr result (λ _. cells.new ≡ cells.old) };
 }
 
@@ -45,7 +43,7 @@ impl TableCell for ClearmapNear {
         kind: MetricKind,
         batch: &Batch<'_>,
         cells: &mut [Self],
-    ) -> Result<(), Refusal> {
+    ) -> Result<(), NoMemory> {
         match kind {
             MetricKind::Euclid2 => fill::<Euclid2, ClearmapNear>(alloc, batch, cells),
             MetricKind::City => fill::<City, ClearmapNear>(alloc, batch, cells),
@@ -64,7 +62,7 @@ impl TableCell for u32 {
         kind: MetricKind,
         batch: &Batch<'_>,
         cells: &mut [Self],
-    ) -> Result<(), Refusal> {
+    ) -> Result<(), NoMemory> {
         match kind {
             MetricKind::Euclid2 => measure::<Euclid2>(alloc, batch, cells),
             MetricKind::City => measure::<City>(alloc, batch, cells),

@@ -7,7 +7,7 @@ ghost use Rattle.libclearmap.specs.Statuses.{IsStatus, first_wrong, table_status
 
 use crate::copy::bitmap_of;
 use crate::setting::{Setting, edge_of, kind_of};
-use crate::status::{DONE, MEMORY, OUTSIDE, check_setting, first_wrong, room_status};
+use crate::status::{DONE, OUTSIDE, check_setting, first_wrong, no_memory, room_status};
 use crate::table_cell::TableCell;
 use bits::Bitmap;
 use clearance::Rows;
@@ -45,7 +45,7 @@ pub fn table_in<T: TableCell, R: Rows>(
     };
     match T::fill(alloc, kind_of(setting.metric), &batch, &mut cells[..count]) {
         Ok(()) => DONE,
-        Err(_) => MEMORY,
+        Err(refused) => no_memory(refused),
     }
 }
 
@@ -77,5 +77,5 @@ pub fn map_of<R: Rows>(
     if status != DONE {
         return Err(status);
     }
-    bitmap_of::<R>(alloc, rows).or(Err(MEMORY))
+    bitmap_of::<R>(alloc, rows).map_err(no_memory)
 }

@@ -7,14 +7,14 @@ ghost use Rattle.line_io.specs.Wire.{CanGoOn};
 
 use crate::end::End;
 use crate::wire::take_block;
-use metric::Stream;
-use std::alloc::{AllocError, Global};
+use metric::{NoMemory, Stream};
+use std::alloc::Global;
 
 /// The most bytes taken at once.
 const BLOCK: usize = 4096;
 
-/// The bytes that a line counts, or the allocation that was refused to keep them.
-pub type Counted = Result<Vec<u8>, AllocError>;
+/// The bytes that a line counts, or the growth that was refused to keep them.
+pub type Counted = Result<Vec<u8>, NoMemory>;
 
 /// Reads `count` bytes, and keeps them if there is memory for them. If the stream ends before the
 /// last of them, returns how.
@@ -27,7 +27,7 @@ pub fn read_counted<S: Stream>(alloc: Global, stream: &mut S, count: u32) -> Res
 {
     match Vec::with_capacity(alloc, count as usize) {
         Ok(room) => keep(stream, room, count),
-        Err(refused) => skip(stream, count, refused),
+        Err(refused) => skip(stream, count, refused.into()),
     }
 }
 
@@ -51,8 +51,8 @@ fn keep<S: Stream>(stream: &mut S, room: Vec<u8>, count: u32) -> Result<Counted,
     Ok(Ok(bytes))
 }
 
-/// Reads `count` bytes and drops them, since an allocation was refused.
-fn skip<S: Stream>(stream: &mut S, count: u32, refused: AllocError) -> Result<Counted, End>
+/// Reads `count` bytes and drops them, since a growth was refused.
+fn skip<S: Stream>(stream: &mut S, count: u32, refused: NoMemory) -> Result<Counted, End>
     requires { CanGoOn (S.wire stream.old) }
     ensures counted { IfOk result
         (λ kept. HasCounted count kept (S.wire stream.old) (S.wire stream.new)) }

@@ -10,7 +10,7 @@ use crate::saying::say;
 use crate::wire::put;
 use bits::Bitmap;
 use lines::{Answer, Text};
-use metric::{Stream, WriteFault};
+use metric::{Refusal, Stream, WriteFault};
 use pbm::{first_piece, next_piece, plain_length};
 use std::alloc::Global;
 
@@ -27,7 +27,7 @@ pub fn say_dump<S: Stream>(
 {
     let mut piece = match first_piece(alloc, bitmap) {
         Ok(piece) => piece,
-        Err(refusal) => return say(stream, text, &Answer::Refused(refusal)),
+        Err(refused) => return say(stream, text, &Answer::Refused(Refusal::from(refused))),
     };
     let answer = Answer::Dumped(plain_length(bitmap, piece.as_slice()) as u64);
     say(stream, text, &answer)?;

@@ -3,7 +3,7 @@
 ghost use Rattle.std.specs.Prelude.{◌≡◌};
 ghost use Rattle.line_io.specs.declared.end.End.TheVariants.{Memory};
 
-use std::alloc::AllocError;
+use metric::NoMemory;
 
 /// Why serving a stream ended.
 #[derive(Clone, Copy, Debug, PartialEq, Eq)]
@@ -24,11 +24,11 @@ pub enum End {
     Memory,
 }
 
-/// An allocation that was refused.
-impl From<AllocError> for End {
+/// A growth that was refused.
+impl From<NoMemory> for End {
     ghost from_gives = { λ _ end. end ≡ Memory };
 
-    fn from(_refused: AllocError) -> End {
+    fn from(_refused: NoMemory) -> End {
         End::Memory
     }
 }

@@ -8,8 +8,8 @@ ghost use Rattle.line_io.specs.Wire.{CanGoOn, HasRead};
 
 use crate::end::End;
 use crate::wire::take_until;
-use metric::Stream;
-use std::alloc::{AllocError, Global};
+use metric::{NoMemory, Stream};
+use std::alloc::Global;
 use std::marker::Model;
 
 /// The most bytes searched for the LF of a line. A line has at most one fewer before its LF.
@@ -36,7 +36,7 @@ impl Model for LineBuffer {
 
 impl LineBuffer {
     /// An empty line, with its full capacity. Fails only when out of memory.
-    pub fn new(alloc: Global) -> Result<Self, AllocError>
+    pub fn new(alloc: Global) -> Result<Self, NoMemory>
         ensures { IfOk result (λ line. line ≡ []) }
     {
         let bytes = Vec::with_capacity(alloc, MOST_BYTES)?;

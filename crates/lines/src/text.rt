@@ -4,8 +4,8 @@ ghost use Rattle.std.specs.Prelude.{◌≡◌, ◌<◌, ◌≤◌, ◌+◌, ◌+
 ghost use Rattle.std.specs.Fmt.{decimal, digit_glyph, signed_decimal};
 ghost use Rattle.lines.specs.Hex.{hex_digits};
 
-use metric::push_decimal;
-use std::alloc::{AllocError, Global};
+use metric::{NoMemory, push_decimal};
+use std::alloc::Global;
 use std::marker::Model;
 
 /// A text of at most 128 bytes, whose capacity is allocated once.
@@ -26,7 +26,7 @@ impl Model for Text {
 
 impl Text {
     /// An empty text, with its full capacity.
-    pub fn new(alloc: Global) -> Result<Self, AllocError>
+    pub fn new(alloc: Global) -> Result<Self, NoMemory>
         ensures { IfOk result (λ text. text ≡ []) }
     {
         let bytes = Vec::with_capacity(alloc, 128)?;

@@ -3,9 +3,8 @@
 ghost use Rattle.std.specs.Prelude.{◌≡◌, Some};
 ghost use Rattle.metric.specs.Fault.{fault_name};
 ghost use Rattle.metric.specs.declared.fault.PbmFault.TheVariants.{Memory};
-ghost use Rattle.metric.specs.declared.refusal.Refusal.{Refusal};
 
-use crate::refusal::Refusal;
+use crate::no_memory::NoMemory;
 use std::fmt;
 
 /// Why an image was refused: the first fault from its front.
@@ -33,16 +32,16 @@ pub enum PbmFault {
     Memory,
 }
 
-impl PbmFault {
-    /// The fault of an image for whose bitmap memory was refused.
-    pub fn no_bitmap(refusal: Refusal) -> PbmFault
-        requires { refusal ≡ Refusal.Memory }
-        ensures { result ≡ Memory }
-    {
-        let _ = refusal;
+/// There was no memory for the bitmap.
+impl From<NoMemory> for PbmFault {
+    ghost from_gives = { λ _ fault. fault ≡ Memory };
+
+    fn from(_refused: NoMemory) -> PbmFault {
         PbmFault::Memory
     }
+}
 
+impl PbmFault {
     /// The fault's name, as a refusal spells it.
     pub fn name(self) -> &'static str
         ensures { result.now ≡ fault_name self }

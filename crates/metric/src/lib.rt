@@ -13,6 +13,7 @@ mod laws;
 mod limits;
 mod measure;
 mod near;
+mod no_memory;
 mod rect;
 mod refusal;
 mod spot;
@@ -31,6 +32,7 @@ pub use limits::{
 };
 pub use measure::{Chess, City, Euclid2, Metric};
 pub use near::Near;
+pub use no_memory::{NoMemory, buffered_reader, buffered_writer};
 pub use rect::Rect;
 pub use refusal::{Field, Refusal};
 pub use spot::Spot;

@@ -4,12 +4,10 @@ ghost use Rattle.std.specs.Prelude.{◌≡◌, Some};
 ghost use Rattle.metric.specs.Refusal.{refusal_text, refusal_title};
 ghost use Rattle.metric.specs.Fault.{field_name};
 ghost use Rattle.metric.specs.declared.refusal.Refusal.TheVariants.{Memory};
-ghost use Rattle.std.specs.IoError.{error_kind};
 
 use crate::fault::PbmFault;
-use std::alloc::{AllocError, AllocFailed};
+use crate::no_memory::NoMemory;
 use std::fmt;
-use std::io::{self, ErrorKind};
 
 /// A setting of a store, as a refusal names it.
 #[derive(Clone, Copy, Debug, PartialEq, Eq)]
@@ -58,20 +56,11 @@ pub enum Refusal {
     PlacesUsed,
 }
 
-/// An allocation that was refused. Nothing else makes `Memory`: callers pass it on with `?`.
-impl From<AllocError> for Refusal {
+/// A growth that was refused. Nothing else makes `Memory`: callers pass it on with `?`.
+impl From<NoMemory> for Refusal {
     ghost from_gives = { λ _ refusal. refusal ≡ Memory };
 
-    fn from(_refused: AllocError) -> Refusal {
-        Refusal::Memory
-    }
-}
-
-/// An allocation that was refused, whose value is dropped.
-impl<T: Drop> From<AllocFailed<T>> for Refusal {
-    ghost from_gives = { λ _ refusal. refusal ≡ Memory };
-
-    fn from(_refused: AllocFailed<T>) -> Refusal {
+    fn from(_refused: NoMemory) -> Refusal {
         Refusal::Memory
     }
 }
@@ -91,15 +80,6 @@ impl Field {
 }
 
 impl Refusal {
-    /// The refusal for a buffer that std couldn't allocate.
-    pub fn of_buffer(fault: &io::Error) -> Refusal
-        requires { error_kind fault.now ≡ ErrorKind.OutOfMemory }
-        ensures { result ≡ Memory }
-    {
-        let _ = fault;
-        Refusal::Memory
-    }
-
     /// `ERR`, the refusal's number and its name.
     ///
     /// An image for which there was no memory is reported as out of memory.

@@ -94,5 +94,5 @@ Meets-follows {rest} {left} {before} {after} {P} {R} join one =
 pub IsFaultOf-weaker : (stop : ImageStop) {P Q : PbmFault → Type 0}
     → ((fault : PbmFault) → P fault → Q fault) → IsFaultOf stop P → IsFaultOf stop Q
 IsFaultOf-weaker Failed weaker holds = tt
-IsFaultOf-weaker Memory weaker holds = tt
+IsFaultOf-weaker (Memory refused) weaker holds = tt
 IsFaultOf-weaker (Fault fault) weaker holds = weaker fault holds

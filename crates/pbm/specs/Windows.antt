@@ -54,7 +54,7 @@ pub record Stands (taken : ℕ) (bytes : List ℕ) (P : List ℕ → List ℕ �
 -- this holds of the fault; nothing is said if a read failed, or without memory for the bytes read
 abbrev pub IsFaultOf : ImageStop → (PbmFault → Type 0) → Type 0
 IsFaultOf Failed P = Unit {0}
-IsFaultOf Memory P = Unit {0}
+IsFaultOf (Memory refused) P = Unit {0}
 IsFaultOf (Fault fault) P = P fault
 
 -- the fault is met where all bytes that may still come are read
@@ -67,14 +67,14 @@ MeetsFault reads rest window stop =
 abbrev pub CountsReads : {T : Type 0} → ℕ → Result T ImageStop → ℕ → Type 0
 CountsReads before (Ok value) after = after ≡ before
 CountsReads before (Err Failed) after = after ≡ before + 1
-CountsReads before (Err Memory) after = after ≡ before
+CountsReads before (Err (Memory refused)) after = after ≡ before
 CountsReads before (Err (Fault fault)) after = after ≡ before
 
 -- nothing of the source is left if an image or a fault was found
 abbrev pub IsPassed : {T : Type 0} → Result T ImageStop → Option (List ℕ) → Type 0
 IsPassed (Ok value) left = AreAll left []
 IsPassed (Err Failed) left = Unit {0}
-IsPassed (Err Memory) left = Unit {0}
+IsPassed (Err (Memory refused)) left = Unit {0}
 IsPassed (Err (Fault fault)) left = AreAll left []
 
 -- this is the bytes' first fault; or the header is valid, and there was no memory for the bitmap

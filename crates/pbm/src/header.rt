@@ -1,7 +1,6 @@
 //! The header of an image: everything before its raster.
 
-ghost use Rattle.std.specs.Prelude.{◌≡◌, false, Ok, Err, IfOk, IfErr, MatchResult};
-ghost use Rattle.metric.specs.declared.fault.PbmFault.TheVariants.{Memory};
+ghost use Rattle.std.specs.Prelude.{◌≡◌, false, Ok, Err, IfOk, MatchResult};
 ghost use Rattle.bits.specs.Cells.{IsSide, cells_where};
 ghost use Rattle.pbm.specs.Faults.{before_raster, header, magic};
 ghost use Rattle.pbm.specs.Writing.{form_digit};
@@ -9,7 +8,7 @@ ghost use Rattle.pbm.specs.Writing.{form_digit};
 use crate::gap::{after_gap, after_space};
 use crate::number::read_side;
 use bits::Bitmap;
-use metric::PbmFault;
+use metric::{NoMemory, PbmFault};
 use std::alloc::Global;
 
 /// The form of an image.
@@ -43,14 +42,13 @@ pub struct Header {
 
 impl Header {
     /// A blank bitmap of these sides. Fails only when out of memory.
-    pub fn blank(self, alloc: Global) -> Result<Bitmap, PbmFault>
+    pub fn blank(self, alloc: Global) -> Result<Bitmap, NoMemory>
         requires width { IsSide self.width }
         requires height { IsSide self.height }
-        ensures blank { IfOk result
+        ensures { IfOk result
             (λ bitmap. bitmap ≡ cells_where self.width self.height (λ x y. false)) }
-        ensures memory { IfErr result (λ fault. fault ≡ Memory) }
     {
-        Bitmap::blank(alloc, self.width, self.height).map_err(PbmFault::no_bitmap)
+        Bitmap::blank(alloc, self.width, self.height)
     }
 }
 

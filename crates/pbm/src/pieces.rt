@@ -1,9 +1,7 @@
 //! A plain image in pieces, for a stream that takes one piece after another.
 
 ghost use Rattle.std.specs.Prelude.{◌≡◌, ◌-◌, ◌*◌, ◌<◌, ◌≤◌, length, vec_len, vec_capacity, IfOk};
-ghost use Rattle.std.specs.Prelude.{IfErr};
 ghost use Rattle.std.specs.List.{range_with_len, flat_map};
-ghost use Rattle.metric.specs.declared.refusal.Refusal.TheVariants.{Memory};
 ghost use Rattle.pbm.specs.declared.header.Form.TheVariants.{Plain};
 ghost use Rattle.pbm.specs.Writing.{front_text, plain_digit, plain_text};
 
@@ -11,7 +9,7 @@ use crate::front::push_front;
 use crate::header::Form;
 use crate::plain_writer::{push_rows, row_length};
 use bits::Bitmap;
-use metric::Refusal;
+use metric::NoMemory;
 use std::alloc::Global;
 
 /// The most bytes of a piece.
@@ -19,10 +17,9 @@ pub const PIECE: usize = 65_536;
 
 /// The first piece of a bitmap's plain image: everything before the raster, in a buffer with
 /// capacity for any piece. Fails only when out of memory.
-pub fn first_piece(alloc: Global, bitmap: &Bitmap) -> Result<Vec<u8>, Refusal>
+pub fn first_piece(alloc: Global, bitmap: &Bitmap) -> Result<Vec<u8>, NoMemory>
     ensures text { IfOk result (λ piece. piece.items ≡ front_text Plain bitmap.now) }
     ensures room { IfOk result (λ piece. 65536 ≤ vec_capacity piece) }
-    ensures memory { IfErr result (λ refusal. refusal ≡ Memory) }
 {
     let mut piece = Vec::new(alloc);
     piece.reserve(PIECE)?;

@@ -1,10 +1,9 @@
 //! Writing an image in the plain form.
 
 ghost use Rattle.std.specs.Prelude.{◌≡◌, ℕ, ◌+◌, ◌-◌, ◌*◌, ◌<◌, ◌≤◌, ◌++◌, ◌∷◌, [], length};
-ghost use Rattle.std.specs.Prelude.{slice_index, vec_len, vec_capacity, OnOk, OnErr, IfErr};
+ghost use Rattle.std.specs.Prelude.{slice_index, vec_len, vec_capacity, OnOk, OnErr};
 ghost use Rattle.std.specs.List.{range_with_len, flat_map};
 ghost use Rattle.bits.specs.Cells.{has};
-ghost use Rattle.metric.specs.declared.refusal.Refusal.TheVariants.{Memory};
 ghost use Rattle.pbm.specs.Image.{pixel_byte};
 ghost use Rattle.pbm.specs.Writing.{plain_digit, plain_text, row_length};
 
@@ -12,7 +11,7 @@ use crate::digit_row::{MOST_DIGITS, put_digits};
 use crate::front::{FRONT_ROOM, push_front};
 use crate::header::Form;
 use bits::Bitmap;
-use metric::Refusal;
+use metric::NoMemory;
 
 /// Digits per line.
 const LINE_DIGITS: usize = 70;
@@ -85,10 +84,9 @@ pub fn push_rows(out: &mut Vec<u8>, bitmap: &Bitmap, from: u16, to: u16)
 /// `P1`, LF, the width, a blank, the height, LF, then each row in lines of 70 digits, the last line
 /// of a row having the rest; LF ends each line. Reserves all capacity first: it fails only when out
 /// of memory, and has then appended nothing.
-pub fn write_plain(bitmap: &Bitmap, out: &mut Vec<u8>) -> Result<(), Refusal>
+pub fn write_plain(bitmap: &Bitmap, out: &mut Vec<u8>) -> Result<(), NoMemory>
     ensures text { OnOk result (out.new.items ≡ out.old.items ++ plain_text bitmap.now) }
     ensures as_before { OnErr result (out.new.items ≡ out.old.items) }
-    ensures memory { IfErr result (λ refusal. refusal ≡ Memory) }
 {
     let height = bitmap.height();
     let row = row_length(bitmap.width());

@@ -1,9 +1,8 @@
 //! Writing an image in the raw form.
 
 ghost use Rattle.std.specs.Prelude.{◌≡◌, ◌+◌, ◌*◌, ◌<◌, ◌≤◌, ◌++◌, map, length, vec_len};
-ghost use Rattle.std.specs.Prelude.{vec_capacity, OnOk, OnErr, IfErr};
+ghost use Rattle.std.specs.Prelude.{vec_capacity, OnOk, OnErr};
 ghost use Rattle.std.specs.List.{range_with_len};
-ghost use Rattle.metric.specs.declared.refusal.Refusal.TheVariants.{Memory};
 ghost use Rattle.pbm.specs.Image.{bytes_across};
 ghost use Rattle.pbm.specs.Writing.{raw_byte, raw_text};
 
@@ -12,7 +11,7 @@ use crate::header::Form;
 use crate::raw_raster::bytes_across;
 use crate::raw_row::{MOST_ACROSS, put_row};
 use bits::Bitmap;
-use metric::Refusal;
+use metric::NoMemory;
 
 /// Appends the bytes of row y, and uses `row` as a scratch buffer. `out` has capacity for them.
 fn push_row(out: &mut Vec<u8>, bitmap: &Bitmap, y: u16, row: &mut [u8])
@@ -36,10 +35,9 @@ fn push_row(out: &mut Vec<u8>, bitmap: &Bitmap, y: u16, row: &mut [u8])
 /// `P4`, LF, the width, a blank, the height, LF, then the rows, each in whole bytes whose fill bits
 /// are 0. Reserves all capacity first: it fails only when out of memory, and has then appended
 /// nothing.
-pub fn write_raw(bitmap: &Bitmap, out: &mut Vec<u8>) -> Result<(), Refusal>
+pub fn write_raw(bitmap: &Bitmap, out: &mut Vec<u8>) -> Result<(), NoMemory>
     ensures text { OnOk result (out.new.items ≡ out.old.items ++ raw_text bitmap.now) }
     ensures as_before { OnErr result (out.new.items ≡ out.old.items) }
-    ensures memory { IfErr result (λ refusal. refusal ≡ Memory) }
 {
     let height = bitmap.height();
     let across = usize::from(bytes_across(bitmap.width()));

@@ -1,6 +1,6 @@
 //! Reads an image from a source, and packs it as its bytes come.
 
-ghost use Rattle.std.specs.Prelude.{◌≡◌, ◌*◌, List, [], Bool, false, Ok, IfOk, IfErr, OnOk};
+ghost use Rattle.std.specs.Prelude.{◌≡◌, ◌*◌, List, [], Bool, false, true, Ok, IfOk, IfErr, OnOk};
 ghost use Rattle.metric.specs.Stream.{AreAll, CanFail};
 ghost use Rattle.bits.specs.Cells.{cells_where};
 ghost use Rattle.pbm.specs.Faults.{cells_of_pixels, image, pixels, raster, raw_raster};
@@ -13,7 +13,7 @@ use crate::raw_raster::{WORD_PIXELS, bytes_across};
 use crate::raw_row::MOST_ACROSS;
 use crate::window::{ImageStop, Window};
 use bits::Bitmap;
-use metric::Source;
+use metric::{NoMemory, PbmFault, Source};
 use std::alloc::Global;
 
 /// Takes the pixels into a blank bitmap, a word at a time.
@@ -119,13 +119,32 @@ fn take_image<R: Source>(
     ensures counts { CountsReads (R.failed_reads reader.old) result (R.failed_reads reader.new) }
 {
     let header = window.next_header(reader)?;
-    let mut bitmap = header.blank(alloc)?;
+    let mut bitmap = match header.blank(alloc) {
+        Ok(bitmap) => bitmap,
+        Err(refused) => return Err(ImageStop::Fault(PbmFault::from(refused))),
+    };
     take_raster(window, reader, header.form, &mut bitmap)?;
     Ok(bitmap)
 }
 
-/// Reads and drops what a source has left, unless the window has met its end. A count of blocks
-/// that overflows is more than any memory holds.
+/// Reads and drops up to 2^32 - 1 blocks. Returns whether the source has ended.
+fn pass_some<R: Source>(window: &mut Window, reader: &mut R) -> Result<bool, ImageStop>
+    requires { CanFail (R.failed_reads reader.old) }
+    ensures ended { result ≡ Ok true → AreAll (R.rest reader.new) [] }
+    ensures no_fault { IfErr result (λ stop. IsFaultOf stop (λ met. ⊥)) }
+    ensures counts { CountsReads (R.failed_reads reader.old) result (R.failed_reads reader.new) }
+    ensures bytes { window.new.bytes ≡ window.old.bytes }
+{
+    'turns: for _ in 0..u32::MAX {
+        if reader.next_block(window.block.as_mut_slice())? == 0 {
+            return Ok(true);
+        }
+    }
+    Ok(false)
+}
+
+/// Reads and drops what a source has left, unless the window has met its end. The window's buffer,
+/// whose bytes are done with, counts: it has a byte for every 2^32 - 1 blocks.
 fn pass_rest<R: Source>(window: &mut Window, reader: &mut R) -> Result<(), ImageStop>
     requires can_fail { CanFail (R.failed_reads reader.old) }
     requires open { IsOpen window.old (R.rest reader.old) }
@@ -136,12 +155,14 @@ fn pass_rest<R: Source>(window: &mut Window, reader: &mut R) -> Result<(), Image
     if window.ended {
         return Ok(());
     }
+    window.bytes.clear();
     'turns: for _ in 0..u64::MAX {
-        if reader.next_block(window.block.as_mut_slice())? == 0 {
+        if pass_some(window, reader)? {
             return Ok(());
         }
+        window.bytes.push(0).map_err(NoMemory::from)?;
     }
-    Err(ImageStop::Memory)
+    unreachable!()
 }
 
 /// Reads the image at the front of a source, and the source to its end.

@@ -4,8 +4,8 @@ ghost use Rattle.std.specs.Prelude.{◌≡◌, ℕ, ◌*◌, ◌<◌, ◌≤◌,
 ghost use Rattle.std.specs.Prelude.{length, vec_len, IfErr, OnOk};
 ghost use Rattle.metric.specs.Stream.{CanFail};
 
-use metric::{PbmFault, ReadFault, Source};
-use std::alloc::{AllocError, Global};
+use metric::{NoMemory, PbmFault, ReadFault, Source};
+use std::alloc::Global;
 
 /// The most bytes of one read.
 pub const BLOCK: usize = 65_536;
@@ -16,19 +16,19 @@ pub enum ImageStop {
     /// A read failed.
     Failed,
     /// There was no memory for the bytes read.
-    Memory,
+    Memory(NoMemory),
     /// The image has this fault, or there was no memory for its bitmap.
     Fault(PbmFault),
 }
 
-/// An allocation that was refused.
-impl From<AllocError> for ImageStop {
+/// A growth that was refused.
+impl From<NoMemory> for ImageStop {
     ghost use Rattle.pbm.specs.declared.window.ImageStop.TheVariants.{Memory};
 
-    ghost from_gives = { λ _ stop. stop ≡ Memory };
+    ghost from_gives = { λ refused stop. stop ≡ Memory refused };
 
-    fn from(_refused: AllocError) -> ImageStop {
-        ImageStop::Memory
+    fn from(refused: NoMemory) -> ImageStop {
+        ImageStop::Memory(refused)
     }
 }
 
@@ -124,7 +124,8 @@ impl Window {
             (R.failed_reads reader.new) }
     {
         let count = reader.next_block(self.block.as_mut_slice())?;
-        self.bytes.extend_from_slice(&self.block[..count])?;
+        let block = &self.block[..count];
+        self.bytes.extend_from_slice(block).map_err(NoMemory::from)?;
         self.ended = count == 0;
         Ok(())
     }

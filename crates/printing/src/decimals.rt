@@ -6,7 +6,8 @@ ghost use Rattle.printing.specs.Putting.{AreQuads, AreSpaced, four_digits};
 
 use crate::put::{put_byte, put_front};
 use crate::quad::{Quad, quads, spaced};
-use std::alloc::{AllocError, Global};
+use metric::NoMemory;
+use std::alloc::Global;
 
 /// The digits of all numbers below 10,000, ready to copy.
 #[derive(Drop)]
@@ -24,7 +25,7 @@ impl Decimals {
     ghost use Rattle.printing.specs.Putting.{Puts};
 
     /// Makes the digits of all numbers below 10,000.
-    pub fn new(alloc: Global) -> Result<Self, AllocError> {
+    pub fn new(alloc: Global) -> Result<Self, NoMemory> {
         Ok(Decimals {
             quads: quads(alloc)?,
             spaced: spaced(alloc)?,

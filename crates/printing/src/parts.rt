@@ -6,8 +6,8 @@ ghost use Rattle.std.specs.Prelude.{vec_capacity, vec_len};
 use crate::line::{ENTRY_ROOM, SPARE_ROOM};
 use crate::printer::Printer;
 use crate::row_cells::RowCells;
-use metric::Metric;
-use std::alloc::{AllocError, Global};
+use metric::{Metric, NoMemory};
+use std::alloc::Global;
 
 /// A worker's buffers: a row of the table, and the lines of its rows.
 #[derive(Drop)]
@@ -25,7 +25,7 @@ impl WorkerLines {
     ghost use Rattle.printing.specs.Parts.{HasRows, IsShare};
 
     /// Buffers for the lines of this many rows of this width.
-    fn new(alloc: Global, nearest: bool, width: u16, rows: u32) -> Result<Self, AllocError>
+    fn new(alloc: Global, nearest: bool, width: u16, rows: u32) -> Result<Self, NoMemory>
         requires { rows ≤ 4096 }
         ensures { IfOk result (IsShare nearest width rows) }
     {
@@ -74,7 +74,7 @@ impl WorkerLines {
         width: u16,
         rows: u32,
         count: u8,
-    ) -> Result<Vec<Self>, AllocError>
+    ) -> Result<Vec<Self>, NoMemory>
         requires { rows ≤ 4096 }
         ensures many { IfOk result (λ parts. vec_len parts ≡ count) }
         ensures each { IfOk result (λ parts. All (IsShare nearest width rows) parts.items) }

@@ -3,7 +3,8 @@
 ghost use Rattle.std.specs.Prelude.{◌≡◌, ◌+◌, ◌<◌, IfOk, vec_len};
 ghost use Rattle.printing.specs.Putting.{AreQuads, AreSpaced, IsQuad, IsSpaced};
 
-use std::alloc::{AllocError, Global};
+use metric::NoMemory;
+use std::alloc::Global;
 
 /// How many numbers have at most four digits.
 const QUADS: u32 = 10_000;
@@ -18,7 +19,7 @@ pub struct Quad {
 }
 
 /// The digits of all numbers below 10,000, in order.
-pub fn quads(alloc: Global) -> Result<Vec<Quad>, AllocError>
+pub fn quads(alloc: Global) -> Result<Vec<Quad>, NoMemory>
     ensures all { IfOk result (λ quads. vec_len quads ≡ 10000) }
     ensures each { IfOk result (λ quads. AreQuads 10000 quads.items) }
 {
@@ -31,7 +32,7 @@ pub fn quads(alloc: Global) -> Result<Vec<Quad>, AllocError>
 
 /// All numbers below 10,000 after a blank, in order: the blank, the digits without leading zeros,
 /// and in the last of the eight bytes how many bytes these are.
-pub fn spaced(alloc: Global) -> Result<Vec<[u8; 8]>, AllocError>
+pub fn spaced(alloc: Global) -> Result<Vec<[u8; 8]>, NoMemory>
     ensures all { IfOk result (λ words. vec_len words ≡ 10000) }
     ensures each { IfOk result (λ words. AreSpaced 10000 words.items) }
 {

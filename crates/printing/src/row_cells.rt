@@ -2,8 +2,8 @@
 
 ghost use Rattle.std.specs.Prelude.{IfOk};
 
-use metric::Near;
-use std::alloc::{AllocError, Global};
+use metric::{Near, NoMemory};
+use std::alloc::Global;
 
 /// Buffers for the cells of a row, of which the one that a table fills has cells.
 #[derive(Drop)]
@@ -18,7 +18,7 @@ impl RowCells {
     ghost use Rattle.printing.specs.RowCells.{IsRowRoom};
 
     /// Buffers for a row of this width. Fails only when out of memory.
-    pub fn new(alloc: Global, nearest: bool, width: u16) -> Result<Self, AllocError>
+    pub fn new(alloc: Global, nearest: bool, width: u16) -> Result<Self, NoMemory>
         ensures { IfOk result (IsRowRoom nearest width) }
     {
         let across = usize::from(width);

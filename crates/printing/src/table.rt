@@ -1,9 +1,8 @@
 //! The nearest obstacles of one image's cells by one metric, or their distances alone, computed by
 //! workers.
 
-ghost use Rattle.std.specs.Prelude.{◌≡◌, ◌+◌, ◌*◌, ◌<◌, ◌≤◌, true, false, IfErr, IfOk, length};
+ghost use Rattle.std.specs.Prelude.{◌≡◌, ◌+◌, ◌*◌, ◌<◌, ◌≤◌, true, false, IfOk, length};
 ghost use Rattle.std.specs.Prelude.{slice_range};
-ghost use Rattle.metric.specs.declared.refusal.Refusal.TheVariants.{Memory};
 ghost use Rattle.printing.specs.Putting.{Puts};
 ghost use Rattle.printing.specs.RowCells.{IsRowRoom};
 ghost use Rattle.printing.specs.Table.{row_line};
@@ -15,7 +14,7 @@ use crate::line::put_row;
 use crate::row_cells::RowCells;
 use bits::Bitmap;
 use field::{Batch, CompactDistances, ObstacleTable, Workers};
-use metric::{Edge, Gate, Metric, Refusal};
+use metric::{Edge, Gate, Metric, NoMemory};
 use std::alloc::Global;
 use std::marker::Model;
 use std::thread::Threads;
@@ -88,11 +87,10 @@ impl<M: Metric + Sync> Table<M> {
         edge: Edge,
         nearest: bool,
         workers: Workers,
-    ) -> Result<Self, Refusal>
+    ) -> Result<Self, NoMemory>
         requires below { IsBelowNone M.distance }
         ensures table { IfOk result (IsTableOf M.distance edge bitmap.now) }
         ensures nearest { IfOk result (λ table. table.nearest ≡ nearest) }
-        ensures memory { IfErr result (λ refusal. refusal ≡ Memory) }
     {
         let (width, height) = (bitmap.width(), bitmap.height());
         let workers = if is_large(width, height) {

@@ -1,7 +1,6 @@
 //! A table with all that is needed to write its lines, which workers make in parallel.
 
-ghost use Rattle.std.specs.Prelude.{◌≡◌, IfErr, IfOk, OnOk, OnErr, vec_len};
-ghost use Rattle.metric.specs.declared.refusal.Refusal.TheVariants.{Memory};
+ghost use Rattle.std.specs.Prelude.{◌≡◌, IfOk, OnOk, OnErr, vec_len};
 ghost use Rattle.metric.specs.Stream.{Appends, AppendsFront, Counts, CanFail};
 ghost use Rattle.printing.specs.Table.{table_text};
 ghost use Rattle.printing.specs.Tabled.{IsBelowNone, IsTableOf};
@@ -12,7 +11,7 @@ use crate::printer::Printer;
 use crate::table::Table;
 use bits::Bitmap;
 use field::Workers;
-use metric::{Edge, Metric, Refusal, Sink, WriteFault};
+use metric::{Edge, Metric, NoMemory, Sink, WriteFault};
 use std::alloc::Global;
 use std::marker::Model;
 use std::thread::Threads;
@@ -51,12 +50,11 @@ impl<M: Metric + Sync> TableWriter<M> {
         edge: Edge,
         nearest: bool,
         workers: Workers,
-    ) -> Result<Self, Refusal>
+    ) -> Result<Self, NoMemory>
         requires below { IsBelowNone M.distance }
         ensures table { IfOk result (λ print. IsTableOf M.distance edge map.now print.table) }
         ensures nearest { IfOk result (λ print. print.table.nearest ≡ nearest) }
         ensures workers { IfOk result (λ print. print.parts ≡ workers.count) }
-        ensures memory { IfErr result (λ refusal. refusal ≡ Memory) }
     {
         let table = Table::<M>::of(rt, alloc, map, edge, nearest, workers)?;
         let rows = table.rows_at_a_time(workers.count, nearest);

@@ -118,9 +118,9 @@ fn serve_blank<Id: StoreName + Send + Sync, R: Clock + Wait + Threads + Sync, W:
 {
     match Store::<Id>::open(alloc, blank) {
         Ok((store, sessions)) => serve_store(rt, alloc, place, store, sessions, writer),
-        Err((blank, refusal)) => {
+        Err((blank, refused)) => {
             blank.discard();
-            write_refusal(writer, refusal)
+            write_refusal(writer, Refusal::from(refused))
         }
     }
 }
@@ -161,9 +161,9 @@ fn serve_store<Id: StoreName + Send + Sync, R: Clock + Wait + Threads + Sync, W:
             served_line(connections, u64::from(base) + kept.len() as u64, &mut text);
             write_text(writer, text.as_bytes(), DONE)
         }
-        Err((sessions, refusal)) => {
+        Err((sessions, refused)) => {
             store.close(sessions);
-            write_refusal(writer, refusal)
+            write_refusal(writer, Refusal::from(refused))
         }
     }
 }

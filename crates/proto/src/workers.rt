@@ -2,12 +2,11 @@
 
 ghost use Rattle.std.specs.Prelude.{◌≡◌, ◌≤◌, [], All, length, map, reverse, vec_capacity, Some};
 ghost use Rattle.std.specs.Prelude.{IfOk, IfErr, IfSome, IsSome};
-ghost use Rattle.metric.specs.declared.refusal.Refusal.TheVariants.{Memory};
 ghost use Rattle.proto.specs.Pools.{AreBoth, AreEach, AreRelated, HasWorked};
 ghost use Rattle.line_io.specs.Wire.{CanGoOn};
 
 use crate::serve::serve_stream;
-use metric::{Refusal, Stream};
+use metric::{NoMemory, Stream};
 use session::{Session, Store};
 use shelf::StoreName;
 use std::alloc::Global;
@@ -40,14 +39,14 @@ pub fn pool<Id: StoreName + Send + Sync, R: Wait + Threads + Sync, T: Streams + 
     store: &Store<Id>,
     sessions: Vec<Session<Id>>,
     streams: T,
-) -> Result<Vec<Session<Id>>, (Vec<Session<Id>>, Refusal)>
+) -> Result<Vec<Session<Id>>, (Vec<Session<Id>>, NoMemory)>
     ensures worked { IfOk result
         (λ back. AreRelated (HasWorked T.fresh T.S.wire Id.store) sessions.items back.items) }
-    ensures refused { IfErr result (λ back. (back.0.items ≡ sessions.items) × (back.1 ≡ Memory)) }
+    ensures back { IfErr result (λ back. back.0.items ≡ sessions.items) }
 {
     let room = match Vec::with_capacity(alloc, sessions.len()) {
         Ok(room) => room,
-        Err(refused) => return Err((sessions, Refusal::from(refused))),
+        Err(refused) => return Err((sessions, NoMemory::from(refused))),
     };
     let (empty, mut seats) = seat_all(sessions, room);
     let streams = Mutex::new(streams);

@@ -2,7 +2,6 @@
 
 ghost use Rattle.std.specs.Prelude.{◌≡◌, Some, None, IfOk, IfErr};
 ghost use mathlib.Core.List.{IsPrefix};
-ghost use Rattle.metric.specs.declared.refusal.Refusal.TheVariants.{Memory};
 ghost use Rattle.events.specs.declared.kept.Seen.TheVariants.{Exact};
 ghost use Rattle.events.specs.Legal.{IsLegal};
 ghost use Rattle.shelf.specs.Roles.{entries};
@@ -12,7 +11,7 @@ mod commands;
 
 use crate::pinned::Pinned;
 use copies::Room;
-use metric::Refusal;
+use metric::NoMemory;
 use shelf::{ReaderSeat, StoreName, Ticket};
 use std::alloc::Global;
 use std::marker::Model;
@@ -62,7 +61,7 @@ impl<Id: StoreName> Session<Id> {
     /// is at least the newest that the session had seen.
     ///
     /// Fails only when out of memory; returns the session, and has announced nothing.
-    pub fn pin(self, alloc: Global) -> Result<Pinned<Id>, (Session<Id>, Refusal)>
+    pub fn pin(self, alloc: Global) -> Result<Pinned<Id>, (Session<Id>, NoMemory)>
         ensures free { (self.announced ≡ None) × (self.holds ≡ None) }
         ensures seat { IfOk result (λ pinned. pinned.seat ≡ record self {
           seen = pinned.seat.seen;
@@ -77,12 +76,12 @@ impl<Id: StoreName> Session<Id> {
         ensures legal { IfOk result
             (λ pinned. IsLegal Id.store.base.setting Id.store.base.opening
             (entries pinned.seat.seen)) }
-        ensures refused { IfErr result (λ back. (back.0 ≡ self) × (back.1 ≡ Memory)) }
+        ensures back { IfErr result (λ back. back.0 ≡ self) }
     {
         let Session { mut seat, mut room } = self;
         let copy = match room.take(alloc) {
             Ok(copy) => copy,
-            Err(refusal) => return Err((Session { seat, room }, refusal)),
+            Err(refused) => return Err((Session { seat, room }, refused)),
         };
         seat.take();
         seat.announce();

@@ -1,14 +1,13 @@
 //! A store: the lock of its desk, and how it opens and closes.
 
 ghost use Rattle.std.specs.Prelude.{◌≡◌, IfOk, IfErr};
-ghost use Rattle.metric.specs.declared.refusal.Refusal.TheVariants.{Memory};
 ghost use Rattle.session.specs.Sessions.{IsHandedOut, all_fresh};
 
 use crate::blank::Blank;
 use crate::session::Session;
 use crate::sessions::{give_up, sessions_of};
 use desk::Desk;
-use metric::Refusal;
+use metric::NoMemory;
 use shelf::{StoreEntry, StoreName};
 use std::alloc::Global;
 use std::sync::{Mutex, MutexGuard, Wait};
@@ -28,14 +27,14 @@ impl<Id: StoreName> Store<Id> {
     pub fn open(
         alloc: Global,
         blank: Blank,
-    ) -> Result<(Store<Id>, Vec<Session<Id>>), (Blank, Refusal)>
+    ) -> Result<(Store<Id>, Vec<Session<Id>>), (Blank, NoMemory)>
         requires { blank ≡ Id.store }
         ensures sessions { IfOk result (λ opened. opened.1.items ≡ all_fresh Id.store) }
-        ensures refused { IfErr result (λ back. (back.0 ≡ blank) × (back.1 ≡ Memory)) }
+        ensures back { IfErr result (λ back. back.0 ≡ blank) }
     {
         let room = match Vec::with_capacity(alloc, blank.readers.len()) {
             Ok(room) => room,
-            Err(refused) => return Err((blank, Refusal::from(refused))),
+            Err(refused) => return Err((blank, NoMemory::from(refused))),
         };
         let Blank { desk, readers, map } = blank;
         let (width, height) = (map.width(), map.height());

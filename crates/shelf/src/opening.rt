@@ -1,9 +1,8 @@
 //! Opens a store: its table, the keeper's seat and the readers' seats, before the store has a name.
 
-ghost use Rattle.std.specs.Prelude.{◌≡◌, [], None, OnOk, IfOk, IfErr};
+ghost use Rattle.std.specs.Prelude.{◌≡◌, [], None, OnOk, IfOk};
 ghost use Rattle.std.specs.Arc.{arc_value};
 ghost use Rattle.bits.specs.Tiles.{tile_count};
-ghost use Rattle.metric.specs.declared.refusal.Refusal.TheVariants.{Memory};
 ghost use Rattle.events.specs.Setting.{bad_field};
 ghost use Rattle.shelf.specs.Roles.{keeping, resting};
 ghost use Rattle.shelf.specs.Seats.{store_at, IsOf};
@@ -16,7 +15,7 @@ use crate::plays::Deal;
 use crate::word_table::{Basis, TableSeat, Words};
 use bits::Bitmap;
 use events::{Plan, Setting, opening_words};
-use metric::Refusal;
+use metric::NoMemory;
 use std::alloc::Global;
 use std::snapshot::Snapshot;
 use std::sync::Arc;
@@ -27,7 +26,7 @@ fn deal_all(
     words: &Arc<Words, Global>,
     keeper: &mut TableSeat,
     plan: Plan,
-) -> Result<Vec<FreshReader>, Refusal>
+) -> Result<Vec<FreshReader>, NoMemory>
     requires of { IsOf (store_at keeper.old.table_id (arc_value words.now).shared.key)
         (arc_value words.now).shared.table_id (arc_value words.now).shared.key keeper.old.table_id
         plan }
@@ -44,7 +43,6 @@ fn deal_all(
         (λ dealt. dealt.items ≡ newcomers
         (store_at keeper.old.table_id (arc_value words.now).shared.key)
         (readers_of (store_at keeper.old.table_id (arc_value words.now).shared.key))) }
-    ensures memory { IfErr result (λ refusal. refusal ≡ Memory) }
 {
     let readers = plan.setting.sessions;
     let mut dealt = Vec::with_capacity(alloc, readers as usize)?;
@@ -66,11 +64,10 @@ impl Opening {
     /// session, numbered from 0, that has seen the empty log.
     ///
     /// Fails only when out of memory.
-    pub fn of(alloc: Global, setting: Setting, map: &Bitmap) -> Result<Opening, Refusal>
+    pub fn of(alloc: Global, setting: Setting, map: &Bitmap) -> Result<Opening, NoMemory>
         requires { bad_field (tile_count map.now) setting ≡ None }
-        ensures base { IfOk result (λ opening. opening.keeper.base
+        ensures { IfOk result (λ opening. opening.keeper.base
             ≡ record { setting = setting; opening = map.now }) }
-        ensures memory { IfErr result (λ refusal. refusal ≡ Memory) }
     {
         let plan = Plan::of(setting, map);
         let basis = Basis {

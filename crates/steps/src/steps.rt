@@ -43,7 +43,9 @@ pub fn steps_run<R: Source, W: Sink>(alloc: Global, reader: &mut R, writer: &mut
 {
     match read_to_end(alloc, reader) {
         Ok(bytes) => write_steps(alloc, bytes.as_slice(), writer).unwrap_or(REFUSED),
-        Err(InputStop::Memory) => write_refusal(writer, Refusal::Memory).unwrap_or(REFUSED),
+        Err(InputStop::Memory(refused)) => {
+            write_refusal(writer, Refusal::from(refused)).unwrap_or(REFUSED)
+        }
         Err(InputStop::Failed) => REFUSED,
     }
 }

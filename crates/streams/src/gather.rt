@@ -7,8 +7,7 @@ ghost use Rattle.streams.specs.Gathered.{Gathers, GathersAll, PutsCount, PutsFew
 ghost use Rattle.streams.specs.Gathered.{PutsLine, PutsUnended, TakesAtMost, TakesFew};
 ghost use Rattle.streams.specs.declared.gather.PartStop.TheVariants.{Ended, Failed};
 
-use metric::Source;
-use std::alloc::{AllocError, AllocFailed};
+use metric::{NoMemory, Source};
 
 /// The most bytes of one read.
 const BLOCK: usize = 4096;
@@ -21,28 +20,17 @@ pub enum PartStop {
     /// A read failed.
     Failed,
     /// There was no memory for the bytes read.
-    Memory,
+    Memory(NoMemory),
 }
 
-/// An allocation that was refused, of a value that the caller still has.
-impl From<AllocFailed<u8>> for PartStop {
+/// A growth that was refused.
+impl From<NoMemory> for PartStop {
     ghost use Rattle.streams.specs.declared.gather.PartStop.TheVariants.{Memory};
 
-    ghost from_gives = { λ _ stop. stop ≡ Memory };
+    ghost from_gives = { λ refused stop. stop ≡ Memory refused };
 
-    fn from(_refused: AllocFailed<u8>) -> PartStop {
-        PartStop::Memory
-    }
-}
-
-/// An allocation that was refused.
-impl From<AllocError> for PartStop {
-    ghost use Rattle.streams.specs.declared.gather.PartStop.TheVariants.{Memory};
-
-    ghost from_gives = { λ _ stop. stop ≡ Memory };
-
-    fn from(_refused: AllocError) -> PartStop {
-        PartStop::Memory
+    fn from(refused: NoMemory) -> PartStop {
+        PartStop::Memory(refused)
     }
 }
 
@@ -127,7 +115,8 @@ fn read_block<R: Source>(
     match reader.next_block(block) {
         Ok(0) => Err(PartStop::Ended),
         Ok(count) => {
-            bytes.extend_from_slice(&block[..count])?;
+            let block = &block[..count];
+            bytes.extend_from_slice(block).map_err(NoMemory::from)?;
             Ok(count as u32)
         }
         Err(_) => Err(PartStop::Failed),
@@ -151,7 +140,7 @@ fn read_byte<R: Source>(reader: &mut R, bytes: &mut Vec<u8>) -> Result<u8, PartS
 {
     match reader.next_byte() {
         Ok(Some(byte)) => {
-            bytes.push(byte)?;
+            bytes.push(byte).map_err(NoMemory::from)?;
             Ok(byte)
         }
         Ok(None) => Err(PartStop::Ended),

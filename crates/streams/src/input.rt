@@ -4,8 +4,8 @@ ghost use Rattle.std.specs.Prelude.{◌≡◌, ◌≢◌, ◌+◌, IfOk, Err};
 ghost use Rattle.metric.specs.Stream.{AreAll, CanFail};
 ghost use Rattle.streams.specs.declared.input.InputStop.TheVariants.{Failed, Memory};
 
-use metric::Source;
-use std::alloc::{AllocError, Global};
+use metric::{NoMemory, Source};
+use std::alloc::Global;
 
 /// The most bytes of one read.
 const BLOCK: usize = 65536;
@@ -16,15 +16,15 @@ pub enum InputStop {
     /// A read failed.
     Failed,
     /// There was no memory for the bytes read.
-    Memory,
+    Memory(NoMemory),
 }
 
-/// An allocation that was refused.
-impl From<AllocError> for InputStop {
-    ghost from_gives = { λ _ stop. stop ≡ Memory };
+/// A growth that was refused.
+impl From<NoMemory> for InputStop {
+    ghost from_gives = { λ refused stop. stop ≡ Memory refused };
 
-    fn from(_refused: AllocError) -> InputStop {
-        InputStop::Memory
+    fn from(refused: NoMemory) -> InputStop {
+        InputStop::Memory(refused)
     }
 }
 
@@ -41,7 +41,9 @@ pub fn read_to_end<R: Source>(alloc: Global, reader: &mut R) -> Result<Vec<u8>, 
     'turns: for _ in 0..u64::MAX {
         match reader.next_block(block.as_mut_slice()) {
             Ok(0) => return Ok(bytes),
-            Ok(count) => bytes.extend_from_slice(&block[..count])?,
+            Ok(count) => bytes
+                .extend_from_slice(&block[..count])
+                .map_err(NoMemory::from)?,
             Err(_) => return Err(InputStop::Failed),
         }
     }

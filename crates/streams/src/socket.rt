@@ -5,7 +5,7 @@ ghost use Rattle.std.specs.Prelude.{◌≡◌, ◌+◌, ◌≤◌, length, IfOk,
 ghost use Rattle.metric.specs.Stream.{CanFail, Counts, StopsAt};
 
 use memchr::memchr;
-use metric::{ReadFault, Refusal, Sink, Source, Stream, WriteFault};
+use metric::{NoMemory, ReadFault, Refusal, Sink, Source, Stream, WriteFault, buffered_reader};
 use std::alloc::Global;
 use std::io;
 use std::io::{BufRead, BufReader, ErrorKind, Read, Write};
@@ -60,22 +60,14 @@ pub enum NoSocket {
     /// It is broken.
     Broken,
     /// There is no memory for its buffers.
-    Memory(TcpStream),
+    Memory(TcpStream, NoMemory),
 }
 
 impl NoSocket {
-    /// Why a connection whose buffers couldn't be made isn't a stream.
-    fn unbuffered(fault: &io::Error, stream: TcpStream) -> NoSocket {
-        match fault.kind() {
-            ErrorKind::OutOfMemory => NoSocket::Memory(stream),
-            _ => NoSocket::Broken,
-        }
-    }
-
     /// Tells the peer if memory has run out, and ends the connection.
     pub fn tell(self) {
-        if let NoSocket::Memory(mut stream) = self
-            && writeln!(stream, "{}", Refusal::Memory).is_ok()
+        if let NoSocket::Memory(mut stream, refused) = self
+            && writeln!(stream, "{}", Refusal::from(refused)).is_ok()
         {
             end(&mut stream);
         }
@@ -113,7 +105,7 @@ impl Socket {
         }
         let (mut reader, replies) = match buffers(alloc) {
             Ok(buffers) => buffers,
-            Err(fault) => return Err(NoSocket::unbuffered(&fault, stream)),
+            Err(refused) => return Err(NoSocket::Memory(stream, refused)),
         };
         reader.get_mut().0 = Some(stream);
         Ok(Socket {
@@ -276,9 +268,9 @@ fn fill(reader: &mut BufReader<Connection>) -> Result<(), ReadFault> {
 }
 
 /// The buffers of a connection, without it.
-fn buffers(alloc: Global) -> io::Result<(BufReader<Connection>, Vec<u8>)> {
+fn buffers(alloc: Global) -> Result<(BufReader<Connection>, Vec<u8>), NoMemory> {
     let replies = Vec::with_capacity(alloc, ROOM)?;
-    let reader = BufReader::with_capacity(alloc, ROOM, Connection(None))?;
+    let reader = buffered_reader(alloc, ROOM, Connection(None))?;
     Ok((reader, replies))
 }
 

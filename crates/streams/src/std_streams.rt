@@ -1,13 +1,15 @@
 //! Readers and writers of std as buffered streams. Contracts don't see their bytes.
 
-ghost use Rattle.std.specs.Prelude.{◌≡◌, ◌+◌, ℕ, None, IfOk, IfErr};
-ghost use Rattle.metric.specs.declared.refusal.Refusal.TheVariants.{Memory};
+ghost use Rattle.std.specs.Prelude.{◌≡◌, ◌+◌, ℕ, None, IfOk};
 ghost use Rattle.metric.specs.Stream.{CanFail};
 
-use metric::{ReadFault, Refusal, Sink, Source, WriteFault};
+use metric::{NoMemory, ReadFault, Sink, Source, WriteFault, buffered_reader, buffered_writer};
 use std::alloc::Global;
 use std::io::{BufReader, BufWriter, ErrorKind, Read, Write};
 use std::marker::Model;
+
+/// The bytes of a buffer.
+const ROOM: usize = 8192;
 
 /// A reader of std, read ahead in blocks. Contracts see the count of failed reads.
 #[derive(Drop)]
@@ -24,11 +26,10 @@ impl<R: Read + Drop> Model for ReaderSource<R> {
 
 impl<R: Read + Drop> ReaderSource<R> {
     /// Wraps a reader with a buffer of its own. Fails only when out of memory.
-    pub fn new(alloc: Global, reader: R) -> Result<Self, Refusal>
-        ensures fresh { IfOk result (λ source. source ≡ 0) }
-        ensures memory { IfErr result (λ refusal. refusal ≡ Memory) }
+    pub fn new(alloc: Global, reader: R) -> Result<Self, NoMemory>
+        ensures { IfOk result (λ source. source ≡ 0) }
     {
-        let reader = BufReader::new(alloc, reader).map_err(|fault| Refusal::of_buffer(&fault))?;
+        let reader = buffered_reader(alloc, ROOM, reader)?;
         Ok(ReaderSource { reader, failed: 0 })
     }
 }
@@ -82,11 +83,10 @@ impl<W: Write + Drop> Model for WriterSink<W> {
 
 impl<W: Write + Drop> WriterSink<W> {
     /// Wraps a writer with a buffer of its own. Fails only when out of memory.
-    pub fn new(alloc: Global, writer: W) -> Result<Self, Refusal>
-        ensures fresh { IfOk result (λ sink. sink ≡ 0) }
-        ensures memory { IfErr result (λ refusal. refusal ≡ Memory) }
+    pub fn new(alloc: Global, writer: W) -> Result<Self, NoMemory>
+        ensures { IfOk result (λ sink. sink ≡ 0) }
     {
-        let writer = BufWriter::new(alloc, writer).map_err(|fault| Refusal::of_buffer(&fault))?;
+        let writer = buffered_writer(alloc, ROOM, writer)?;
         Ok(WriterSink {
             writer: Some(writer),
             failed: 0,

@@ -8,7 +8,7 @@ ghost use Rattle.words.specs.Numbers.{path_of, coordinate, points, only, pair, H
 ghost use Rattle.words.specs.Words.{words_left, bytes_left};
 
 use crate::front::next_number;
-use metric::{Cell, Refusal};
+use metric::{Cell, NoMemory, Refusal};
 use std::alloc::Global;
 
 /// The most points of a path.
@@ -133,6 +133,6 @@ fn kept_path(alloc: Global, cells: &[Cell]) -> Result<Vec<Cell>, Refusal>
     if cells.is_empty() || cells.len() > MOST_POINTS {
         return Err(Refusal::BadPath);
     }
-    let kept = Vec::from_slice(alloc, cells)?;
+    let kept = Vec::from_slice(alloc, cells).map_err(NoMemory::from)?;
     Ok(kept)
 }

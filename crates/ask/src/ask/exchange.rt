@@ -90,7 +90,7 @@ fn read_reply<S: Stream>(stream: &mut S, dump: bool, reply: &mut Vec<u8>) -> Res
 {
     match read_whole(stream, dump, reply) {
         Ok(()) => Ok(()),
-        Err(PartStop::Memory) => Err(Stop::Memory),
+        Err(PartStop::Memory(refused)) => Err(Stop::Memory(refused)),
         Err(PartStop::Ended | PartStop::Failed) => Err(Stop::Net),
     }
 }

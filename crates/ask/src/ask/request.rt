@@ -36,7 +36,7 @@ pub fn read_request<R: Source>(reader: &mut R, request: &mut Vec<u8>) -> Result<
         Ok(()) => Ok(true),
         Err(PartStop::Ended) => Ok(false),
         Err(PartStop::Failed) => Err(Stop::Standard),
-        Err(PartStop::Memory) => Err(Stop::Memory),
+        Err(PartStop::Memory(refused)) => Err(Stop::Memory(refused)),
     }
 }
 

@@ -21,15 +21,14 @@ use crate::desk::answers::{answered, stamp_answered};
 use crate::holding::{Holding, Judged};
 use bits::Bitmap;
 use events::{Command, Entry, Reply};
-use metric::{Rect, Refusal};
+use metric::{NoMemory, Rect, Refusal};
 use shelf::{ReaderSeat, Request, StoreEntry, StoreName, Ticket, meet};
-use std::alloc::AllocError;
 
 /// The capacity that a log has after its first entry.
 const FIRST_ROOM: usize = 16;
 
 /// Makes sure that a log has capacity for another entry: where it is full, it takes as much again.
-fn make_room(log: &mut Vec<StoreEntry>) -> Result<(), AllocError>
+fn make_room(log: &mut Vec<StoreEntry>) -> Result<(), NoMemory>
     ensures items { log.new.items ≡ log.old.items }
     ensures room { OnOk result (vec_len log.new < vec_capacity log.new) }
     ensures most { vec_capacity log.new
@@ -38,7 +37,7 @@ fn make_room(log: &mut Vec<StoreEntry>) -> Result<(), AllocError>
     if log.len() < log.capacity() {
         return Ok(());
     }
-    log.reserve_exact(log.len().max(FIRST_ROOM))
+    Ok(log.reserve_exact(log.len().max(FIRST_ROOM))?)
 }
 
 /// Judges a command, and reserves capacity for its entry, after all other refusals; a checkpoint

@@ -1,15 +1,14 @@
 //! A desk before its store has a name.
 
-ghost use Rattle.std.specs.Prelude.{◌≡◌, [], None, IfOk, IfErr};
+ghost use Rattle.std.specs.Prelude.{◌≡◌, [], None, IfOk};
 ghost use Rattle.bits.specs.Tiles.{tile_count};
-ghost use Rattle.metric.specs.declared.refusal.Refusal.TheVariants.{Memory};
 ghost use Rattle.events.specs.Setting.{bad_field};
 
 use crate::desk::Desk;
 use crate::holding::Holding;
 use bits::Bitmap;
 use events::{Seen, Setting};
-use metric::Refusal;
+use metric::NoMemory;
 use shelf::{FreshKeeper, StoreEntry, StoreName};
 use std::alloc::Global;
 use std::marker::Model;
@@ -48,11 +47,10 @@ impl FreshDesk {
         setting: Setting,
         map: &Bitmap,
         keeper: FreshKeeper,
-    ) -> Result<FreshDesk, Refusal>
+    ) -> Result<FreshDesk, NoMemory>
         requires fits { bad_field (tile_count map.now) setting ≡ None }
         requires base { keeper.base ≡ record { setting = setting; opening = map.now } }
-        ensures desk { IfOk result (λ desk. desk ≡ keeper) }
-        ensures memory { IfErr result (λ refusal. refusal ≡ Memory) }
+        ensures { IfOk result (λ desk. desk ≡ keeper) }
     {
         let announced = vec![in alloc; None; setting.sessions as usize]?;
         Ok(FreshDesk {

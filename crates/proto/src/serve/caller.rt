@@ -131,7 +131,12 @@ impl<Id: StoreName> Caller<Id> {
                     let version = pinned.version();
                     (Caller::holding(pinned), Answer::Version(version))
                 }
-                Err((session, refusal)) => (Caller::new(session), Answer::Refused(refusal)),
+                Err((session, refused)) => {
+                    (
+                        Caller::new(session),
+                        Answer::Refused(Refusal::from(refused)),
+                    )
+                }
             },
             Seat::Holding(pinned) => (
                 Caller::holding(pinned),

@@ -13,11 +13,11 @@ use crate::serve::caller::Caller;
 use events::Command;
 use line_io::{Counted, End, LineBuffer, read_counted, say, say_last};
 use lines::{Answer, Line, MOST_COUNTED, Text, parse_line};
-use metric::{PbmFault, Refusal, Stream, WriteFault};
+use metric::{NoMemory, PbmFault, Refusal, Stream, WriteFault};
 use pbm::read_image;
 use session::Store;
 use shelf::StoreName;
-use std::alloc::{AllocError, Global};
+use std::alloc::Global;
 use std::sync::Wait;
 use words::without_cr;
 
@@ -33,7 +33,7 @@ pub struct Service<'a, Id: StoreName, R: Wait> {
 
 impl<'a, Id: StoreName, R: Wait> Service<'a, Id, R> {
     /// A service with its buffers. Fails only when out of memory.
-    pub fn new(rt: &'a R, alloc: Global, store: &'a Store<Id>) -> Result<Self, AllocError> {
+    pub fn new(rt: &'a R, alloc: Global, store: &'a Store<Id>) -> Result<Self, NoMemory> {
         let line = LineBuffer::new(alloc)?;
         let text = Text::new(alloc)?;
         Ok(Service {

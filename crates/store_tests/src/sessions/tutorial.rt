@@ -93,7 +93,7 @@ fn plan<Id: StoreName>(
             let tightest = pinned.along::<Euclid2>(alloc, &path);
             (pinned.unpin(), tightest)
         }
-        Err((planner, refusal)) => (planner, Err(refusal)),
+        Err((planner, refused)) => (planner, Err(Refusal::from(refused))),
     }
 }
 

@@ -14,13 +14,13 @@ pub returns-in_err-matches-clause-taken : goal.returns-in_err-matches-clause-tak
 returns-in_err-matches-clause-taken c = λ name words.
     let p = err_from_is_err_and c.from_residual.result c.from_residual.ensures.1 in
     rw (p.1)
-    (p.2 (c.in_err-matches.ensures.passes (ap (takes program_app) words ∙ takes_dist name)))
+    (p.2 ∙ c.in_err-matches.ensures.passes (ap (takes program_app) words ∙ takes_dist name))
 
 pub returns-in_err-matches-clause-steps_taken : goal.returns-in_err-matches-clause-steps_taken
 returns-in_err-matches-clause-steps_taken c = λ name words.
     let p = err_from_is_err_and c.from_residual.result c.from_residual.ensures.1 in
     rw (p.1)
-    (p.2 (c.in_err-matches.ensures.passes (ap (takes program_app) words ∙ takes_steps name)))
+    (p.2 ∙ c.in_err-matches.ensures.passes (ap (takes program_app) words ∙ takes_steps name))
 
 pub returns-in_err-dist_options-clause-taken : goal.returns-in_err-dist_options-clause-taken
 returns-in_err-dist_options-clause-taken c = λ name words.
@@ -67,7 +67,7 @@ returns-clause-steps_taken c = λ name words.
 pub returns-in_err-matches-clause-refused : goal.returns-in_err-matches-clause-refused
 returns-in_err-matches-clause-refused c = λ taken.
     let p = err_from_is_err_and c.from_residual.result c.from_residual.ensures.1 in
-    rw (p.1) (p.2 (c.in_err-matches.ensures.passes taken.0))
+    rw (p.1) (p.2 ∙ c.in_err-matches.ensures.passes taken.0)
 
 pub returns-in_err-dist_options-clause-refused : goal.returns-in_err-dist_options-clause-refused
 returns-in_err-dist_options-clause-refused c = λ taken.

@@ -16,7 +16,8 @@ returns-in-Err-Memory-clause-answers g c = λ reads same.
     let after = g.W.Sink.held c.write_refusal-in-Err-Memory.new.writer in
     rw c.unwrap_or-in-Err-Memory.ensures
     (memory_whole c.args.options.now unread before after c.write_refusal-in-Err-Memory.result _ _
-    c.write_refusal-in-Err-Memory.ensures.status c.write_refusal-in-Err-Memory.ensures.whole
+    c.write_refusal-in-Err-Memory.ensures.status
+    (rw c.from.ensures at c.write_refusal-in-Err-Memory.ensures.whole)
     c.write_refusal-in-Err-Memory.ensures.counts same)
 
 pub returns-in-Err-Memory-clause-failed_write : goal.returns-in-Err-Memory-clause-failed_write
@@ -26,7 +27,8 @@ returns-in-Err-Memory-clause-failed_write g c = λ other.
     let after = g.W.Sink.held c.write_refusal-in-Err-Memory.new.writer in
     rw c.unwrap_or-in-Err-Memory.ensures
     (memory_in_part c.args.options.now unread before after c.write_refusal-in-Err-Memory.result _ _
-    c.write_refusal-in-Err-Memory.ensures.front c.write_refusal-in-Err-Memory.ensures.counts other)
+    (rw c.from.ensures at c.write_refusal-in-Err-Memory.ensures.front)
+    c.write_refusal-in-Err-Memory.ensures.counts other)
 
 pub returns-in-Err-Fault-clause-answers : goal.returns-in-Err-Fault-clause-answers
 returns-in-Err-Fault-clause-answers g c = λ reads same.

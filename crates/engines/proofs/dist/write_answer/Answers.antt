@@ -11,17 +11,17 @@ returns-in-Ok-clause-front g c =
       reply.text,
       reply.status,
       asked_of_reply c.args.options.now c.args.map.now c.in-Some.line reply c.in-Some.is
-          (rw (← c.as_bytes.ensures.value) c.in-Ok.ensures.reply),
+          (rw (← c.as_bytes.ensures.value) c.in-Ok.ensures),
       front,
     ))
     (rw (← c.as_bytes-in-Ok.ensures) c.write_text.ensures.front)
 
 pub returns-in-Err-clause-front : goal.returns-in-Err-clause-front
 returns-in-Err-clause-front g c =
-    map_wanting_front c.args.options.now c.args.map.now c.in-Err.refusal _ _ c.write_refusal.result
-    c.in-Err.ensures.memory c.write_refusal.ensures.front
+    map_wanting_front c.args.options.now c.args.map.now c.from.result _ _ c.write_refusal.result
+    c.from.ensures c.write_refusal.ensures.front
 
 pub returns-in-Err-clause-whole : goal.returns-in-Err-clause-whole
 returns-in-Err-clause-whole g c =
-    map_wanting_whole c.args.options.now c.args.map.now c.in-Err.refusal _ _ c.write_refusal.result
-    c.in-Err.ensures.memory c.write_refusal.ensures.status c.write_refusal.ensures.whole
+    map_wanting_whole c.args.options.now c.args.map.now c.from.result _ _ c.write_refusal.result
+    c.from.ensures c.write_refusal.ensures.status c.write_refusal.ensures.whole

@@ -30,10 +30,10 @@ returns-in_err-write-in-Ok-clause-front g c =
 
 pub returns-in-Err-clause-front : goal.returns-in-Err-clause-front
 returns-in-Err-clause-front g c =
-    map_wanting_front c.args.options.now c.args.map.now c.in-Err.refusal _ _ c.write_refusal.result
-    c.in-Err.ensures.memory c.write_refusal.ensures.front
+    map_wanting_front c.args.options.now c.args.map.now c.from.result _ _ c.write_refusal.result
+    c.from.ensures c.write_refusal.ensures.front
 
 pub returns-in-Err-clause-whole : goal.returns-in-Err-clause-whole
 returns-in-Err-clause-whole g c =
-    map_wanting_whole c.args.options.now c.args.map.now c.in-Err.refusal _ _ c.write_refusal.result
-    c.in-Err.ensures.memory c.write_refusal.ensures.status c.write_refusal.ensures.whole
+    map_wanting_whole c.args.options.now c.args.map.now c.from.result _ _ c.write_refusal.result
+    c.from.ensures c.write_refusal.ensures.status c.write_refusal.ensures.whole

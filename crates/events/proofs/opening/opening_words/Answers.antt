@@ -17,8 +17,8 @@ fill_blocks-requires c =
     (c.fill_directory.auto.words ∙ (c.as_mut_slice-words.ensures.len ∙ c.in_ok-list.ensures.len
     ∙ c.words.ensures _ c.of-plan.ensures.plan))
 
-pub returns-clause-words : goal.returns-clause-words
-returns-clause-words c =
+pub returns : goal.returns
+returns c =
     let is = c.of-plan.ensures.plan in
     let zeros = c.as_mut_slice-words.ensures.value
     ∙ c.in_ok-list.ensures.items_if_clones_equal (λ y same. same) in

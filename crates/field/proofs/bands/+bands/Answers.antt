@@ -40,8 +40,8 @@ work_bands-work_beside-requires-clause-lower g t c κs within =
     (row c.args.below) c.args.nears.now c.split_at_mut-upper.result.1.now upper lower
     c.requires.room rest
 
-pub work_bands-returns-clause-rows : goal.work_bands-returns-clause-rows
-work_bands-returns-clause-rows g t c =
+pub work_bands-returns : goal.work_bands-returns
+work_bands-returns g t c =
     let shared = c.args.shared.now in let batch = shared.batch.now in
     let row = row_behind batch.y0 batch.y1 shared.workers.count in
     let above = c.args.above in

@@ -11,11 +11,11 @@ work_bands-requires-clause-room g c κs within =
     HasRoom-all batch.bitmap.now batch.y0 batch.y1 c.args.workers.count c.as_mut_slice.result.now
     c.args.workers.few.some batch.order batch.within cells
 
-pub returns-clause-rows : goal.returns-clause-rows
-returns-clause-rows g c =
+pub returns : goal.returns
+returns g c =
     let batch = c.args.batch.now in
     let whole : length c.work_bands.new.nears ≡ c.in_ok-nears.nears.len = search rules in
     rw (written_over c.in_ok-nears.nears.len c.work_bands.new.nears c.in_ok-nears.nears.items whole)
     (AreNears-all g.M.Metric.distance batch.bitmap.now batch.edge batch.y0 batch.y1
     c.args.workers.count c.work_bands.new.nears c.args.workers.few.some batch.order
-    c.in_ok-work_bands.ensures.rows)
+    c.in_ok-work_bands.ensures)

@@ -2,8 +2,8 @@
 use Rattle.field.proofs.BandLemmas.{AreNears-answers, on_ok}
 use Rattle.field.proofs.bands.work_band.Goals as goal
 
-pub returns-clause-rows : goal.returns-clause-rows
-returns-clause-rows g c =
+pub returns : goal.returns
+returns g c =
     let batch = c.args.shared.now.batch.now in
     let answers = rw (c.band_rows-y0.ensures.from, c.band_rows-y0.ensures.to) at c.fill.ensures.rows
     in

@@ -26,8 +26,8 @@ strips-preserved g c =
       rw c.push_reserved.ensures.capacity so_far.4,
     )
 
-pub returns-clause-found : goal.returns-clause-found
-returns-clause-found g c =
+pub returns : goal.returns
+returns g c =
     let so_far = c.strips.invariant in
     all_taken c.strips.yielded c.strips.cells-iterator.rest.items c.args.found.items
     c.strips.strips.items so_far.2 so_far.3

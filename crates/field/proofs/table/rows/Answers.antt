@@ -7,8 +7,8 @@ use Rattle.field.proofs.BandLemmas.{AreNears-answers}
 use Rattle.field.proofs.RowLemmas.{AreAnswers-values}
 use Rattle.field.proofs.table.rows.Goals as goal
 
-pub returns-clause-rows : goal.returns-clause-rows
-returns-clause-rows g c =
+pub returns : goal.returns
+returns g c =
     let batch = c.args.batch.now in
     let cells = batch.bitmap.now in
     let distance = g.M.Metric.distance in
@@ -19,4 +19,4 @@ returns-clause-rows g c =
     (λ nears said. AreNears-answers distance cells batch.edge batch.y0 batch.y1 nears.items
     (AreAnswers-values (λ d x y near. near) None distance cells batch.edge batch.y0 batch.y1
     nears.items said))
-    c.values.ensures.rows
+    c.values.ensures

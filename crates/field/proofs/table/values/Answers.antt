@@ -34,7 +34,7 @@ rows-init g c =
       said = no_values g.V.CellValue.says g.V.CellValue.unset g.M.Metric.distance
           batch.bitmap.now batch.edge batch.y0 c.in_ok-values.values.items
           c.in_ok-values.ensures.items;
-      phases = c.in_ok-phases.ensures.ready;
+      phases = c.in_ok-phases.ensures;
     }
 
 pub slice_bounds-fill_line-count : goal.slice_bounds-fill_line-count
@@ -47,8 +47,8 @@ fill_line-requires-clause-line g c =
     c.args.batch.now.bitmap.now.width
     (c.as_mut_slice.ensures.len ∙ c.in_ok-resize.ensures.len) c.width-width.ensures.width
 
-pub returns-clause-rows : goal.returns-clause-rows
-returns-clause-rows g c =
+pub returns : goal.returns
+returns g c =
     let last : c.rows.y ≡ c.args.batch.now.y1 =
     omega (arith, c.rows-test.false, c.rows.auto.y-end) in
     rw last at c.rows.invariant.said

@@ -11,10 +11,10 @@ use Rattle.line_io.proofs.dump.say_dump.Goals as goal
 
 pub returns-in-Err : goal.returns-in-Err
 returns-in-Err g c = record {
-  answer = answers.Refused c.in-Err.refusal;
+  answer = answers.Refused c.from.result;
   body = [];
-  is_dump = (ap answers.Refused c.in-Err.ensures.memory, refl);
-  put = put_alone c.say.result _ _ (reply_line (answers.Refused c.in-Err.refusal)) c.say.ensures;
+  is_dump = (ap answers.Refused c.from.ensures, refl);
+  put = put_alone c.say.result _ _ (reply_line (answers.Refused c.from.result)) c.say.ensures;
 }
 
 pub returns-in_err-say : goal.returns-in_err-say

@@ -20,21 +20,19 @@ pub blank-requires-clause-height : goal.blank-requires-clause-height
 blank-requires-clause-height g c =
     (header-read _ _ (c.in_ok-header.ensures.header.holds [])).height_side
 
-pub returns-in_err-bitmap-clause-fault : goal.returns-in_err-bitmap-clause-fault
-returns-in_err-bitmap-clause-fault g c =
-    failed-so _ _ _ c.from_residual-in_err-bitmap.ensures.1
-    (rw c.in_err-bitmap.ensures.memory
-    (Meets-follows (λ all left. image-memory _ all) c.in_ok-header.ensures.header))
+pub returns-in-Err-clause-fault : goal.returns-in-Err-clause-fault
+returns-in-Err-clause-fault g c =
+    rw c.from.ensures (Meets-follows (λ all left. image-memory _ all) c.in_ok-header.ensures.header)
 
 pub returns-in_err-take_raster-clause-fault : goal.returns-in_err-take_raster-clause-fault
 returns-in_err-take_raster-clause-fault g c =
     failed-so _ _ _ c.from_residual-in_err-take_raster.ensures.1
     (IsFaultOf-weaker c.in_err-take_raster.field-0.0
-    (λ fault. Meets-after (image-not c.in_ok-header.header.form _ _ c.in_ok-bitmap.bitmap
-    c.in_ok-bitmap.ensures.blank fault) c.in_ok-header.ensures.header)
+    (λ fault. Meets-after (image-not c.in_ok-header.header.form _ _ c.in-Ok.bitmap
+    c.in-Ok.ensures fault) c.in_ok-header.ensures.header)
     c.in_err-take_raster.ensures.fault)
 
 pub returns-clause-image : goal.returns-clause-image
 returns-clause-image g c =
-    Meets-after (image-so c.in_ok-header.header.form _ _ c.in_ok-bitmap.bitmap _
-    c.in_ok-bitmap.ensures.blank) c.in_ok-header.ensures.header c.in_ok-take_raster.ensures.raster
+    Meets-after (image-so c.in_ok-header.header.form _ _ c.in-Ok.bitmap _
+    c.in-Ok.ensures) c.in_ok-header.ensures.header c.in_ok-take_raster.ensures.raster

@@ -5,5 +5,5 @@ use Rattle.proto.proofs.server.serve_blank.Goals as goal
 
 pub returns-in-Err-clause-begun : goal.returns-in-Err-clause-begun
 returns-in-Err-clause-begun g c =
-    lacking_front _ _ _ _ c.in-Err.refusal c.write_refusal.result c.in-Err.ensures.refused.1
+    lacking_front _ _ _ _ c.from.result c.write_refusal.result c.from.ensures
     c.write_refusal.ensures.front

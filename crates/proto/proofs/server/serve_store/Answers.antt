@@ -41,8 +41,8 @@ returns-in-Ok-pool-clause-begun g c =
 pub returns-clause-served : goal.returns-clause-served
 returns-clause-served g c =
     let between = g.W.Sink.held c.write_text.new.writer in
-    stopped_whole c.args.place.port _ _ between _ c.in-Err-pool.refusal
-    c.write_refusal-in-Err-pool.result c.in-Err-pool.ensures.refused.1
+    stopped_whole c.args.place.port _ _ between _ c.from-in-Err-pool.result
+    c.write_refusal-in-Err-pool.result c.from-in-Err-pool.ensures
     (subst (λ (t : List ℕ). Appends (g.W.Sink.held c.args.writer.now) t between)
     (c.as_bytes.ensures ∙ c.listening_line.ensures) c.in_default.ensures.whole)
     c.write_refusal-in-Err-pool.ensures.status c.write_refusal-in-Err-pool.ensures.whole
@@ -50,8 +50,8 @@ returns-clause-served g c =
 pub returns-clause-begun : goal.returns-clause-begun
 returns-clause-begun g c =
     let between = g.W.Sink.held c.write_text.new.writer in
-    stopped_front c.args.place.port _ _ between _ c.in-Err-pool.refusal
-    c.write_refusal-in-Err-pool.result c.in-Err-pool.ensures.refused.1
+    stopped_front c.args.place.port _ _ between _ c.from-in-Err-pool.result
+    c.write_refusal-in-Err-pool.result c.from-in-Err-pool.ensures
     (subst (λ (t : List ℕ). Appends (g.W.Sink.held c.args.writer.now) t between)
     (c.as_bytes.ensures ∙ c.listening_line.ensures) c.in_default.ensures.whole)
     c.write_refusal-in-Err-pool.ensures.front

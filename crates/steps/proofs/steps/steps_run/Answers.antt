@@ -8,12 +8,12 @@ returns-in-Err-Memory-clause-answers g c = λ reads same.
     rw c.unwrap_or-in-Err-Memory.ensures
     (memory_answered (g.R.Source.rest c.args.reader.now) (g.W.Sink.held c.args.writer.now)
     (g.W.Sink.held c.write_refusal.new.writer) c.write_refusal.result _ _
-    c.write_refusal.ensures.status c.write_refusal.ensures.whole c.write_refusal.ensures.counts
-    same)
+    c.write_refusal.ensures.status (rw c.from.ensures at c.write_refusal.ensures.whole)
+    c.write_refusal.ensures.counts same)
 
 pub returns-in-Err-Memory-clause-failed_write : goal.returns-in-Err-Memory-clause-failed_write
 returns-in-Err-Memory-clause-failed_write g c = λ other.
     rw c.unwrap_or-in-Err-Memory.ensures
     (memory_told_in_part (g.R.Source.rest c.args.reader.now) (g.W.Sink.held c.args.writer.now)
     (g.W.Sink.held c.write_refusal.new.writer) c.write_refusal.result _ _
-    c.write_refusal.ensures.front c.write_refusal.ensures.counts other)
+    (rw c.from.ensures at c.write_refusal.ensures.front) c.write_refusal.ensures.counts other)

@@ -10,7 +10,7 @@ whole {n} {m} l l' = omega arith
 
 pub invariant_of-result : goal.invariant_of-result
 invariant_of-result c =
-    let inv = c.filling.invariant in let made = c.in-Some.ensures in
+    let inv = c.filling.invariant in let made = c.in_ok-region.ensures in
     let all = whole inv.0 c.filling-test.false in
     let f : Filled c.filling.region.blocks c.args.count c.args.count =
     subst (λ (n : ℕ). Filled c.filling.region.blocks n c.args.count) all inv.1 in

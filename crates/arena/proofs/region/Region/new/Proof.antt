@@ -1,6 +1,6 @@
 -- `new` asks its allocator for room for all blocks, and answers a region of it with its lease.
 -- Assumes `Logic`.
-use Rattle.std.proofs.Common.{◌≡◌, ◌*◌, List, [], ◌∷◌, ◌++◌, refl, arith, lit<, Some, None}
+use Rattle.std.proofs.Common.{◌≡◌, ◌*◌, List, [], ◌∷◌, ◌++◌, refl, arith, lit<}
 use mir.Syntax.{Ty, Fn, Args, a_type, dcons, dnil, w32, ty_array}
 use mir.Val.{Val, vint, vptr, vcons, vnil}
 use mir.MapTy.{inst_fn}
@@ -31,12 +31,14 @@ use Rattle.core.proofs.alloc.Calls.{Al, seen, Takes, at_takes, Answered, Takes-g
 use Rattle.core.proofs.alloc.Calls.{answers}
 use Rattle.core.proofs.alloc.Shapes.{after, head, arm_body}
 use Rattle.core.proofs.atomic.Steps.{fm}
-use Rattle.core.proofs.option.Made.{Some-of, none_of}
+use Rattle.core.proofs.result.Made.{Ok-of, Err-of}
+use Rattle.core.specs.declared.result.Result.TheVariants.{Ok, Err}
+use Rattle.core.specs.contracts.alloc.AllocError as refusal
 use Rattle.std_alloc.proofs.Pairs.{pair_of, pair_val}
 use Rattle.std.proofs.raw_atomic.Walks.{proved_at, leaves}
 use Rattle.arena.proofs.Walks.{slot_at, then_runs}
 use Rattle.arena.proofs.Values.{region_val, region_own, region_made, lease_val, lease_own}
-use Rattle.arena.proofs.Values.{lease_made}
+use Rattle.arena.proofs.Values.{lease_made, refusal_val, refusal_own, refusal_made}
 use Rattle.arena.specs.Blocks.{Home, bare}
 use Rattle.arena.specs.Ownership.{block_ty, blocks_from}
 use Rattle.arena.proofs.Parts.{all_bare}
@@ -150,23 +152,30 @@ new_spec 𝓤 𝓛 𝓜 𝓡 wired A L g d dd met md =
     (‵ ((Tuple (region.the_row ∷ lease.the_row Z g ∷ [])).own_val (x, k)
     (pair_val (region_val p) lease_val ∷ [])))
     (pair_of 𝓛 (region.the_row) (lease.the_row Z g) x k (region_val p) lease_val) $
-    use1 𝓛 (‵ (Out.own_val (Some (x, k)) (live 1 (vcons v vnil) ∷ []))) (Some-of 𝓛 Pair (x, k) v)
+    use1 𝓛 (‵ (Out.own_val (Ok (x, k)) (live 0 (vcons v vnil) ∷ [])))
+    (Ok-of 𝓛 Pair (refusal.the_row) (x, k) v)
     $ use0 𝓛 (raw (fact 𝓤 ((x.blocks ≡ x.blocks) × (n ≡ n) × (h ≡ h) × (x.home ≡ x.home))))
     (fact_i 𝓤 ((x.blocks ≡ x.blocks) × (n ≡ n) × (h ≡ h) × (x.home ≡ x.home)) (emp 𝓤)
     (refl, refl, refl, refl)) $ nothing ! $ nothing ! $ fjoin ! $ nothing ! $ fjoin !
     $ move ! (3 ∷ 0 ∷ 2 ∷ 1 ∷ []) $
-    by ! (leaves 𝓛 En₀ stays c z (live 1 (vcons v vnil)) (Some (x, k)) (tt, (tt, tt))
+    by ! (leaves 𝓛 En₀ stays c z (live 0 (vcons v vnil)) (Ok (x, k)) (tt, (tt, tt))
     (tt, (tt, tt))))
     (λ e. join ! $ lands_as ! (e) refl (tt, (record { fits = lit< tt }, (tt, tt))) $
     first ! $ switches_on ! (get_tag ! (vrt ! refl (fld ! refl (stop !))) (whole !))
     $ exec ! C Λ En (arm_body 1 (head (after 3 fn.body)))
     (then_runs 𝓛 C Λ En (after 4 fn.body) (at_ret En Post)) $
-    sets_last ! (agg ! (and_then ! (lit ! tt) (no_more !))) refl
-    (tt, (record { fits = lit< tt }, tt)) $
+    sets !
+    (of_opd ! (get_in ! (vrt ! refl (fld ! refl (stop !)))
+    (in_variant ! 1 0 refl refl (whole !)))) refl (tt, tt) $
+    sets_last ! (agg ! (and_then ! (lit ! tt) (and_then ! (get ! refl) (no_more !)))) refl
+    (tt, (record { fits = lit< tt }, (tt, tt))) $
     exec ! C Λ En (after 4 fn.body) (at_ret En Post) $
-    sets ! (of_opd ! (get ! refl)) refl (tt, (record { fits = lit< tt }, tt)) $
+    sets ! (of_opd ! (get ! refl)) refl (tt, (record { fits = lit< tt }, (tt, tt))) $
     returns ! (look_at ! 0 refl) $ free_all ! refl $
-    use0 𝓛 (‵ (Out.own_val None (live 0 vnil ∷ []))) (none_of 𝓛 Pair)
+    use0 𝓛 (‵ (refusal_own (refusal_val ∷ []))) (refusal_made 𝓛) $
+    use1 𝓛 (‵ (Out.own_val (Err (record {})) (live 1 (vcons refusal_val vnil) ∷ [])))
+    (Err-of 𝓛 Pair (refusal.the_row) (record {}) refusal_val)
     $ use0 𝓛 (raw (fact 𝓤 (Unit {0}))) (fact_i 𝓤 (Unit {0}) (emp 𝓤) (tt)) $ nothing ! $ nothing !
     $ fjoin ! $ nothing ! $ fjoin ! $ move ! (3 ∷ 0 ∷ 2 ∷ 1 ∷ []) $
-    by ! (leaves 𝓛 En₀ stays c z (live 0 vnil) (None) (tt, (tt, tt)) (tt, (tt, tt)))))))))
+    by ! (leaves 𝓛 En₀ stays c z (live 1 (vcons refusal_val vnil)) (Err (record {})) (tt, (tt, tt))
+    (tt, (tt, tt)))))))))

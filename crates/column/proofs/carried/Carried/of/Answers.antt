@@ -6,5 +6,5 @@ use Rattle.column.proofs.carried.Carried.of.Goals as goal
 pub seek_bands-requires : goal.seek_bands-requires
 seek_bands-requires c = grind (arith, common_steps)
 
-pub returns-clause-ready : goal.returns-clause-ready
-returns-clause-ready c = grind (arith, common_steps)
+pub returns : goal.returns
+returns c = grind (arith, common_steps)

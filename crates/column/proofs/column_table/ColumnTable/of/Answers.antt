@@ -55,8 +55,8 @@ invariant_of-result c =
     c.width-width.ensures.bitmap c.width-width.ensures.width c.height-height.ensures.height
     many rows)
 
-pub returns-clause-table : goal.returns-clause-table
-returns-clause-table c =
+pub returns : goal.returns
+returns c =
     let cells = c.args.bitmap.now in
     let reached : c.rows.y ≡ cells.height = search rules in
     let rows : HasRows cells c.args.edge cells.width cells.height c.rows.lines =

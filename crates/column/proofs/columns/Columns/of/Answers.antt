@@ -3,5 +3,5 @@ use Rattle.std.proofs.Common.{arith}
 use Rattle.std.proofs.lemmas.Grind.{common_steps}
 use Rattle.column.proofs.columns.Columns.of.Goals as goal
 
-pub returns-clause-ready : goal.returns-clause-ready
-returns-clause-ready c = grind (arith, common_steps)
+pub returns : goal.returns
+returns c = grind (arith, common_steps)

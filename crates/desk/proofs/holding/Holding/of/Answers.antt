@@ -18,12 +18,12 @@ open-requires c =
 
 pub end-requires : goal.end-requires
 end-requires c =
-    ap length (c.in-Err.ensures.memory.1 ∙ c.in_ok-arena.ensures.free)
+    ap length (c.in-Err.ensures.kept ∙ c.in_ok-arena.ensures.free)
     ∙ (length-range_with_len 0 c.args.setting.blocks
     ∙ sym (ap (λ (h : Home). h.count) c.open.ensures.home ∙ c.in_ok-arena.ensures.count))
 
-pub returns-in-Ok-clause-opened : goal.returns-in-Ok-clause-opened
-returns-in-Ok-clause-opened c =
+pub returns-in-Ok : goal.returns-in-Ok
+returns-in-Ok c =
     let opened = c.in-Ok.ensures.opened in
     let blocks = length-range_with_len 0 c.args.setting.blocks in
     told_new c.args.setting c.args.map.now _ record {

@@ -14,7 +14,7 @@ returns-clause-numbers c =
       c.put_low-most.ensures.low,
     )
     (numbers_kept-more (length line) strip.low.items strip.high.items strip.starts.items line
-    c.push_high.new.high.items c.in_ok-start.start c.requires.lines refl c.in_ok-start.ensures.high
+    c.push_high.new.high.items c.in_ok-start.start c.requires.lines refl c.in_ok-start.ensures
     (λ x inside. let fits = c.type_inv.line x in omega (arith, fits)))
 
 pub returns-clause-lines : goal.returns-clause-lines

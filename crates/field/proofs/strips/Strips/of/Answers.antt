@@ -18,7 +18,7 @@ returns-clause-rows g c =
     let found = c.in_ok-found.found in
     let all = c.in_ok-all.all.items in
     let same : length found.items ≡ length all =
-    ap length c.in_ok-all.ensures.found ∙ length-map all Ok in
+    ap length c.in_ok-all.ensures ∙ length-map all Ok in
     let many : length all ≡ c.args.workers.count =
     omega (arith, same, c.in_ok-found.ensures.len, c.from-2.ensures, found.ok) in
     record {
@@ -28,7 +28,7 @@ returns-clause-rows g c =
           c.max-height.ensures (omega (arith, many, c.from.ensures));
       each = each_found
           (IsStripOf g.S.Strip.holds g.M.Metric.distance c.args.batch.now c.max-height.result)
-          found.items all c.in_ok-all.ensures.found
+          found.items all c.in_ok-all.ensures
           (λ k other below. (c.in_ok-found.ensures.each k other
-          (omega (arith, below, c.in_ok-found.ensures.len, c.from-2.ensures, found.ok))).1.met.0);
+          (omega (arith, below, c.in_ok-found.ensures.len, c.from-2.ensures, found.ok))).1.met);
     }

@@ -10,14 +10,14 @@ of_words-requires c =
     let z : Base = record { setting = c.args.setting; opening = c.args.map.now } in
     rw (c.of.ensures, c.as_slice.ensures.value)
     (rule_at_first z _ (fits_ready c.args.setting c.args.map.now c.of-plan.ensures.bitmap
-    c.requires) (c.in_ok-list.ensures {u = tt}).words)
+    c.requires) c.in_ok-list.ensures)
 
 pub deal_all-requires-clause-of : goal.deal_all-requires-clause-of
 deal_all-requires-clause-of c =
     let z : Base = record { setting = c.args.setting; opening = c.args.map.now } in
     let made = c.in_ok-table.ensures in
     let shared = c.in_ok-words.ensures.ok in
-    let words = (c.in_ok-list.ensures {u = tt}).words in
+    let words = c.in_ok-list.ensures in
     let ready = fits_ready c.args.setting c.args.map.now c.of-plan.ensures.bitmap c.requires in
     let key = rw c.of.ensures at made.5 in
     search (rules, is_of_new)
@@ -28,6 +28,6 @@ invariant_of-result c =
     let made = c.in_ok-table.ensures in
     let shared = c.in_ok-words.ensures.ok in
     let dealt = c.in_ok-readers.ensures {u = tt} in
-    let words = (c.in_ok-list.ensures {u = tt}).words in
+    let words = c.in_ok-list.ensures in
     let ready = fits_ready c.args.setting c.args.map.now c.of-plan.ensures.bitmap c.requires in
     (search (rules, is_of_new), dealt.keeper)
