@@ -1,6 +1,6 @@
 //! A pin's copy of the version that it holds, read band by band as queries need it.
 
-ghost use Rattle.std.specs.Prelude.{◌≡◌, ℕ, ◌-◌, ◌^◌, ◌<◌, IfSome};
+ghost use Rattle.std.specs.Prelude.{◌≡◌, ◌≢◌, ℕ, ◌-◌, ◌^◌, ◌<◌, IfSome, None};
 ghost use Rattle.std.specs.Int.{bit_at};
 ghost use Rattle.bits.specs.Bands.{IsBanded, IsTiled};
 ghost use Rattle.bits.specs.Cells.{IsBitmap};
@@ -45,8 +45,9 @@ impl VersionCopy {
 
     /// The whole version, if it has been read.
     pub fn whole(&self) -> Option<&Bitmap>
-        ensures { IfSome result (λ bitmap. (bitmap.now ≡ self.now.bitmap)
+        ensures some { IfSome result (λ bitmap. (bitmap.now ≡ self.now.bitmap)
             × (self.now.unread ≡ 0)) }
+        ensures none { result ≡ None → self.now.unread ≢ 0 }
     {
         (self.unread == 0).then_some(&self.bitmap)
     }

@@ -130,6 +130,7 @@ impl VersionCopy {
         ensures copying { IsCopying Id.store seat.old version slot self.new.bitmap
             self.new.unread }
         ensures bitmap { self.new.bitmap ≡ bitmap_seen Id.store seat.old version }
+        ensures whole { self.new.unread ≡ 0 }
     {
         if self.unread == 0 {
             return;

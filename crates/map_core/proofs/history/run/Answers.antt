@@ -1,6 +1,6 @@
 -- A setting that fits has no field out of its limits, so all that is left is a growth that was
 -- refused.
-use Rattle.std.proofs.Common.{◌∙◌, Err, Ok, ap, refl}
+use Rattle.std.proofs.Common.{◌∙◌, Err, Ok, ap, refl, rules}
 use Rattle.std.proofs.lemmas.Result.{err_from_is_err_and}
 use Rattle.map_core.proofs.RunLemmas.{good_later, no_success, passed_on}
 use Rattle.map_core.proofs.history.run.Goals as goal
@@ -50,7 +50,7 @@ pub returns-clause-run : goal.returns-clause-run
 returns-clause-run c = record {
   start = c.in_ok-world.world;
   opened = c.in_ok-world.ensures.opened;
-  run = c.answer_each.ensures;
+  run = search rules;
 }
 
 pub answer_each-requires-clause-none : goal.answer_each-requires-clause-none

@@ -1,4 +1,5 @@
 -- What the fault table finds is what the grammar has.
+use Rattle.std.proofs.Common.{arith, rules}
 use Rattle.pbm.proofs.Following.{failed-so}
 use Rattle.pbm.proofs.Images.{image-shorter, image-reads, fault-none}
 use Rattle.pbm.proofs.image.read_image.Goals as goal
@@ -11,10 +12,14 @@ returns-in_err-bitmap-clause-none c =
 
 pub overflow_sub-result : goal.overflow_sub-result
 overflow_sub-result c =
-    image-shorter c.args.bytes.now (c.in_ok-bitmap.bitmap, c.in_ok-bitmap.rest.now)
-    c.in_ok-bitmap.ensures.found
+    omega (
+      arith,
+      image-shorter c.args.bytes.now (c.in_ok-bitmap.bitmap, c.in_ok-bitmap.rest.now)
+          c.in_ok-bitmap.ensures.found,
+    )
 
 pub returns-clause-reads : goal.returns-clause-reads
 returns-clause-reads c =
-    (image-reads c.args.bytes.now c.in_ok-bitmap.rest.now c.in_ok-bitmap.bitmap
-    c.in_ok-bitmap.ensures.found).0
+    let told = (image-reads c.args.bytes.now c.in_ok-bitmap.rest.now c.in_ok-bitmap.bitmap
+    c.in_ok-bitmap.ensures.found).0 in
+    search rules

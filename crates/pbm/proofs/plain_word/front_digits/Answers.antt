@@ -13,6 +13,6 @@ returns-clause-digits c =
     or_lt 64 c.equal_to-ones.result c.equal_to.result c.equal_to-ones.type_inv c.equal_to.type_inv
     in
     AreDigits-block c.trailing_ones.result c.args.bytes.now _ c.equal_to-ones.result
-    c.equal_to.result (omega arith) refl c.equal_to-ones.ensures c.equal_to.ensures few
+    c.equal_to.result (omega arith) refl (search rules) (search rules) few
     (λ k before. below_trailing (bit_or c.equal_to-ones.result c.equal_to.result) k fits
     (omega (arith, same, before)) (omega (arith, same, few)))

@@ -1,10 +1,10 @@
 -- At each of the eight places the larger of the two numbers is chosen, which is the distance.
-use Rattle.std.proofs.Common.{◌∙◌, ltb, get_or}
+use Rattle.std.proofs.Common.{◌∙◌, ltb, rules}
 use Rattle.metric.proofs.LaneLemmas.{chosen_at, larger_by_test}
 use Rattle.metric.proofs.measure.ChessMetric.join.Goals as goal
 
 pub returns : goal.returns
 returns c i within =
-    chosen_at ltb c.args.parts c.args.reach c.args.reach c.args.parts i c.fits-parts.0
-    c.fits-reach.0 c.fits-reach.0 c.fits-parts.0 within
-    ∙ larger_by_test (get_or c.args.parts i 0) (get_or c.args.reach i 0)
+    chosen_at ltb c.args.parts c.args.reach _ _ i c.fits-parts.0 c.fits-reach.0
+    (search rules) (search rules) within
+    ∙ search (rules, larger_by_test)

@@ -3,8 +3,5 @@ use Rattle.std.proofs.Common.{arith}
 use Rattle.std.proofs.lemmas.Grind.{common_steps}
 use Rattle.pbm.proofs.window.Window.read_block.Goals as goal
 
-pub returns-clause-reads : goal.returns-clause-reads
-returns-clause-reads g c = grind (arith, common_steps)
-
 pub returns-clause-more : goal.returns-clause-more
 returns-clause-more g c = grind (arith, common_steps)

@@ -1,5 +1,5 @@
 -- A load of a reader's word keeps the rule.
-use Rattle.shelf.proofs.Names.{ap, rules, refl, keeper_in, pin-within}
+use Rattle.shelf.proofs.Names.{◌≡◌, ap, rules, refl, keeper_in, pin_at, pin-within}
 use Rattle.shelf.proofs.steps.KeeperSteps.{scans_it}
 use Rattle.shelf.proofs.seats.KeeperSeats.{says_on}
 use Rattle.shelf.proofs.keeper.KeeperSeat.scan.Goals as goal
@@ -8,7 +8,8 @@ pub load-requires : goal.load-requires
 load-requires g c =
     let of = c.self.invariant.0 in
     let next = c.requires in
-    rw (c.deref.ensures, c.pin_at-place.ensures, next.reader_is) (
+    let at : c.pin_at-place.result ≡ pin_at next.task.hand.done = search rules in
+    rw (c.deref.ensures, at) (
       search rules,
       search (rules, pin-within),
       rw of.basis_is (scans_it g.Id.StoreName.store.base _ _ _ c.args.self.now next.task

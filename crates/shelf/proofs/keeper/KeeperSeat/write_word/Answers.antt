@@ -14,7 +14,7 @@ store-requires g c =
       search rules,
       search rules,
       rw of.basis_is (writes_it g.Id.StoreName.store.base _ _ _ _ _ c.args.self.now next.task
-          (search rules) next.in_hand next.publish next.more next.at_is next.word_is),
+          (search rules) next.in_hand next.publish next.more (search rules) (search rules)),
     )
 
 pub invariant_of-self : goal.invariant_of-self

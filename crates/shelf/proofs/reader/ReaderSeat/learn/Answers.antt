@@ -12,7 +12,7 @@ invariant_of-self g c =
       search rules,
       search rules,
       says_loaded g.Id.StoreName.store.base _ _ _ _ _ _ _ it.log c.self.invariant.2 it.sees
-          c.of-now.ensures.version (ap reader_on it.views_are),
+          (search rules) (ap reader_on it.views_are),
     )
 
 pub returns-clause-legal : goal.returns-clause-legal

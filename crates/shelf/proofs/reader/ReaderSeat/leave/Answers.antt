@@ -1,5 +1,5 @@
 -- A leave keeps the rule.
-use Rattle.shelf.proofs.Names.{refl, pin_word, rules, pin-within, reader_on}
+use Rattle.shelf.proofs.Names.{arith, pin_word, rules, pin-within, reader_on}
 use Rattle.shelf.proofs.steps.ReaderSteps.{leaves_it}
 use Rattle.shelf.proofs.reader.ReaderSeat.leave.Goals as goal
 
@@ -11,5 +11,5 @@ store-requires g c =
       search rules,
       search (rules, pin-within),
       rw of.basis_is (leaves_it g.Id.StoreName.store.base _ _ _ _
-          (reader_on c.self.inside.seat.views) (cc) refl),
+          (reader_on c.self.inside.seat.views) (cc) (omega arith)),
     )

@@ -1,5 +1,5 @@
 -- The border that is asked with is the store's.
-use Rattle.std.proofs.Common.{IfOk, refl}
+use Rattle.std.proofs.Common.{IfOk, refl, rules}
 use Rattle.metric.specs.Nearest.{IsNear}
 use Rattle.bits.specs.Edges.{IsBlocked}
 use Rattle.session.proofs.PinLemmas.{asked_so}
@@ -9,10 +9,10 @@ pub returns-then-asks_bitmap-clause-near : goal.returns-then-asks_bitmap-clause-
 returns-then-asks_bitmap-clause-near g c =
     asked_so (λ cells edge. IfOk c.at.result
     (IsNear g.M.Metric.distance (IsBlocked cells edge) c.args.cell.x c.args.cell.y)) _ _ _ _
-    c.bitmap.ensures.bitmap c.edge-edge.ensures c.at.ensures.near
+    c.bitmap.ensures.bitmap c.edge-edge.ensures (search rules)
 
 pub returns-else-asks_bitmap-clause-near : goal.returns-else-asks_bitmap-clause-near
 returns-else-asks_bitmap-clause-near g c =
     asked_so (λ cells edge. IfOk c.at-else-asks_bitmap.result
     (IsNear g.M.Metric.distance (IsBlocked cells edge) c.args.cell.x c.args.cell.y)) _ _ _ _ refl
-    c.edge-edge.ensures c.at-else-asks_bitmap.ensures.near
+    c.edge-edge.ensures (search rules)
