@@ -64,7 +64,7 @@ pub const COMMANDS: [Entry<'static>; 4] = [
             Flag {
                 name: "workers",
                 takes: Takes::Default("NUMBER", "1"),
-                help: "How many workers share the rows, 1 to 16",
+                help: "Workers that share the rows of 4194304 cells or more, 1 to 16",
             },
             EDGE,
         ],

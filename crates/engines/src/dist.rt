@@ -22,10 +22,10 @@ use streams::{DONE, REFUSED, write_refusal, write_text};
 /// Reads an image, and the reader to its end, and writes its cells' distances to their nearest
 /// obstacles, one line per row, as the options ask. Returns the status.
 ///
-/// As many workers as the options say share the rows; the text doesn't depend on their number. A
-/// refused image, or out of memory, is one line instead, with status 1. Everything is computed
-/// before the first byte is written. If a call of the reader or the writer fails, it calls neither
-/// again, and the status is 1.
+/// As many workers as the options say share the rows, if there are 2^22 cells or more, and else one
+/// works; the text doesn't depend on their number. A refused image, or out of memory, is one line
+/// instead, with status 1. Everything is computed before the first byte is written. If a call of
+/// the reader or the writer fails, it calls neither again, and the status is 1.
 pub fn dist_run<R: Source, W: Sink, T: Threads + Sync>(
     rt: &T,
     alloc: Global,
