@@ -3,8 +3,9 @@
 
 Both write the same text at the end.
 
-Six maps (one obstacle; 0.1, 1 and 20 per cent of the cells at random; obstacles only; a floor plan
-of rooms with doors) in several sizes, each with a fixed seed, are written as raw PBM. For each map
+Seven maps (one obstacle; 0.1, 1 and 20 per cent of the cells at random; obstacles only; a floor
+plan of rooms with doors; straight walls 200 rows apart) in several sizes, each with a fixed seed,
+are written as raw PBM. For each map
 the programs run in turn, round by round: `dist`, `dist --workers 4`, `dist --nearest`, and
 `scipy_dist.py`, which reads the same file and writes the same lines. All read from and write to
 files in memory. What four workers write is compared byte by byte with what one writes, the
@@ -100,6 +101,14 @@ def floor_plan(side, rng):
     columns, rows = cuts(side, rng), cuts(side, rng)
     draw_walls(side, columns, rows, rng, bitmap.draw)
     draw_walls(side, rows, columns, rng, lambda y, x: bitmap.draw(x, y))
+    return bitmap
+
+
+def walls(side, rng):
+    """Straight walls from edge to edge, 200 rows apart."""
+    bitmap = Bitmap(side)
+    for y in range(min(100, side // 2), side, 200):
+        bitmap.rows[y * bitmap.across : (y + 1) * bitmap.across] = b"\xff" * bitmap.across
     return bitmap
 
 
@@ -204,7 +213,7 @@ def main():
     with tempfile.TemporaryDirectory(dir="/dev/shm") as place:
         folder = pathlib.Path(place)
         for side in options.sizes:
-            for name, make in MAPS:
+            for name, make in (*MAPS, ("walls", walls)):
                 source = folder / "map.pbm"
                 make(side, random.Random(f"{SEED} {name} {side}")).write(source)
                 times = measure(options.program, options.rounds, source, folder)

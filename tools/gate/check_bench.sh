@@ -55,6 +55,7 @@ parts() { # parts SCRIPT ..: these are run or read by others
 
 printf 'P4\n8 8\n\001\000\000\020\000\000\100\000' > "$scratch/map.pbm"
 parts check.py hard_maps.py program.py twin.py
+runs chart.py '' --check
 
 # Over the library.
 runs library.py 'library python-numpy-scipy-cv2' --sizes 40 --rounds 1
