@@ -115,6 +115,18 @@ impl<T: Drop> From<Kept<T>> for Refusal {
     }
 }
 
+impl CellAnswer for Option<Near> {
+    fn none() -> Self {
+        None
+    }
+}
+
+impl<V: Drop> Strip for Vec<V> {
+    fn first(&self) -> u8 {
+        3
+    }
+}
+
 pub fn whole() -> u8 {
     2
 }
@@ -131,6 +143,7 @@ class Verdicts(unittest.TestCase):
     def test_the_function_of_a_place(self):
         rows = (("1", "Source::next"), ("self.width", "Bitmap::width"))
         rows += (("Refusal::Kept", "RefusalFrom::from"), ("2", "whole"))
+        rows += (("None", "OptionNearCellAnswer::none"), ("3", "VecStrip::first"))
         for text, function in rows:
             with self.subTest(text=text):
                 place = SOURCE.index(f"    {text}\n") + 4
