@@ -3,7 +3,7 @@
 use crate::compare::{holds, same};
 use bits::Bitmap;
 use column::{ColumnTable, NONE, nearest_rows};
-use metric::{Cell, Edge, Refusal};
+use metric::{Cell, Edge, NoMemory};
 use std::alloc::Global;
 use std::process::Abort;
 use std::test::Fail;
@@ -28,7 +28,7 @@ fn with_column(
     height: u16,
     x: u16,
     obstacles: &[u16],
-) -> Result<Bitmap, Refusal> {
+) -> Result<Bitmap, NoMemory> {
     assert!(rt; 1 <= width && width <= 4096);
     assert!(rt; 1 <= height && height <= 4096);
     let mut bitmap = Bitmap::blank(alloc, width, height)?;

@@ -4,7 +4,7 @@ ghost use Rattle.std.specs.Prelude.{◌<◌, ◌≤◌};
 ghost use Rattle.bits.specs.Cells.{IsSide};
 
 use bits::Bitmap;
-use metric::{Cell, Edge, Rect, Refusal};
+use metric::{Cell, Edge, NoMemory, Rect};
 use std::alloc::{AllocError, Global};
 
 /// Numbers that look random, the same in each run.
@@ -65,7 +65,7 @@ impl Draws {
         width: u16,
         height: u16,
         rare: u64,
-    ) -> Result<Bitmap, Refusal>
+    ) -> Result<Bitmap, NoMemory>
         requires width { IsSide width }
         requires height { IsSide height }
         requires rare { 0 < rare }

@@ -5,13 +5,13 @@ use crate::compare::same;
 use crate::nearest::nearest_obstacle;
 use bits::Bitmap;
 use field::{Batch, rows};
-use metric::{Cell, Chess, City, Edge, Euclid2, Metric, Refusal};
+use metric::{Cell, Chess, City, Edge, Euclid2, Metric, NoMemory};
 use std::alloc::Global;
 use std::process::Abort;
 use std::test::Fail;
 
 /// Compares each answer of the first row with the plain minimum.
-fn compare<M: Metric>(rt: &impl Abort, alloc: Global, bitmap: &Bitmap) -> Result<(), Refusal> {
+fn compare<M: Metric>(rt: &impl Abort, alloc: Global, bitmap: &Bitmap) -> Result<(), NoMemory> {
     assert!(rt; 1 <= bitmap.height());
     let nears = rows::<M>(alloc, &Batch::new(bitmap, Edge::Open, 0, 1))?;
     for (x, near) in (0..bitmap.width()).zip(nears.iter()) {
@@ -33,7 +33,7 @@ fn compare_all(
     alloc: Global,
     (width, height): (u16, u16),
     obstacles: &[(u16, u16)],
-) -> Result<(), Refusal> {
+) -> Result<(), NoMemory> {
     assert!(rt; 1 <= width && width <= 4096);
     assert!(rt; 1 <= height && height <= 4096);
     let mut bitmap = Bitmap::blank(alloc, width, height)?;

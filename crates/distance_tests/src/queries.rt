@@ -7,7 +7,7 @@ mod slow;
 use crate::compare::{holds, same};
 use bits::Bitmap;
 use clearance::{along, at, clear_of, least_in};
-use metric::{Cell, Chess, City, Edge, Euclid2, Near, Rect, Refusal, Spot};
+use metric::{Cell, Chess, City, Edge, Euclid2, Near, NoMemory, Rect, Refusal, Spot};
 use std::alloc::{AllocError, Global};
 use std::process::Abort;
 use std::test::Fail;
@@ -43,7 +43,7 @@ fn drawn(
     width: u16,
     height: u16,
     obstacles: &[Place],
-) -> Result<Bitmap, Refusal> {
+) -> Result<Bitmap, NoMemory> {
     assert!(rt; 1 <= width && width <= 4096);
     assert!(rt; 1 <= height && height <= 4096);
     let mut bitmap = Bitmap::blank(alloc, width, height)?;

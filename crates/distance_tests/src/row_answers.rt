@@ -7,7 +7,7 @@ use crate::nearest::nearest_obstacle;
 use crate::quadrupled::Quadrupled;
 use bits::Bitmap;
 use field::{Batch, rows};
-use metric::{Cell, Chess, City, Edge, Euclid2, Metric, MetricKind, Near, Rect, Refusal, Spot};
+use metric::{Cell, Chess, City, Edge, Euclid2, Metric, MetricKind, Near, NoMemory, Rect, Spot};
 use std::alloc::Global;
 use std::process::Abort;
 use std::test::Fail;
@@ -160,7 +160,7 @@ fn drawn(
     width: u16,
     height: u16,
     obstacles: &[(u16, u16)],
-) -> Result<Bitmap, Refusal> {
+) -> Result<Bitmap, NoMemory> {
     assert!(rt; 1 <= width && width <= 4096);
     assert!(rt; 1 <= height && height <= 4096);
     let mut bitmap = Bitmap::blank(alloc, width, height)?;
@@ -177,7 +177,7 @@ fn all_rows(
     alloc: Global,
     bitmap: &Bitmap,
     kind: MetricKind,
-) -> Result<Vec<Option<Near>>, Refusal> {
+) -> Result<Vec<Option<Near>>, NoMemory> {
     let batch = Batch::new(bitmap, Edge::Open, 0, bitmap.height());
     match kind {
         MetricKind::Euclid2 => rows::<Euclid2>(alloc, &batch),
@@ -206,7 +206,7 @@ fn worked_rows(rt: HostRuntime) -> Result<(), Fail> {
 }
 
 /// Compares each cell's answer with the plain minimum.
-fn compare<M: Metric>(rt: &impl Abort, alloc: Global, bitmap: &Bitmap) -> Result<(), Refusal> {
+fn compare<M: Metric>(rt: &impl Abort, alloc: Global, bitmap: &Bitmap) -> Result<(), NoMemory> {
     let nears = rows::<M>(alloc, &Batch::new(bitmap, Edge::Open, 0, bitmap.height()))?;
     let mut answers = nears.iter();
     for y in 0..bitmap.height() {

@@ -6,7 +6,7 @@ use crate::opened::drawn;
 use crate::told::{Call, begin, end};
 use bits::Bitmap;
 use field::{Batch, Workers, rows, rows_with};
-use metric::{Cell, Edge, Euclid2, Gate, Near, Refusal, Spot};
+use metric::{Cell, Edge, Euclid2, Gate, Near, NoMemory, Spot};
 use std::alloc::Global;
 use std::process::Abort;
 use std::test::Fail;
@@ -61,7 +61,7 @@ fn work<R: Threads + Sync>(
     alloc: Global,
     map: &Bitmap,
     workers: Option<Workers>,
-) -> Result<Vec<Option<Near>>, Refusal> {
+) -> Result<Vec<Option<Near>>, NoMemory> {
     let batch = Batch::new(map, Edge::Open, 0, map.height());
     match workers {
         Some(workers) => rows_with::<Euclid2, _, _>(rt, alloc, &batch, workers, &Open),
@@ -81,10 +81,7 @@ fn rows_are_worked_again(rt: HostRuntime) -> Result<(), Fail> {
             end(&rt, call, first.is_err());
             let nears = match first {
                 Ok(nears) => nears,
-                Err(refusal) => {
-                    same(&rt, refusal, Refusal::Memory, name);
-                    work(&rt, rt.alloc(), &map, workers)?
-                }
+                Err(_) => work(&rt, rt.alloc(), &map, workers)?,
             };
             look_at(&rt, nears.as_slice(), map.height());
         }

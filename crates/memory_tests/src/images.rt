@@ -5,7 +5,7 @@ use crate::compare::{holds, same};
 use crate::told::{Call, begin, end};
 use bits::Bitmap;
 use memory_streams::MemorySource;
-use metric::{Cell, PbmFault, Refusal};
+use metric::{Cell, NoMemory, PbmFault};
 use pbm::{ImageStop, read_image, read_source, write_plain, write_raw};
 use std::alloc::Global;
 use std::process::Abort;
@@ -57,7 +57,10 @@ fn read<R: Abort + Print>(
 
 /// Whether there was no memory for the bytes read of an image, or for its bitmap.
 fn wants_memory(stop: ImageStop) -> bool {
-    stop == ImageStop::Memory || stop == ImageStop::Fault(PbmFault::Memory)
+    matches!(
+        stop,
+        ImageStop::Memory(_) | ImageStop::Fault(PbmFault::Memory)
+    )
 }
 
 /// Reads an image from a source, and checks its size.
@@ -80,7 +83,7 @@ fn read_from_source<R: Abort + Print>(rt: &R, alloc: Global, image: &[u8]) {
 }
 
 /// Appends an image.
-fn append(map: &Bitmap, is_raw: bool, text: &mut Vec<u8>) -> Result<(), Refusal> {
+fn append(map: &Bitmap, is_raw: bool, text: &mut Vec<u8>) -> Result<(), NoMemory> {
     if is_raw {
         write_raw(map, text)
     } else {
@@ -103,8 +106,7 @@ fn write<R: Abort + Print>(
     begin(rt, ("pbm", name));
     let first = append(map, is_raw, &mut text);
     end(rt, ("pbm", name), first.is_err());
-    if let Err(refusal) = first {
-        same(rt, refusal, Refusal::Memory, name);
+    if first.is_err() {
         same(rt, text.as_slice(), BEFORE, name);
         append(map, is_raw, &mut text)?;
     }

@@ -30,7 +30,7 @@ pub fn map(alloc: Global, size: [u16; 2]) -> Result<Bitmap, Refusal> {
     }
     match Bitmap::blank(alloc, width, height) {
         Ok(map) => Ok(map),
-        Err(_) => Bitmap::blank(alloc, width, height),
+        Err(_) => Ok(Bitmap::blank(alloc, width, height)?),
     }
 }
 
@@ -84,20 +84,19 @@ pub fn open<Id: StoreName, R: Abort + Print>(
     requires { blank ≡ Id.store }
 {
     begin(rt, OPEN);
-    let (blank, refusal) = match Store::<Id>::open(alloc, blank) {
+    let blank = match Store::<Id>::open(alloc, blank) {
         Ok(opened) => {
             end(rt, OPEN, false);
             return Ok(opened);
         }
-        Err(back) => back,
+        Err((blank, _)) => blank,
     };
     end(rt, OPEN, true);
-    same(rt, refusal, Refusal::Memory, "a store");
     match Store::<Id>::open(alloc, blank) {
         Ok(opened) => Ok(opened),
-        Err((blank, refusal)) => {
+        Err((blank, refused)) => {
             blank.discard();
-            Err(Fail::from(refusal))
+            Err(Fail::from(refused))
         }
     }
 }
@@ -147,15 +146,14 @@ pub fn pin<Id: StoreName, R: Abort + Print>(
 ) -> Pinned<Id> {
     let made = session.made();
     begin(rt, PIN);
-    let (session, refusal) = match session.pin(alloc) {
+    let session = match session.pin(alloc) {
         Ok(pinned) => {
             end(rt, PIN, false);
             return pinned;
         }
-        Err(back) => back,
+        Err((session, _)) => session,
     };
     end(rt, PIN, true);
-    same(rt, refusal, Refusal::Memory, "a pin");
     same(rt, session.made(), made, "a pin");
     match session.pin(alloc) {
         Ok(pinned) => pinned,

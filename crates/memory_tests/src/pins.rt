@@ -8,7 +8,7 @@ use crate::opened::{PIN, blank, close, hand_back, next, open, pin, unpin};
 use crate::seat::Seat;
 use crate::told::{begin, end};
 use map_core::Setting;
-use metric::{Cell, Edge, Refusal};
+use metric::{Cell, Edge};
 use session::{Blank, Session, Store};
 use shelf::StoreName;
 use std::alloc::Global;
@@ -85,9 +85,8 @@ fn pins_beside<Id: StoreName, R: Wait + Abort + Print>(
             same(rt, pinned.version(), 1, "the pin's version");
             unpin(rt, pinned)
         }
-        Err((planner, refusal)) => {
+        Err((planner, _)) => {
             end(rt, PIN, true);
-            same(rt, refusal, Refusal::Memory, "a pin");
             painter.play(rt, alloc, store, &AFTER);
             let pinned = pin(rt, alloc, planner);
             same(rt, pinned.version(), 2, "the pin's version");

@@ -7,7 +7,7 @@ use crate::opened::{blank, close, open};
 use crate::ready::Ready;
 use crate::told::{Call, begin, end};
 use map_core::Setting;
-use metric::{Cell, Edge, Refusal};
+use metric::{Cell, Edge};
 use proto::{Streams, pool};
 use session::{Blank, Session, Store};
 use shelf::StoreName;
@@ -78,8 +78,7 @@ fn serve<Id: StoreName + Send + Sync, R: Wait + Threads + Abort + Sync>(
             same(rt, times, 3, "one stream, and none for each worker");
             (false, sessions)
         }
-        Err((sessions, refusal)) => {
-            same(rt, refusal, Refusal::Memory, "a pool");
+        Err((sessions, _)) => {
             same(rt, asked.load(Ordering::SeqCst), 0, "no stream");
             (true, sessions)
         }

@@ -13,7 +13,7 @@ use column::ColumnTable;
 use envelope::{Stack, row};
 use epoch::kept_after;
 use map_core::{Kept, Seen};
-use metric::{Cell, Edge, Euclid2, Near, Refusal, Spot};
+use metric::{Cell, Edge, Euclid2, Near, NoMemory, Spot};
 use std::alloc::Global;
 use std::process::Abort;
 use std::test::Fail;
@@ -48,7 +48,7 @@ fn give(rt: &impl Print, arena: &mut Arena, tile: Tile)
 }
 
 /// An arena of three blocks, retried if there was no memory.
-fn three(alloc: Global) -> Result<Arena, Refusal>
+fn three(alloc: Global) -> Result<Arena, NoMemory>
     ensures { IfOk result (λ a. (a.home.count ≡ 3) × (a.free ≡ range_with_len 0 3)) }
 {
     match Arena::new(alloc, 3) {

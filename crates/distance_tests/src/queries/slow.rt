@@ -3,7 +3,7 @@
 
 use bits::Bitmap;
 use field::{Batch, rows};
-use metric::{Cell, Edge, Metric, Near, Rect, Refusal};
+use metric::{Cell, Edge, Metric, Near, NoMemory, Rect};
 use std::alloc::{AllocError, Global};
 
 /// The nearest obstacles of all cells of a bitmap.
@@ -15,7 +15,7 @@ pub struct Answers {
 
 impl Answers {
     /// Those of this bitmap.
-    pub fn of<M: Metric>(alloc: Global, bitmap: &Bitmap) -> Result<Self, Refusal> {
+    pub fn of<M: Metric>(alloc: Global, bitmap: &Bitmap) -> Result<Self, NoMemory> {
         let nears = rows::<M>(alloc, &Batch::new(bitmap, Edge::Open, 0, bitmap.height()))?;
         Ok(Answers {
             width: usize::from(bitmap.width()),
