@@ -1,5 +1,5 @@
 -- What a copy of a version has of it: this project's own rule.
-use Rattle.std.specs.Prelude.{◌≡◌, ◌/◌, ◌<◌, ℕ, Some}
+use Rattle.std.specs.Prelude.{◌≡◌, ◌/◌, ◌<◌, ℕ, Bool, Some}
 use Rattle.std.specs.Int.{bit_at}
 use Rattle.bits.specs.Cells.{Cells, has, IsBitmap, IsInside}
 use Rattle.events.specs.Story.{bitmap_of}
@@ -13,10 +13,11 @@ use Rattle.shelf.specs.Roles.{ReaderView, entries}
 abbrev pub bitmap_seen : StoreId → ReaderView → ℕ → Cells
 bitmap_seen store seat version = bitmap_of (story store.base (entries seat.seen)) version
 
--- the size of a map is its width and its height
-pub record Size : Type 0 where
+-- a room has the width and the height of a map, and may have a copy of that size
+pub record RoomView : Type 0 where
   pub width : ℕ
   pub height : ℕ
+  pub has_copy : Bool
 
 -- a version has this slot, by what one of the store's sessions has seen
 pub record HasSlot (store : StoreId) (x : ReaderView) (version slot : ℕ) : Type 0 where

@@ -1,6 +1,6 @@
 //! The copy of a version that a pin reads into, which a session keeps from one pin to the next.
 
-ghost use Rattle.std.specs.Prelude.{◌≡◌, ◌≢◌, ℕ, ◌<◌, None, IfOk, IfSome, IsOk};
+ghost use Rattle.std.specs.Prelude.{◌≡◌, ◌≢◌, ℕ, ◌<◌, None, IfOk, IfSome, IsOk, true, false};
 ghost use Rattle.std.specs.Int.{bit_at};
 ghost use Rattle.bits.specs.Cells.{IsBitmap, IsSide};
 ghost use Rattle.bits.specs.Tiles.{tiles_down};
@@ -12,7 +12,7 @@ use std::alloc::Global;
 use std::marker::Model;
 
 /// The size of a store's map, and a copy of that size if a pin has left one. Contracts see the
-/// size.
+/// size, and whether there is a copy.
 #[derive(Drop)]
 pub struct Room {
     width: u16,
@@ -21,12 +21,16 @@ pub struct Room {
 }
 
 impl Model for Room {
-    ghost use Rattle.std.specs.Prelude.{◌≡◌, IfSome};
-    ghost use Rattle.copies.specs.Copies.{Size};
+    ghost use Rattle.std.specs.Prelude.{◌≡◌, IfSome, is_some};
+    ghost use Rattle.copies.specs.Copies.{RoomView};
 
-    ghost Value = { Size };
+    ghost Value = { RoomView };
 
-    ghost view = { λ r. record { width = r.width; height = r.height } };
+    ghost view = { λ r. record {
+      width = r.width;
+      height = r.height;
+      has_copy = is_some r.copy;
+    } };
 
     ghost invariant = { λ r. IfSome r.copy (λ copy. (copy.value.bitmap.width ≡ r.width)
         × (copy.value.bitmap.height ≡ r.height)) };
@@ -62,7 +66,7 @@ fn renewed(
 impl Room {
     /// Only the size: the first pin makes the copy.
     pub fn empty(width: u16, height: u16) -> Room
-        ensures { result ≡ record { width = width; height = height } }
+        ensures { result ≡ record { width = width; height = height; has_copy = false } }
     {
         Room {
             width,
@@ -76,6 +80,7 @@ impl Room {
         ensures { result ≡ record {
           width = copy.value.bitmap.width;
           height = copy.value.bitmap.height;
+          has_copy = true;
         } }
     {
         Room {
@@ -86,11 +91,16 @@ impl Room {
     }
 
     /// A copy of this size of which no band has been read, in a bitmap with any cells: the one that
-    /// a pin has left, or a new one. Fails only when out of memory.
+    /// a pin has left, which takes no memory, or a new one. Fails only when out of memory.
     pub fn take(&mut self, alloc: Global) -> Result<Box<VersionCopy>, NoMemory>
         requires width { IsSide self.old.width }
         requires height { IsSide self.old.height }
-        ensures room { self.new ≡ self.old }
+        ensures room { self.new ≡ record {
+          width = self.old.width;
+          height = self.old.height;
+          has_copy = false;
+        } }
+        ensures free { self.old.has_copy ≡ true → IsOk result }
         ensures bitmap { IfOk result (λ copy. IsBitmap copy.value.bitmap) }
         ensures size { IfOk result (λ copy. (copy.value.bitmap.width ≡ self.old.width)
             × (copy.value.bitmap.height ≡ self.old.height)) }

@@ -7,7 +7,7 @@ use Rattle.events.specs.declared.command.Reply.{Reply}
 use Rattle.shelf.specs.Store.{StoreId}
 use Rattle.shelf.specs.Roles.{ReaderView}
 use Rattle.desk.specs.Desks.{DeskView, IsApplied}
-use Rattle.copies.specs.Copies.{Size}
+use Rattle.copies.specs.Copies.{RoomView}
 use Rattle.session.specs.Sessions.{IsSession}
 
 -- the seat has announced what it had, and holds what it did
@@ -25,9 +25,9 @@ applied_still store d e x y c answer applied =
     }
 
 -- a session that has announced and holds what it did is still one
-pub session_holds : (store : StoreId) (x y : ReaderView) (size : Size) → IsSession store x size
-    → HoldsStill x y → IsSession store y size
-session_holds store x y size session still = record {
+pub session_holds : (store : StoreId) (x y : ReaderView) (room : RoomView) → IsSession store x room
+    → HoldsStill x y → IsSession store y room
+session_holds store x y room session still = record {
   quiet = still.announced ∙ session.quiet;
   free = still.holds ∙ session.free;
   ready = session.ready;

@@ -15,7 +15,7 @@ use Rattle.shelf.specs.declared.store_entry.StoreEntry.{StoreEntry}
 use Rattle.shelf.specs.Store.{StoreId, readers_of}
 use Rattle.shelf.specs.Roles.{ReaderView, entries, reader_at_opening, made_by}
 use Rattle.events.specs.Legal.{IsLegal}
-use Rattle.copies.specs.Copies.{Size, IsCopying, bitmap_seen}
+use Rattle.copies.specs.Copies.{RoomView, IsCopying, bitmap_seen}
 use Rattle.desk.specs.Desks.{DeskView, IsApplied, base_place}
 
 -- a pin has its session's seat, and the version that it holds
@@ -53,12 +53,12 @@ pub record IsHandedOut (store : StoreId) (handed : List ReaderView) (base : ℕ)
   pub last_is : base + length kept ≡ length log
 
 -- a session announces and holds nothing, and knows the size of its map, which fits the setting
-pub record IsSession (store : StoreId) (x : ReaderView) (size : Size) : Type 0 where
+pub record IsSession (store : StoreId) (x : ReaderView) (room : RoomView) : Type 0 where
   pub quiet : x.announced ≡ None
   pub free : x.holds ≡ None
   pub ready : IsReady store.base
-  pub width_is : size.width ≡ store.base.opening.width
-  pub height_is : size.height ≡ store.base.opening.height
+  pub width_is : room.width ≡ store.base.opening.width
+  pub height_is : room.height ≡ store.base.opening.height
 
 -- a pin holds a published version that it has seen, and has announced it exactly
 pub record IsPin (store : StoreId) (p : PinView) (slot : ℕ) (bitmap : Cells) (unread : ℕ) :
