@@ -31,7 +31,8 @@ namespace clearmap {
 ///
 /// The answer is exact for the polygon whose corners lie on whole steps of 1/65536 of a cell: the
 /// points, the pose and the turned corners are rounded to these, and the cosine and the sine to
-/// 2^-30. No corner moves by more than 1/16384 of a cell, and none moves at right angles.
+/// 2^-30. No corner moves by more than 1/16384 of a cell, and none if the turn is a multiple of a
+/// right angle.
 class Footprint {
 public:
     /// Points in cells. Throws std::invalid_argument for points that don't form a convex polygon.
@@ -59,7 +60,7 @@ public:
         return asked(area, in_cells(map_of(area), frame, x, y, theta));
     }
 
-    /// Whether it is on none.
+    /// Whether the robot is on no obstacle.
     template <class Area, class... Pose>
     [[nodiscard]] bool is_clear(const Area& area, const Pose&... pose) const {
         return !hits(area, pose...);

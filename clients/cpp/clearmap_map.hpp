@@ -449,8 +449,8 @@ public:
     }
 
     /// None if each cell of the path has at least this distance, otherwise the first that hasn't:
-    /// whether the path is clear says `is_clear`. With euclid2 the distance is a square. 0 is clear
-    /// everywhere, through obstacles too.
+    /// `is_clear` says whether the path is clear. With euclid2 the distance is a square. With 0
+    /// every path is clear, even one through obstacles.
     [[nodiscard]] std::optional<Tightest> clear_of(std::uint32_t distance, const Path& p,
                                                    Metric m = Metric::euclid2) const {
         const detail::Points points(p.data(), p.size());

@@ -30,6 +30,8 @@ HEADERS = (
     "clearmap_inflate.hpp", "clearmap_shapes.hpp", "clearmap_signed.hpp", "clearmap.hpp",
 )  # fmt: skip
 NAMED = re.compile(r"(?:template <[^>]*>\s*)?(?:class|struct|enum class) (\w+)")
+# A type that has nothing but members: it is shown whole.
+PLAIN = re.compile(r"(?:struct|enum class) \w+ \{[^(){}]*\};|enum class \w+ \{[^{}]*\};")
 # Where a declaration ends: at its body, at what a constructor starts with, or at its last sign.
 END = re.compile(r"(?<!= )\{|;|(?<=\))\s+: ")
 
@@ -47,17 +49,24 @@ def words(text):
 # ---- C
 
 
+C_CALL = re.compile(
+    r"^(?:CLEARMAP_CHECKED\s+|static inline )?(\w[\w\s\*]*?\*?clearmap_\w+\([^;{]*\))(?:;| \{)", re.M
+)
+C_TYPE = re.compile(r"^(?:typedef struct|enum) clearmap_\w+ \{.*?^\}[^;]*;", re.M | re.S)
+COMMENT = re.compile(r"^/\*(?P<said>(?:(?!\*/).)*)\*/\n", re.M | re.S)
+
+
 def c_calls():
-    """Each function of clearmap.h: the comment before it, and its declaration."""
+    """Each type and call of clearmap.h: the comment before it, and its declaration."""
     text = (TOP / "clients/c/clearmap.h").read_text()
-    text = text[text.index("/* ---- Maps") :]
-    found = re.finditer(r"/\*(?P<said>(?:(?!\*/).)*)\*/\n(?P<calls>(?:[^/]|/(?!\*))*)", text, re.S)
-    for part in found:
-        calls = re.findall(r"^(?:CLEARMAP_CHECKED\s+)?(\w[\w\s\*]*?\*?clearmap_\w+\([^;{]*\));",
-                           part["calls"], re.M)  # fmt: skip
+    found = list(COMMENT.finditer(text))
+    for part, after in zip(found, [*found[1:], None]):
+        code_of = text[part.end() : after.start() if after else len(text)]
+        types, calls = C_TYPE.findall(code_of), C_CALL.findall(code_of)
         said = re.sub(r"^ \* ?", "", part["said"], flags=re.M)
-        if calls:
-            yield words(said), "\n".join(f"{textwrap.dedent(call)};" for call in calls)
+        if (types or calls) and not said.strip().startswith("----"):
+            shown = [*types, *(f"{textwrap.dedent(call)};" for call in calls)]
+            yield words(said), "\n".join(shown)
 
 
 def c_part():
@@ -87,9 +96,11 @@ def blocks_of(lines):
 
 def declaration(lines, number):
     """A declaration from this line on, up to its body."""
-    text = "\n".join(lines[number : number + 12])
+    text = "\n".join(lines[number : number + 30])
     ends = END.search(text)
-    return textwrap.dedent(text[: ends.start()] if ends else text).rstrip()
+    head = textwrap.dedent(text[: ends.start()] if ends else text).rstrip()
+    whole = PLAIN.match(textwrap.dedent(text))
+    return whole[0] if whole else head
 
 
 def cpp_part():
@@ -118,7 +129,7 @@ def signature(call):
     plain = [
         argument.replace(annotation=inspect.Parameter.empty)
         for name, argument in found.parameters.items()
-        if name not in ("self", "cls", "_cls")
+        if name not in ("self", "cls") and not name.startswith("_")
     ]
     return str(inspect.Signature(plain))
 
@@ -153,7 +164,7 @@ def described(name, it):
 
 def python_class(name, kind):
     """A class: what it says, and its methods."""
-    made = "" if issubclass(kind, (Exception, tuple)) else signature(kind)
+    made = "" if issubclass(kind, Exception) else signature(kind)
     text = f"\n### {name}\n\n{code(broken(f'clearmap.{name}{made}'), 'python')}\n"
     text += words(inspect.getdoc(kind) or "")
     return text + "".join(described(f"{name}.{it}", call) for it, call in methods_of(kind).items())
@@ -164,9 +175,9 @@ def python_part():
     parts = []
     for name in clearmap.__all__:
         it = getattr(clearmap, name)
-        if inspect.isclass(it):
+        if inspect.isclass(it) and it.__doc__:
             parts.append(python_class(name, it))
-        elif callable(it):
+        elif inspect.isroutine(it):
             parts.append(f"\n### {name}\n{described(f'clearmap.{name}', it)}")
     return "".join(parts)
 

@@ -41,8 +41,8 @@ class Footprint:
 
     The answer is exact for the polygon whose corners lie on whole steps of 1/65536 of a cell: the
     points, the pose and the turned corners are rounded to these, and the cosine and the sine to
-    2**-30. No corner moves by more than 1/16384 of a cell, and none moves at right angles. A
-    clearance is less by that much, unless nothing was rounded.
+    2**-30. No corner moves by more than 1/16384 of a cell, and none if the turn is a multiple of a
+    right angle. A clearance is less by that much, unless nothing was rounded.
 
     ValueError for anything but such a polygon or pose. Any threads may use one footprint.
     """
@@ -66,7 +66,7 @@ class Footprint:
             return poses.hits_at(held, self._outline, *pose)
 
     def is_clear(self, area: Map, x: Real, y: Real, theta: Real) -> bool:
-        """Whether it is on none."""
+        """Whether the robot is on no obstacle."""
         return not self.hits(area, x, y, theta)
 
     def hits_many(

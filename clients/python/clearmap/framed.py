@@ -74,14 +74,14 @@ class FramedFootprint:
         return self.in_cells.hits(area, *self._frame.pose_in_cells(x, y, theta))
 
     def is_clear(self, area: Map, x: Number, y: Number, theta: Number) -> bool:
-        """Whether it is on none."""
+        """Whether the robot is on no obstacle."""
         return not self.hits(area, x, y, theta)
 
     def hits_many(
         self, area: Map, x: ArrayLike, y: ArrayLike, theta: ArrayLike
     ) -> NDArray[np.bool_]:
         """`hits` of each pose of three arrays, which numpy broadcasts, as `Footprint.hits_many`.
-        Metres are floats here, where `hits` takes them for the decimals that they are written as.
+        Metres are floats here, whereas `hits` takes them for the decimals that they are written as.
         """
         reading_in(self._frame, area)
         return self.in_cells.hits_many(area, *_in_cells(self._frame, x, y, theta))

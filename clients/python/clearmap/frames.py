@@ -82,7 +82,8 @@ class Frame:
         return across, self.height - up
 
     def point(self, place: Tuple[float, float]) -> Tuple[Fraction, Fraction]:
-        """What `place` is of: a place in cells, in metres."""
+        """A place in cells from the upper left corner, as a point in metres: `place` is the other
+        way round."""
         across, up = Fraction(place[0]), self.height - Fraction(place[1])
         return self.origin_x + across * self.resolution, self.origin_y + up * self.resolution
 

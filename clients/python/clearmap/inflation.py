@@ -40,8 +40,8 @@ def inflate(
     It is 254 in an obstacle, and 253 up to the inscribed radius. From there on it is
     252 * exp(-scaling * (distance - inscribed)), rounded down. Beyond the inflation `radius` it is
     0. The distance is exact, from the middle of the cell to that of its nearest obstacle.
-    The radii are in metres, and `resolution` is metres a cell: as costmap_2d does, it takes a
-    radius in whole cells, rounded up, for the last one.
+    The radii are in metres, and `resolution` is metres a cell. As in costmap_2d, the inflation
+    radius is taken in whole cells, rounded up.
 
     All is computed as costmap_2d computes it, in floats of 64 bits. So three cells of 0.05 are
     above an inscribed radius of 0.15. Its own costs are of an obstacle that may not be the nearest.

@@ -136,8 +136,8 @@ class Pinned:
         self, distance: Whole, points: Points, metric: str = EUCLID2
     ) -> Optional[Tightest]:
         """None if each cell of the path has at least this distance, otherwise the first that
-        hasn't: whether the path is clear says `is_clear`. With euclid2 the distance is a square. 0
-        is clear everywhere, through obstacles too."""
+        hasn't: `is_clear` says whether the path is clear. With euclid2 the distance is a square.
+        With 0 every path is clear, even one through obstacles."""
         return self._ask(requests.clear_of(distance, points, metric))
 
     def is_clear(self, distance: Whole, points: Points, metric: str = EUCLID2) -> bool:

@@ -25,8 +25,8 @@ class TightestSegment(NamedTuple):
 
 
 def read_plan(lines: Iterable[str]) -> List[Point]:
-    """The points of a text: X and Y in metres on each line. A comma parts numbers as a blank does,
-    and lines that start with `#` are left out."""
+    """The points of a text: X and Y in metres on each line. A comma separates numbers as a blank
+    does, and lines that start with `#` are left out."""
     return [(x, y) for x, y in _words(lines, 2, "X and Y")]
 
 
