@@ -16,8 +16,8 @@ FIXED = "the map of a version isn't changed: paint on a copy, as version.map.cop
 
 
 class FixedMap(Map):
-    """A map that can't be changed: what paints, clears or stamps raises TypeError. Queries are those
-    of a `Map`."""
+    """A map that can't be changed: what paints, clears or stamps raises TypeError. Queries are
+    those of a `Map`."""
 
     def _change(self, work: Callable[[Held], None], in_place: bool = True) -> NoReturn:
         raise TypeError(FIXED)
