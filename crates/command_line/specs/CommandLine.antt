@@ -63,7 +63,7 @@ program_app =
     (with_subcommand
     (with_subcommand
     (with_subcommand (on_top (λ s. record s { has_version = true; subcommand_required = true })
-    (new_app (codes "clearmap"))) dist_app.top) steps_app.top) serve_app.top) ask_app.top
+    (new_app (codes "clearmap"))) dist_app.top) serve_app.top) ask_app.top) steps_app.top
 
 -- the flags of `dist` are as the words give them, each with its default if it isn't given
 pub record AreDistOptions (rows : List Row) (options : DistOptions) : Type 0 where

@@ -70,13 +70,6 @@ pub const COMMANDS: [Entry<'static>; 4] = [
         ],
     },
     Entry {
-        name: "steps",
-        usage: "clearmap steps < EVENTS",
-        about: "Do the events on standard input in a map with numbered versions, one word at a time",
-        after_help: "The first line is OPEN and six numbers: the columns and rows of a blank map, its blocks,\nversions, sessions and the length of its log. Each line after it is one of these, and gets\none answer line:\n  A r      reader r announces the newest version that it has seen, and those after it\n  L r      it loads the newest version, and holds it if it has announced\n  M r k    it looks up the block of position k\n  T r b i  it looks at row i of block b\n  E r      it announces the version that it holds, and no other\n  V r      it leaves\n  C LINE   the keeper gets a command: PAINT x0 y0 x1 y1, CLEAR x0 y0 x1 y1, PUBLISH, REVERT, COLLECT,\n           CHECKPOINT\n  K n      the keeper does the next n steps of its command\n\nExample:\n  printf 'OPEN 64 64 3 2 1 10\\nC PAINT 0 0 1 1\\nK 1\\n' | clearmap steps",
-        flags: &[],
-    },
-    Entry {
         name: "serve",
         usage: "clearmap serve [OPTIONS] --connections <NUMBER> < IMAGE",
         about: "Serve the map on standard input to connections on 127.0.0.1, line by line",
@@ -125,5 +118,12 @@ pub const COMMANDS: [Entry<'static>; 4] = [
             takes: Takes::Required("NUMBER"),
             help: "The server's port, 1 to 65535",
         }],
+    },
+    Entry {
+        name: "steps",
+        usage: "clearmap steps < EVENTS",
+        about: "Do the events on standard input in a map with numbered versions, one word at a time",
+        after_help: "The first line is OPEN and six numbers: the columns and rows of a blank map, its blocks,\nversions, sessions and the length of its log. Each line after it is one of these, and gets\none answer line:\n  A r      reader r announces the newest version that it has seen, and those after it\n  L r      it loads the newest version, and holds it if it has announced\n  M r k    it looks up the block of position k\n  T r b i  it looks at row i of block b\n  E r      it announces the version that it holds, and no other\n  V r      it leaves\n  C LINE   the keeper gets a command: PAINT x0 y0 x1 y1, CLEAR x0 y0 x1 y1, PUBLISH, REVERT, COLLECT,\n           CHECKPOINT\n  K n      the keeper does the next n steps of its command\n\nExample:\n  printf 'OPEN 64 64 3 2 1 10\\nC PAINT 0 0 1 1\\nK 1\\n' | clearmap steps",
+        flags: &[],
     },
 ];

@@ -11,8 +11,8 @@ use Rattle.command_line.proofs.commands.program.Goals as goal
 abbrev with_all : App → App
 with_all app =
     with_subcommand
-    (with_subcommand (with_subcommand (with_subcommand app dist_app.top) steps_app.top)
-    serve_app.top) ask_app.top
+    (with_subcommand (with_subcommand (with_subcommand app dist_app.top) serve_app.top)
+    ask_app.top) steps_app.top
 
 pub returns : goal.returns
 returns c =
