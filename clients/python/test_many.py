@@ -10,6 +10,7 @@ import pickle
 import signal
 import sys
 import threading
+import time
 import unittest
 
 import numpy as np
@@ -211,16 +212,21 @@ class Threads(unittest.TestCase):
         def counts():
             while not done.is_set():
                 turns[0] += 1
+                time.sleep(0)  # lets go of the lock
 
+        self.addCleanup(sys.setswitchinterval, sys.getswitchinterval())
+        sys.setswitchinterval(60)  # seconds: nobody is made to let go of it
         thread = threading.Thread(target=counts)
         thread.start()
-        before = turns[0]
-        told = area.at_many(xs, ys)
-        after = turns[0]
+        has_gone_on, until = False, time.monotonic() + 30  # one call may be too short
+        while not has_gone_on and time.monotonic() < until:
+            before = turns[0]
+            told = area.at_many(xs, ys)
+            has_gone_on = turns[0] > before
         done.set()
         thread.join()
         self.assertTrue((told.distances == 2 * 4095**2).all())
-        self.assertGreater(after, before)
+        self.assertTrue(has_gone_on)
 
     def test_cells_of_one_time(self):
         """Many cells are answered by one map, while another thread paints and clears."""
