@@ -94,8 +94,8 @@ package() { # package NAME SECTION FIELD ..: writes it; the description comes on
 
 libc=$(libc_of "$root/usr/bin/clearmap")
 package clearmap science "Depends: $libc, python3" \
-    "Recommends: libclearmap2 (= $version), python3-numpy" \
-    "Suggests: python3-aiohttp, python3-pil, python3-redis, python3-uvloop, python3-rospy, \
+    "Recommends: libclearmap2 (= $version), python3-numpy, python3-pil" \
+    "Suggests: python3-aiohttp, python3-redis, python3-uvloop, python3-rospy, \
 python3-nav-msgs, python3-map-msgs, python3-sensor-msgs, python3-visualization-msgs, \
 python3-roslaunch, redis-server, rviz" << 'DESCRIPTION'
 Description: clearance maps of robots, with a proved server
