@@ -1,8 +1,9 @@
 """Follows the newest version of a server: what each page shows, and what it is sent."""
 import asyncio
 import secrets
+import sys
 import time
-from typing import Callable, Dict, List, NamedTuple, Optional, Sequence, Tuple, TypeVar, Union
+from typing import Callable, Dict, List, NamedTuple, Optional, Sequence, Set, Tuple, TypeVar, Union
 
 import clearmap
 import clearmap_ros as ros
@@ -48,6 +49,7 @@ class Following:
         self.serial, self.seen = 0, clock()
         self.fault = f"The server at port {wanted.port} is being asked."
         self.turn, self.listeners = 0, 0
+        self.printed: Set[str] = set()
         self.news = asyncio.Condition()
         self.looking = asyncio.Lock()
 
@@ -79,10 +81,20 @@ class Following:
         in_its_unit = frame is not None or known is None
         told["radius"] = self.wanted.radius if in_its_unit else ""
         if known is not None and frame is None:
-            sizes = f"has {known.frame.width} by {known.frame.height} cells"
-            sizes += f", and the served map {shown.width} by {shown.height}"
-            told["notice"] = f"The yaml's image {sizes}: no metres are shown."
+            told["notice"] = self.other_size(shown, known)
         return told
+
+    def other_size(self, shown: Shown, known: YamlMap) -> str:
+        """What is said of a served map whose size the yaml's image doesn't have."""
+        sizes = f"has {known.frame.width} by {known.frame.height} cells"
+        sizes += f", and the served map {shown.width} by {shown.height}"
+        return f"The yaml's image {sizes}: no metres are shown."
+
+    def warn(self, said: str) -> None:
+        """Prints for whoever started the program what the page says, each text once."""
+        if said not in self.printed:
+            self.printed.add(said)
+            print(f"clearmap-view: {said}", file=sys.stderr, flush=True)
 
     async def tell(self, fault: str) -> None:
         """Tells each page what has changed."""
@@ -148,6 +160,8 @@ class Following:
             refused = isinstance(fault.__cause__, ConnectionRefusedError)
             why = "nobody listens there" if refused else fault
             await self.tell_fault(f"{why}. It is tried again.")
+            if refused:
+                self.warn(self.fault)
 
     async def tell_fault(self, why: str) -> None:
         """Tells each page why the server can't be asked."""
@@ -187,6 +201,9 @@ class Following:
         self.serial += 1
         made = await asyncio.to_thread(Shown, self.serial, copy, self.wanted.in_process)
         self.shown = [made, *self.shown[:1]]
+        known = self.wanted.map
+        if known is not None and self.frame_of(made) is None:
+            self.warn(self.other_size(made, known))
         await self.tell("")
 
     def compare(self, copy: Copy) -> None:

@@ -124,6 +124,23 @@ class Tools(InBrowser):
         self.to(*cell).click().perform()
         self.until(lambda: self.button("publish").text == publish)
 
+    def test_publish_is_seen(self):
+        """In a window of 800 pixels without scrolling, and a long answer doesn't move it."""
+        self.open()
+        metrics = {"width": 1100, "height": 800, "deviceScaleFactor": 1, "mobile": False}
+        self.driver.execute_cdp_cmd("Emulation.setDeviceMetricsOverride", metrics)
+        self.addCleanup(self.driver.execute_cdp_cmd, "Emulation.clearDeviceMetricsOverride", {})
+        for lines in (1, 20):
+            self.driver.execute_script(
+                "document.getElementById('path').innerText = 'line\\n'.repeat(arguments[0])", lines
+            )
+            seen = self.driver.execute_script(
+                "const box = document.querySelector('[data-command=publish]')"
+                ".getBoundingClientRect();"
+                "return document.elementFromPoint(box.left + 9, box.bottom - 2)?.textContent"
+            )
+            self.assertEqual(seen, "Publish", lines)
+
     def test_the_middle_button_moves_the_map(self):
         """In every mode, and it draws nothing and adds no point."""
         self.open()
