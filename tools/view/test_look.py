@@ -152,10 +152,10 @@ class Look(InBrowser):
         """It lies between the cells where CLEAROF says that there is room, and those where not."""
         self.show(house(), "--radius", "1")  # (2 + sqrt 2)^2 is 11.7: four cells from a wall
         shot = self.shot()
-        self.assertEqual(self.pixel(shot, 4, 20, (0.02, 0.4)), CONTOUR)
-        left = [tuple(it) for it in shot[self.inside(2, 20, 4, 21)].reshape(-1, 3)]
-        self.assertNotIn(CONTOUR, left)
-        self.assertIn(CONTOUR_EDGE, left)
+        found = lambda *sides: [tuple(it) for it in shot[self.inside(*sides)].reshape(-1, 3)]
+        self.assertIn(CONTOUR, found(4, 20, 5, 21))
+        self.assertNotIn(CONTOUR, found(2, 20, 4, 21))
+        self.assertIn(CONTOUR_EDGE, found(3, 20, 5, 21))
         self.driver.find_element(By.ID, "radius").clear()
         self.driver.find_element(By.ID, "radius").send_keys("\n")
         self.until(lambda: not self.driver.find_element(By.ID, "needed").is_displayed())
@@ -175,7 +175,7 @@ class Look(InBrowser):
         field = self.driver.find_element(By.ID, "radius")
         field.clear()
         field.send_keys("1.5\n")  # (3 + sqrt 2)^2 is 19.5
-        self.until(lambda: "no room" in self.text("path"))
+        self.until(lambda: "may not fit" in self.text("path"))
         shot = self.shot()
         tight = [x for x in range(11, 50) if self.is_red(self.pixel(shot, x, 20))]
         self.assertEqual(tight, [29, 30, 31])  # up to 17 from the door's end in row 24

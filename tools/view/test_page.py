@@ -142,7 +142,7 @@ class Page(InBrowser):
         self.to(5, 3).click().perform()
         self.until(lambda: self.name("path") == "clear")
         self.to(2, 1).click().perform()
-        self.until(lambda: "in an obstacle; no room for the robot" in self.text("path"))
+        self.until(lambda: "in an obstacle; may not fit (safe rule); exactly: it hits" in self.text("path"))
         self.press_key(webdriver.Keys.BACKSPACE)
         self.until(lambda: self.name("path") == "clear")
 

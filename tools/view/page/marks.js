@@ -70,7 +70,7 @@ function rectangle(context, sight, { rect: [x0, y0, x1, y1], command }, isLost =
   context.setLineDash([]);
 }
 
-/** A path: red just where the robot has no room. The box of its label is returned. */
+/** A path: red just where the robot may not fit. The box of its label is returned. */
 function drawPath(context, sight, middle, path, uncounted) {
   edged(context, partsSeen(path.corners ?? [], sight), LIGHT, DARK, 2.5);
   const without = path.tight ?? (path.clear === false ? [path.corners] : []);
