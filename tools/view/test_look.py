@@ -17,9 +17,9 @@ except ImportError:
     Image = None
 
 WIDTH, HEIGHT = 60, 40
-OBSTACLE, UNKNOWN, BEYOND = (16, 18, 24), (124, 128, 138), (228, 230, 234)
+OBSTACLE, UNKNOWN = (16, 18, 24), (124, 128, 138)
 HATCH = (38, 40, 47)
-NEAREST, FARTHEST = (41, 52, 128), (250, 246, 179)
+BEYOND = (249, 246, 179)  # the colour of the scale's end
 CONTOUR, CONTOUR_EDGE = (255, 255, 255), (10, 16, 24)
 NO_ROOM = (215, 25, 28)
 
@@ -219,6 +219,17 @@ class Look(InBrowser):
             self.assertGreater(lightness(light[place]), 75, name)
             self.assertLess(lightness(dark[place]), 30, name)
         self.assertEqual(self.pixel(dark, 0, 20), (0, 0, 0))
+
+    def test_the_widest_places(self):
+        """They have the colour of the scale's end, as the legend says, in both themes."""
+        self.show(house(), "--radius", "1")
+        swatch = self.driver.find_element(By.ID, "far")
+        for scheme in ("light", "dark"):
+            self.media("prefers-color-scheme", scheme)
+            shot = self.shot()
+            self.assertEqual(self.pixel(shot, 15, 20, (0.5, 0.4)), BEYOND, scheme)
+            said = swatch.value_of_css_property("background-color")
+            self.assertEqual(said, "rgba(249, 246, 179, 1)", scheme)
 
     def test_narrow(self):
         """Under 700 pixels the panel is below the map, which is as wide as the window."""
