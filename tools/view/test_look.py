@@ -247,7 +247,7 @@ class Look(InBrowser):
         self.show(house())
         for place in ((0, 0), (799, 0), (0, 599), (799, 599), (400, 300)):
             call = f"it.boxAt({list(place)}, 150, {{ width: 800, height: 600 }})"
-            box = self.seen("marks.js", call)
+            box = self.seen("labels.js", call)
             inside = 44 <= box["x"] <= 650 and 50 <= box["y"] <= 600 - 24 - 22
             self.assertTrue(inside, (place, box))
 

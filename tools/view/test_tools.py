@@ -141,6 +141,16 @@ class Tools(InBrowser):
             )
             self.assertEqual(seen, "Publish", lines)
 
+    def test_publish_stands_out_only_where_something_waits(self):
+        self.open()
+        colour = lambda name: self.button(name).value_of_css_property("background-color")
+        self.assertEqual(colour("publish"), colour("revert"))
+        self.paint((5, 2), "Publish 1 change")
+        self.assertNotEqual(colour("publish"), colour("revert"))
+        self.press("publish")
+        self.until(lambda: self.button("publish").text == "Publish")
+        self.assertEqual(colour("publish"), colour("revert"))
+
     def test_the_middle_button_moves_the_map(self):
         """In every mode, and it draws nothing and adds no point."""
         self.open()

@@ -1,9 +1,9 @@
 // The panel next to the map: what is known of the server and of the draft, and the toast.
+import { hint } from "./hints.js";
 import { saidOfRuns } from "./runs.js";
 import { tellNew, tellNoView, tellOld } from "./strip.js";
 
 const by = (id) => document.getElementById(id);
-const NO_POINTS = "No points yet: press P, and click on the map.";
 const SHOWN_FOR = { news: 6000, refusal: 12000 }; // milliseconds
 
 let timer = 0;
@@ -43,6 +43,7 @@ function tellDraft({ drawn, lost, undo, said }, hasServer) {
   const count = drawn.length;
   const publish = document.querySelector("[data-command=publish]");
   const changes = count === 1 ? "1 change" : `${count} changes`;
+  publish.classList.toggle("first", count > 0);
   publish.textContent = count ? `Publish ${changes}` : "Publish";
   by("draft").textContent = said;
   by("undo").disabled = !undo || !hasServer;
@@ -91,7 +92,7 @@ export function tellPointed(text) {
 export function tellPath({ points, said, clear, long }, of, uncounted) {
   const shown = by("path");
   const known = said !== undefined && clear !== undefined;
-  shown.textContent = said === undefined ? NO_POINTS : said + of;
+  shown.textContent = said === undefined ? hint("path") : said + of;
   shown.className = !known || (clear && uncounted) ? "" : clear ? "clear" : "near";
   by("long").textContent = long ?? "";
   by("forget").disabled = points.length === 0;

@@ -1,4 +1,5 @@
 // The pointer: it moves the map, adds points, and draws rectangles.
+import { Fingers } from "./pinch.js";
 import { mode } from "./press.js";
 
 const MIDDLE = 1; // the button; the left one is 0
@@ -8,16 +9,25 @@ const STILL = 4; // pixels within which a press is a click
  * cell or null. */
 export function followPointer(canvas, sight, press, tell) {
   const cellAt = (event) => sight.cell(event.offsetX, event.offsetY);
+  const fingers = new Fingers(sight, tell.moved);
   const isOurs = (event) => event.isPrimary && press.now?.byPointer;
 
   /** The middle button moves the map, whatever the pointer does otherwise. */
   function pressed(event) {
+    if (fingers.come(event)) return pinched(event);
     if (!event.isPrimary || event.button > MIDDLE) return;
     canvas.setPointerCapture(event.pointerId);
     const { offsetX: x, offsetY: y, button } = event;
     const does = button === MIDDLE ? "look" : mode();
     press.begin(cellAt(event), { byPointer: true, does, x, y });
     tell.pointed(cellAt(event));
+  }
+
+  /** A second finger: what the first one began is dropped. */
+  function pinched({ pointerId }) {
+    canvas.setPointerCapture(pointerId);
+    press.drop();
+    tell.pointed(null);
   }
 
   function pans(event) {
@@ -29,7 +39,7 @@ export function followPointer(canvas, sight, press, tell) {
   }
 
   function moved(event) {
-    if (!event.isPrimary) return;
+    if (fingers.go(event) || !event.isPrimary) return;
     const cell = cellAt(event);
     if (isOurs(event) && event.buttons === 0) press.drop(); // its end wasn't heard of
     if (isOurs(event) && !press.draws) pans(event);
@@ -39,8 +49,14 @@ export function followPointer(canvas, sight, press, tell) {
 
   canvas.addEventListener("pointerdown", pressed);
   canvas.addEventListener("pointermove", moved);
-  document.addEventListener("pointerup", (event) => { if (isOurs(event)) press.release(); });
-  canvas.addEventListener("pointercancel", (event) => { if (isOurs(event)) press.drop(); });
+  document.addEventListener("pointerup", (event) => {
+    fingers.leave(event);
+    if (isOurs(event)) press.release();
+  });
+  canvas.addEventListener("pointercancel", (event) => {
+    fingers.leave(event);
+    if (isOurs(event)) press.drop();
+  });
   canvas.addEventListener("mousedown", (event) => {
     if (event.button === MIDDLE) event.preventDefault(); // no scrolling by itself
   });

@@ -2,6 +2,7 @@
 import { askPicture, follow } from "./ask.js";
 import { dark, fading, Scale } from "./colours.js";
 import { followButtons, give, undo } from "./commands.js";
+import { showHints } from "./hints.js";
 import { followKeys } from "./keys.js";
 import { drawLegend, endOf, firstRadius, roomOf } from "./legend.js";
 import { read, written } from "./link.js";
@@ -242,6 +243,8 @@ by("position").addEventListener("input", seen);
 by("forget").addEventListener("click", () => walk([]));
 by("link").addEventListener("click", copyLink);
 followButtons();
+showHints();
+questions.tellWay();
 dark.addEventListener("change", () => redraw());
 new ResizeObserver(resize).observe(by("marks"));
 window.clearmapView = { pixel: (x, y) => sight.pixel(x, y) }; // where a cell is, for tests
