@@ -6,6 +6,10 @@ const WORDS = {
     "No points yet: press P, and click on the map.",
     "No points yet: choose Path, and tap the map.",
   ],
+  points: [
+    "Drag a point to move it; a click on it with Shift or Alt, or Delete, takes it away.",
+    "Drag a point to move it; a long press takes it away.",
+  ],
   map: ["", "The map. Drag to move it; two fingers zoom."],
 };
 

@@ -2,6 +2,7 @@
 import { NO_ROOM } from "./colours.js";
 import { label, lengthSaid } from "./labels.js";
 import { edged, partsSeen } from "./lines.js";
+import { asDragged } from "./points.js";
 
 const DARK = "#12151c";
 const LIGHT = "#ffffff";
@@ -63,7 +64,9 @@ function drawPointed(context, sight, middle, { cell, obstacle, length }, version
 }
 
 /** Draws what lies over the picture. Where there is a draft, labels say what they are of. */
-export function drawMarks(context, sight, { drafts, lost, dragged, path, pointed }) {
+export function drawMarks(context, sight, page) {
+  const { drafts, lost, dragged, pointed } = page;
+  const path = asDragged(page.path, page.moving);
   const middle = ([x, y]) => sight.pixel(x + 0.5, y + 0.5);
   const of = ({ version }) => (drafts.length ? version : undefined);
   for (const drawn of lost) rectangle(context, sight, drawn, true);

@@ -95,5 +95,6 @@ export function tellPath({ points, said, clear, long }, of, uncounted) {
   shown.textContent = said === undefined ? hint("path") : said + of;
   shown.className = !known || (clear && uncounted) ? "" : clear ? "clear" : "near";
   by("long").textContent = long ?? "";
+  by("how").textContent = points.length ? hint("points") : "";
   by("forget").disabled = points.length === 0;
 }

@@ -10,7 +10,8 @@ import { drawMarks } from "./marks.js";
 import { say, tellLost, tellState, unitOf, wait } from "./panel.js";
 import { Picture } from "./pieces.js";
 import { followPointer } from "./pointer.js";
-import { choose, isDrawing, Press } from "./press.js";
+import { pointAt, withMoved, without } from "./points.js";
+import { choose, isDrawing, mode, Press } from "./press.js";
 import { Questions } from "./questions.js";
 import { drawPicture } from "./raster.js";
 import { drawRulers, Frame } from "./rulers.js";
@@ -22,7 +23,8 @@ const FINEST = 3; // pixels of a robot's radius at which the contour is drawn
 const sight = new Sight();
 const page = {
   state: {}, unit: "", picture: null, room: { needed: null, radius: null }, frame: null,
-  linked: false, pointed: null, path: { points: [] }, drafts: [], lost: [], dragged: null,
+  linked: false, pointed: null, path: { points: [] }, drafts: [], lost: [],
+  dragged: null, moving: null,
   get metric() { return by("metric").value; },
   get radius() { return by("radius").value.trim(); },
   get position() { return Number(by("position").value); },
@@ -193,6 +195,14 @@ function walk(points) {
   keep();
 }
 
+/** Takes the point away that is pointed at, where the pointer is for paths. */
+function erase() {
+  const cell = page.pointed?.cell;
+  if (!cell || mode() !== "path") return;
+  const found = tell.point(sight.pixel(cell.x + 0.5, cell.y + 0.5));
+  if (found >= 0) walk(without(page.path.points, found));
+}
+
 function seen() {
   redraw();
   keep();
@@ -217,14 +227,21 @@ async function copyLink() {
 const press = new Press({
   clicked: (cell) => walk([...page.path.points, cell]),
   dragged(rectangle) {
-    page.dragged = rectangle;
+    Object.assign(page, { dragged: rectangle, moving: null });
     redraw("marks");
   },
+  moving(point, cell) {
+    page.moving = { point, cell };
+    redraw("marks");
+  },
+  moved: (point, cell) => walk(withMoved(page.path.points, point, cell)),
+  erased: (point) => walk(without(page.path.points, point)),
   drawn: ({ command, rect }) => give(command, { rect }),
 });
 const tell = {
   moved: seen,
   cell: () => page.pointed?.cell ?? null,
+  point: (place, kind) => pointAt(page.path.points, sight, place, kind),
   pointed(cell, byKeys = false) {
     const { pointed } = page;
     const same = cell?.x === pointed?.cell.x && cell?.y === pointed?.cell.y;
@@ -236,7 +253,7 @@ const tell = {
 };
 followPointer(by("marks"), sight, press, tell);
 const shorter = () => walk(page.path.points.slice(0, -1));
-followKeys(by("marks"), sight, press, tell, { Backspace: shorter, Undo: undo });
+followKeys(by("marks"), sight, press, tell, { Backspace: shorter, Delete: erase, Undo: undo });
 by("metric").addEventListener("change", () => { showNewest(); keep(); });
 by("radius").addEventListener("change", fieldsChanged);
 by("position").addEventListener("input", seen);
