@@ -53,7 +53,7 @@ function tellDraft({ drawn, lost, undo, said }, hasServer) {
 }
 
 /** Words that may be none: then nothing is shown. */
-function put(id, text) {
+export function put(id, text) {
   by(id).textContent = text;
   by(id).hidden = !text;
 }

@@ -7,8 +7,9 @@ import { followKeys } from "./keys.js";
 import { drawLegend, endOf, firstRadius, roomOf } from "./legend.js";
 import { read, written } from "./link.js";
 import { drawMarks } from "./marks.js";
-import { say, tellLost, tellState, unitOf, wait } from "./panel.js";
+import { put as putWords, say, tellLost, tellState, unitOf, wait } from "./panel.js";
 import { Picture } from "./pieces.js";
+import { followPlace, read as readPlace, showUnit } from "./places.js";
 import { followPointer } from "./pointer.js";
 import { pointAt, withMoved, without } from "./points.js";
 import { choose, isDrawing, mode, Press } from "./press.js";
@@ -148,6 +149,7 @@ function takeLink() {
 /** The fields as the link has them, or else as the command line does. */
 function fillFields({ radius, resolution, width, height }) {
   page.unit = unitOf({ resolution });
+  showUnit(by("place"), page.unit);
   const found = read(location.hash, { width, height, unit: page.unit });
   by("radius").value = found.radius ?? (radius || firstRadius(resolution));
   if (found.position >= 2 && found.position <= 21) by("position").value = found.position;
@@ -193,6 +195,18 @@ function walk(points) {
   page.path = { points };
   questions.way();
   keep();
+}
+
+/** Shows a cell in the middle, and aims at it. */
+function goTo(cell) {
+  sight.show([cell.x + 0.5, cell.y + 0.5], sight.scale);
+  tell.pointed(cell, true);
+  seen();
+}
+
+function readCell(text) {
+  if (!page.frame) throw new Error("There is no map yet.");
+  return readPlace(text, page.frame, sight);
 }
 
 /** Takes the point away that is pointed at, where the pointer is for paths. */
@@ -254,6 +268,9 @@ const tell = {
 followPointer(by("marks"), sight, press, tell);
 const shorter = () => walk(page.path.points.slice(0, -1));
 followKeys(by("marks"), sight, press, tell, { Backspace: shorter, Delete: erase, Undo: undo });
+followPlace(by("place"), {
+  read: readCell, go: goTo, fault: (said) => putWords("astray", said),
+});
 by("metric").addEventListener("change", () => { showNewest(); keep(); });
 by("radius").addEventListener("change", fieldsChanged);
 by("position").addEventListener("input", seen);
