@@ -49,7 +49,7 @@ function tellDraft({ drawn, lost, undo, said }, hasServer) {
   by("undo").disabled = !undo || !hasServer;
   by("undo").dataset.place = drawn.at(-1)?.place;
   by("forget-lost").hidden = by("forget-lost").disabled = lost.length === 0;
-  by("gone").hidden = lost.length === 0;
+  by("gone").hidden = by("redraw").hidden = lost.length === 0;
 }
 
 /** Words that may be none: then nothing is shown. */
