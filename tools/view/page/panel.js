@@ -34,7 +34,7 @@ export function tellLost(picture, seconds) {
 
 /** Which buttons do something: those of a picture, and those that change a server's map. */
 function enable(hasPicture, hasServer) {
-  for (const button of document.querySelectorAll("#modes button, #zoom button, #link"))
+  for (const button of document.querySelectorAll("#modes button, #zoom button, #link, #save"))
     button.disabled = !hasPicture || (button.classList.contains("changes") && !hasServer);
   for (const button of document.querySelectorAll("[data-command]")) button.disabled = !hasServer;
 }

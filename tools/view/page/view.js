@@ -17,6 +17,7 @@ import { Questions } from "./questions.js";
 import { drawPicture } from "./raster.js";
 import { drawRulers, Frame } from "./rulers.js";
 import { isAnotherRun, newsOfRun } from "./runs.js";
+import { fileName, savePicture } from "./save.js";
 import { Sight } from "./sight.js";
 
 const by = (id) => document.getElementById(id);
@@ -238,6 +239,12 @@ async function copyLink() {
   say(copied ? `The link is copied: ${what}` : `Copy the page's address: ${what}`);
 }
 
+function save() {
+  const name = fileName(page.state.name, page.picture.version);
+  savePicture([by("picture"), by("marks")], name).then(
+    () => say(`The picture is saved as ${name}.`), ({ message }) => say(message, true));
+}
+
 const press = new Press({
   clicked: (cell) => walk([...page.path.points, cell]),
   dragged(rectangle) {
@@ -276,6 +283,7 @@ by("radius").addEventListener("change", fieldsChanged);
 by("position").addEventListener("input", seen);
 by("forget").addEventListener("click", () => walk([]));
 by("link").addEventListener("click", copyLink);
+by("save").addEventListener("click", save);
 followButtons();
 showHints();
 questions.tellWay();
