@@ -5,6 +5,7 @@ import sys
 import time
 from typing import Callable, Dict, List, NamedTuple, Optional, Sequence, Set, Tuple, TypeVar, Union
 
+import changes
 import clearmap
 import clearmap_ros as ros
 import picture
@@ -45,6 +46,7 @@ class Following:
         self.draft = Draft()
         self.watched = Watched(wanted.port, self.draft.lost)
         self.shown: List[Shown] = []  # the newest, and the one before it
+        self.changed: Optional[Dict[str, object]] = None
         self.pinned = (0, 0)
         self.serial, self.seen = 0, clock()
         self.fault = f"The server at port {wanted.port} is being asked."
@@ -78,6 +80,7 @@ class Following:
         told.update(width=shown.width, height=shown.height, edge=shown.edge)
         told["resolution"] = float(frame.resolution) if frame else None
         told["origin"] = [float(frame.origin_x), float(frame.origin_y)] if frame else None
+        told["changes"] = self.changed
         in_its_unit = frame is not None or known is None
         told["radius"] = self.wanted.radius if in_its_unit else ""
         if known is not None and frame is None:
@@ -200,6 +203,8 @@ class Following:
         await asyncio.to_thread(self.compare, copy)
         self.serial += 1
         made = await asyncio.to_thread(Shown, self.serial, copy, self.wanted.in_process)
+        before = self.shown[0] if self.shown else None
+        self.changed = await asyncio.to_thread(changes.counts, before, made)
         self.shown = [made, *self.shown[:1]]
         known = self.wanted.map
         if known is not None and self.frame_of(made) is None:

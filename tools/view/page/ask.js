@@ -27,6 +27,7 @@ function post(path, body) {
 const words = (named) => new URLSearchParams(named).toString();
 
 export const askPicture = (metric) => answer(`picture/${metric}`);
+export const askChanged = (serial) => answer(`changed/${serial}`);
 export const askAt = (metric, { x, y }) => answer(`at?${words({ metric, x, y })}`);
 export const askRoom = (metric, radius, unit) => answer(`room?${words({ metric, radius, unit })}`);
 export const askPath = (metric, cells, radius, unit) =>

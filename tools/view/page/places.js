@@ -1,4 +1,6 @@
 // The field that the map goes to a place by: in metres of the yaml's frame, or in cells.
+import { put } from "./panel.js";
+
 const NUMBER = "[-+]?(?:\\d+\\.?\\d*|\\.\\d+)";
 const PLACE = new RegExp(`^\\s*\\(?\\s*(${NUMBER})\\s*[,;\\s]\\s*(${NUMBER})\\s*\\)?\\s*$`);
 const CLOSE = 1e-9; // cells: a decimal on the border of two is in the one that it begins
@@ -20,7 +22,7 @@ function extent(frame, width, height) {
 }
 
 /** The cell that a text names. A text that names none is thrown with a sentence that says why. */
-export function read(text, frame, { mapWidth, mapHeight }) {
+function read(text, frame, { mapWidth, mapHeight }) {
   const found = PLACE.exec(text);
   const what = frame.metres ? "x and y in metres, as 1.5, -0.4" : "a column and a row, as 12, 40";
   if (!found) throw new Error(`'${text.trim().slice(0, 40)}' is no place: that is ${what}.`);
@@ -36,17 +38,17 @@ export function showUnit(field, unit) {
   field.setAttribute("aria-label", `Go to a place: x, y in ${unit}`);
 }
 
-/** Goes to the place that is entered in a field; `go` is called with its cell, and `fault` with a
- * sentence, or with an empty text. */
-export function followPlace(field, { read: reads, go, fault }) {
+/** Goes to the place that is entered in the field; `go` is called with its cell. */
+export function followPlace(page, sight, go) {
+  const field = document.getElementById("place");
   const tell = (said) => {
     field.setAttribute("aria-invalid", String(Boolean(said)));
-    fault(said);
+    put("astray", said);
   };
   field.addEventListener("keydown", (event) => {
-    if (event.key !== "Enter" || !field.value.trim()) return;
+    if (event.key !== "Enter" || !field.value.trim() || !page.frame) return;
     try {
-      go(reads(field.value));
+      go(read(field.value, page.frame, sight));
       tell("");
     } catch ({ message }) {
       tell(message);

@@ -1,4 +1,7 @@
 // What is seen as a picture to keep.
+import { say } from "./panel.js";
+
+const by = (id) => document.getElementById(id);
 
 /** The name of a picture's file: of the map, and of the version that is shown. */
 export function fileName(name, version) {
@@ -19,7 +22,7 @@ function together(canvases, ground) {
 }
 
 /** Has the browser save what canvases show as a PNG of this name. */
-export async function savePicture(canvases, name) {
+async function savePicture(canvases, name) {
   const ground = getComputedStyle(canvases[0].parentElement).backgroundColor;
   const whole = together(canvases, ground);
   const data = await new Promise((settle) => whole.toBlob(settle, "image/png"));
@@ -28,4 +31,13 @@ export async function savePicture(canvases, name) {
   Object.assign(link, { href: URL.createObjectURL(data), download: name });
   link.click();
   setTimeout(() => URL.revokeObjectURL(link.href), 10_000);
+}
+
+/** Saves a picture of the page by a button. */
+export function followSave(page) {
+  by("save").addEventListener("click", () => {
+    const name = fileName(page.state.name, page.picture.version);
+    savePicture([by("picture"), by("marks")], name).then(
+      () => say(`The picture is saved as ${name}.`), ({ message }) => say(message, true));
+  });
 }

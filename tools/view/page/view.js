@@ -1,15 +1,16 @@
 // The page: it follows the versions of a server, and does what pointer, keys and buttons say.
 import { askPicture, follow } from "./ask.js";
+import { Changes } from "./changes.js";
 import { dark, fading, Scale } from "./colours.js";
 import { followButtons, give, undo } from "./commands.js";
 import { showHints } from "./hints.js";
 import { followKeys } from "./keys.js";
 import { drawLegend, endOf, firstRadius, roomOf } from "./legend.js";
-import { read, written } from "./link.js";
+import { followLink, read, written } from "./link.js";
 import { drawMarks } from "./marks.js";
-import { put as putWords, say, tellLost, tellState, unitOf, wait } from "./panel.js";
+import { say, tellLost, tellState, unitOf, wait } from "./panel.js";
 import { Picture } from "./pieces.js";
-import { followPlace, read as readPlace, showUnit } from "./places.js";
+import { followPlace, showUnit } from "./places.js";
 import { followPointer } from "./pointer.js";
 import { pointAt, withMoved, without } from "./points.js";
 import { choose, isDrawing, mode, Press } from "./press.js";
@@ -17,7 +18,7 @@ import { Questions } from "./questions.js";
 import { drawPicture } from "./raster.js";
 import { drawRulers, Frame } from "./rulers.js";
 import { isAnotherRun, newsOfRun } from "./runs.js";
-import { fileName, savePicture } from "./save.js";
+import { followSave } from "./save.js";
 import { Sight } from "./sight.js";
 
 const by = (id) => document.getElementById(id);
@@ -32,6 +33,7 @@ const page = {
   get position() { return Number(by("position").value); },
 };
 const questions = new Questions(page, () => redraw("marks"));
+const changes = new Changes(() => redraw("marks"));
 
 // ---- drawing
 
@@ -50,6 +52,7 @@ function draw() {
   const context = by("marks").getContext("2d");
   context.setTransform(devicePixelRatio, 0, 0, devicePixelRatio, 0, 0);
   context.clearRect(0, 0, sight.width, sight.height);
+  changes.draw(context, sight, page.picture);
   drawMarks(context, sight, page);
   drawRulers(context, sight, page.frame, page.picture.edge);
 }
@@ -177,6 +180,7 @@ function take(state) {
   page.drafts = state.draft.drawn;
   page.lost = state.draft.lost;
   tellState(state, page.picture);
+  changes.take(state);
   questions.tell();
   if (state.fault) stopDrawing();
   if (!state.fault) showNewest();
@@ -205,11 +209,6 @@ function goTo(cell) {
   seen();
 }
 
-function readCell(text) {
-  if (!page.frame) throw new Error("There is no map yet.");
-  return readPlace(text, page.frame, sight);
-}
-
 /** Takes the point away that is pointed at, where the pointer is for paths. */
 function erase() {
   const cell = page.pointed?.cell;
@@ -229,20 +228,6 @@ async function fieldsChanged() {
   page.room = needed;
   questions.way();
   seen();
-}
-
-async function copyLink() {
-  keep();
-  await new Promise((settle) => setTimeout(settle, 250));
-  const copied = await navigator.clipboard.writeText(location.href).then(() => true, () => false);
-  const what = "it keeps the view and the path.";
-  say(copied ? `The link is copied: ${what}` : `Copy the page's address: ${what}`);
-}
-
-function save() {
-  const name = fileName(page.state.name, page.picture.version);
-  savePicture([by("picture"), by("marks")], name).then(
-    () => say(`The picture is saved as ${name}.`), ({ message }) => say(message, true));
 }
 
 const press = new Press({
@@ -275,15 +260,14 @@ const tell = {
 followPointer(by("marks"), sight, press, tell);
 const shorter = () => walk(page.path.points.slice(0, -1));
 followKeys(by("marks"), sight, press, tell, { Backspace: shorter, Delete: erase, Undo: undo });
-followPlace(by("place"), {
-  read: readCell, go: goTo, fault: (said) => putWords("astray", said),
-});
+followPlace(page, sight, goTo);
 by("metric").addEventListener("change", () => { showNewest(); keep(); });
 by("radius").addEventListener("change", fieldsChanged);
 by("position").addEventListener("input", seen);
+by("show-changes").addEventListener("change", () => changes.take(page.state));
 by("forget").addEventListener("click", () => walk([]));
-by("link").addEventListener("click", copyLink);
-by("save").addEventListener("click", save);
+followLink(keep);
+followSave(page);
 followButtons();
 showHints();
 questions.tellWay();
