@@ -61,7 +61,10 @@ def free_along(
 
 def free_said(free: float, unit: Unit) -> str:
     """Room in words: of 0 that it hits."""
-    if free == 0:
-        return "exactly: it hits"
-    parts = math.floor(Fraction(free) * unit.parts + SLACK)
-    return f"exactly {unit.told(parts) if parts else 'less than ' + unit.told(1)} {unit.name} free"
+    return f"exactly {length_said(free, unit)} free" if free else "exactly: it hits"
+
+
+def length_said(length: float, unit: Unit) -> str:
+    """A length that is exact, rounded down."""
+    parts = math.floor(Fraction(length) * unit.parts + SLACK)
+    return f"{unit.told(parts) if parts else 'less than ' + unit.told(1)} {unit.name}"

@@ -11,6 +11,7 @@ import clearmap_ros as ros
 import picture
 import tables
 from draft import Draft
+from outlines import corners
 from shown import Copy, Shown, clock
 from watched import AFTER_A_QUESTION, PATIENCE, Watched
 from yaml_map import YamlMap
@@ -31,6 +32,7 @@ class Wanted(NamedTuple):
     map: Optional[YamlMap] = None
     radius: str = ""
     read_only: bool = False
+    footprint: Sequence[Tuple[str, str]] = ()  # as --radius in metres with a map, else in cells
 
 
 class NothingShown(Exception):
@@ -81,11 +83,16 @@ class Following:
         told["resolution"] = float(frame.resolution) if frame else None
         told["origin"] = [float(frame.origin_x), float(frame.origin_y)] if frame else None
         told["changes"] = self.changed
+        told["footprint"] = corners(self.outline(frame), frame)
         in_its_unit = frame is not None or known is None
         told["radius"] = self.wanted.radius if in_its_unit else ""
         if known is not None and frame is None:
             told["notice"] = self.other_size(shown, known)
         return told
+
+    def outline(self, frame: Optional[ros.Frame]) -> Sequence[Tuple[str, str]]:
+        """The robot's outline: none if it is in metres, and the map isn't."""
+        return () if frame is None and self.wanted.map is not None else self.wanted.footprint
 
     def other_size(self, shown: Shown, known: YamlMap) -> str:
         """What is said of a served map whose size the yaml's image doesn't have."""

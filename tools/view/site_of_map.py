@@ -15,6 +15,7 @@ from asking import Asking
 from bodies import BadRequest
 from changing import Changing
 from following import Following, NothingShown, Wanted
+from robot import Robot
 from watched import in_words
 
 PAGE = pathlib.Path(__file__).resolve().parent / "page"
@@ -48,7 +49,7 @@ class Site:
     def application(self) -> web.Application:
         """The routes; the guard sees each request before them."""
         site = web.Application(middlewares=[self.guard])
-        asking = Asking(self.following)
+        asking, robot = Asking(self.following), Robot(self.following)
         parts = "|".join(sorted(path.name for path in PAGE.iterdir() if path.suffix in TYPES))
         numbers = "/".join(f"{{{name}:\\d{{1,6}}}}" for name in ("level", "column", "row"))
         site.router.add_get("/", self.index)
@@ -59,6 +60,7 @@ class Site:
         site.router.add_get("/changed/{serial:\\d{1,9}}", self.changed)
         site.router.add_get("/at", asking.at)
         site.router.add_get("/room", asking.room)
+        site.router.add_get("/robot", robot.at)
         site.router.add_post("/path", asking.path)
         site.router.add_post("/change", self.changing.change)
         site.router.add_post("/forget", self.changing.forget)

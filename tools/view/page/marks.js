@@ -56,14 +56,15 @@ function drawAim(context, [x, y], half) {
 }
 
 function drawPointed(context, sight, middle, { cell, obstacle, length }, version, other) {
-  if (!obstacle) return;
+  if (!obstacle) return null;
   const ends = [middle([cell.x, cell.y]), middle(obstacle)];
   edged(context, [ends], DARK, LIGHT, 2);
   dot(context, ends[1], 4.5, "#ffc233", DARK);
-  label(context, sight, ends[0], lengthSaid(sight, length, version), { other });
+  return label(context, sight, ends[0], lengthSaid(sight, length, version), { other });
 }
 
-/** Draws what lies over the picture. Where there is a draft, labels say what they are of. */
+/** Draws what lies over the picture. Where there is a draft, labels say what they are of. The box
+ * of the last label is returned. */
 export function drawMarks(context, sight, page) {
   const { drafts, lost, dragged, pointed } = page;
   const path = asDragged(page.path, page.moving);
@@ -74,5 +75,6 @@ export function drawMarks(context, sight, page) {
   const other = drawPath(context, sight, middle, path, of(path));
   if (pointed?.byKeys)
     drawAim(context, middle([pointed.cell.x, pointed.cell.y]), Math.max(sight.scale / 2, AIM));
-  if (pointed) drawPointed(context, sight, middle, pointed, of(pointed), other);
+  if (!pointed) return other;
+  return drawPointed(context, sight, middle, pointed, of(pointed), other) ?? other;
 }

@@ -59,6 +59,8 @@ export function followPointer(canvas, sight, press, tell) {
     if (isOurs(event) && event.buttons === 0) press.drop(); // its end wasn't heard of
     if (isOurs(event) && press.holdsPoint) {
       if (cell && !isStill(event)) press.takePoint(cell);
+    } else if (isOurs(event) && press.turns) {
+      if (!isStill(event)) press.turn(sight.place(event.offsetX, event.offsetY));
     } else if (isOurs(event) && !press.draws) pans(event);
     else if (isOurs(event) && press.now.cell && cell) press.to(cell);
     canvas.classList.toggle("on-point", mode() === "path" && pointOf(event) >= 0);

@@ -17,6 +17,7 @@ import { choose, isDrawing, mode, Press } from "./press.js";
 import { Questions } from "./questions.js";
 import { drawPicture } from "./raster.js";
 import { drawRulers, Frame } from "./rulers.js";
+import { Robot } from "./robot.js";
 import { isAnotherRun, newsOfRun } from "./runs.js";
 import { followSave } from "./save.js";
 import { Sight } from "./sight.js";
@@ -34,6 +35,7 @@ const page = {
 };
 const questions = new Questions(page, () => redraw("marks"));
 const changes = new Changes(() => redraw("marks"));
+const robot = new Robot(page, () => redraw("marks"));
 
 // ---- drawing
 
@@ -53,7 +55,7 @@ function draw() {
   context.setTransform(devicePixelRatio, 0, 0, devicePixelRatio, 0, 0);
   context.clearRect(0, 0, sight.width, sight.height);
   changes.draw(context, sight, page.picture);
-  drawMarks(context, sight, page);
+  robot.draw(context, sight, drawMarks(context, sight, page));
   drawRulers(context, sight, page.frame, page.picture.edge);
 }
 
@@ -126,6 +128,7 @@ function fitTo({ width, height }) {
   if (other) sight.fit();
   if (other) press.drop(); // it began on another map
   if (other && page.picture) page.path = { points: [] };
+  if (other) robot.lift();
   if (!page.linked) takeLink();
 }
 
@@ -136,6 +139,7 @@ function put(picture, needed) {
   redraw();
   if (page.pointed) questions.point();
   questions.way();
+  if (robot.shown) robot.ask();
   if (needed.of !== asked()) fieldsChanged();
 }
 
@@ -182,6 +186,7 @@ function take(state) {
   tellState(state, page.picture);
   changes.take(state);
   questions.tell();
+  if (robot.shown) robot.ask();
   if (state.fault) stopDrawing();
   if (!state.fault) showNewest();
   redraw("marks");
@@ -227,6 +232,7 @@ async function fieldsChanged() {
   if (needed.of !== asked() || page.metric !== page.picture?.metric) return;
   page.room = needed;
   questions.way();
+  if (robot.shown) robot.ask();
   seen();
 }
 
@@ -234,6 +240,7 @@ const press = new Press({
   clicked: (cell) => walk([...page.path.points, cell]),
   dragged(rectangle) {
     Object.assign(page, { dragged: rectangle, moving: null });
+    if (!rectangle) robot.end(false);
     redraw("marks");
   },
   moving(point, cell) {
@@ -241,6 +248,11 @@ const press = new Press({
     redraw("marks");
   },
   moved: (point, cell) => walk(withMoved(page.path.points, point, cell)),
+  turns: (cell, place) => robot.turn(cell, place),
+  stands(cell, isTurned) {
+    if (isTurned) robot.end(true);
+    else robot.put(cell);
+  },
   erased: (point) => walk(without(page.path.points, point)),
   drawn: ({ command, rect }) => give(command, { rect }),
 });
@@ -265,6 +277,7 @@ by("metric").addEventListener("change", () => { showNewest(); keep(); });
 by("radius").addEventListener("change", fieldsChanged);
 by("position").addEventListener("input", seen);
 by("show-changes").addEventListener("change", () => changes.take(page.state));
+by("lift").addEventListener("click", () => robot.lift());
 by("forget").addEventListener("click", () => walk([]));
 followLink(keep);
 followSave(page);
