@@ -21,8 +21,8 @@ filled = sed 's|@PREFIX@|$(PREFIX)|; s|@LIBDIR@|$(LIBDIR:$(PREFIX)/%=$${prefix}/
 pages = clearmap.1 clearmap-backup.1 clearmap-gateway.1 clearmap-publish.1 clearmap-ros.1 \
     clearmap-ros-node.1 clearmap-view.1
 client = $(notdir $(wildcard clients/python/clearmap/*.py)) py.typed
-view = asking.py bodies.py changing.py draft.py following.py paths.py picture.py shown.py \
-    site_of_map.py tables.py watched.py wording.py yaml_map.py $(wildcard tools/view/page/*)
+view = asking.py bodies.py changes.py changing.py draft.py exact.py following.py outlines.py \
+    paths.py picture.py robot.py shown.py site_of_map.py tables.py watched.py wording.py yaml_map.py $(wildcard tools/view/page/*)
 ros = clearmap_answers.py clearmap_costmap.py clearmap_draft.py clearmap_feed.py \
     clearmap_follow.py clearmap_grid.py clearmap_layers.py clearmap_messages.py \
     clearmap_order.py clearmap_server.py

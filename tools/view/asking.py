@@ -9,6 +9,7 @@ from aiohttp import web
 
 import clearmap
 import clearmap_ros as ros
+import exact
 import paths
 import picture
 from bodies import BadRequest, Cell, body_of, cell_of_query, metric_of, points_of
@@ -23,14 +24,22 @@ UNKNOWN = "unknown, counted as an obstacle"
 
 
 class Way(NamedTuple):
-    """What a version answers about a path: its tightest cell, and the first without room."""
+    """What a version answers about a path: its tightest cell, the first without room by the safe
+    rule, and the exact room."""
 
     tight: Optional[clearmap.Tightest]
     near: Optional[clearmap.Tightest]
+    free: Optional[float] = None
 
 
-def way(corners: Sequence[Cell], metric: str, needed: Optional[int]) -> Callable[[Answers], Way]:
-    """The question about a path, of any length."""
+Free = Callable[[clearmap.Map], Optional[float]]
+
+
+def way(
+    corners: Sequence[Cell], metric: str, needed: Optional[int], free: Free
+) -> Callable[[Answers], Way]:
+    """The question about a path, of any length. A version of this process is asked for the exact
+    room too, where the metric is straight."""
 
     def question(version: Answers) -> Way:
         pieces = list(ros.pieces(corners))
@@ -39,13 +48,15 @@ def way(corners: Sequence[Cell], metric: str, needed: Optional[int]) -> Callable
         if needed is None:
             return Way(tight, None)
         nears = (version.clear_of(needed, piece, metric) for piece in pieces)
-        return Way(tight, next((it for it in nears if it), None))
+        near = next((it for it in nears if it), None)
+        is_exact = isinstance(version, clearmap.Map) and metric == clearmap.EUCLID2
+        return Way(tight, near, free(version) if is_exact else None)  # type: ignore[arg-type]
 
     return question
 
 
 def tight_parts(made: picture.Picture, cells: "Walk", needed: int) -> List[List[Cell]]:
-    """The parts of a path without room, each by its corners."""
+    """The parts of a path without room by the safe rule, each by its corners."""
     runs = picture.tight_runs(cells, made.distance(cells), needed)
     return [paths.corners(run) for run in runs]
 
@@ -97,6 +108,17 @@ class Asking:
             length = counted(needed, "step")
         return f"{length} needed, middle to middle"
 
+    def share(self, distance: int, needed: int, metric: str) -> str:
+        """A distance of the needed one: rounded down, and that up, unless it is enough."""
+        unit = exact.unit_of(self.following.frame_of(self.following.newest()), metric)
+        if metric == "euclid2":
+            there, wanted = unit.below(ros.root_below(distance)), unit.above(root_above(needed))
+        else:
+            there, wanted = unit.below(Fraction(distance)), unit.above(Fraction(needed))
+        if distance >= needed:
+            wanted = min(wanted, there)
+        return f"{unit.told(there)} of {unit.told(wanted)} {unit.name}"
+
     def is_unknown(self, cell: Cell) -> bool:
         """Whether the yaml's image has a cell, and doesn't know it."""
         known, frame = self.following.wanted.map, self.following.frame_of(self.following.newest())
@@ -132,17 +154,20 @@ class Asking:
     # ---- a path
 
     async def path(self, request: web.Request) -> web.Response:
-        """The tightest cell along points that were clicked, and where a robot has no room."""
+        """The tightest cell along points that were clicked, and where a robot may not fit."""
         body = await body_of(request)
         metric, points = metric_of(body.get("metric")), points_of(body)
-        needed = self.needed(body.get("radius"), metric, body.get("unit"))
+        radius = body.get("radius")
+        needed = self.needed(radius, metric, body.get("unit"))
+        frame = self.following.frame_of(self.following.newest())
         async with self.walking:
-            told = await self.walked(points, metric, needed)
+            free = exact.free_along(frame, points, str(radius))
+            told = await self.walked(points, metric, needed, free)
             text = await asyncio.to_thread(json.dumps, told)
         return web.Response(text=text, content_type="application/json")
 
     async def walked(
-        self, points: Sequence[Cell], metric: str, needed: Optional[int]
+        self, points: Sequence[Cell], metric: str, needed: Optional[int], free: Free
     ) -> Dict[str, object]:
         """What is told of a path."""
         shown = self.following.newest()
@@ -150,7 +175,7 @@ class Asking:
             raise BadRequest("a point isn't on the map")
         cells = await asyncio.to_thread(paths.walk, points)
         corners = await asyncio.to_thread(paths.corners, cells)
-        version, found = await self.following.asked(way(corners, metric, needed))
+        version, found = await self.following.asked(way(corners, metric, needed, free))
         told = {"version": version, "corners": corners, **self.answer(found, needed, metric)}
         told["long"] = self.long(points)
         if found.near is not None and version == shown.version:
@@ -167,20 +192,20 @@ class Asking:
 
     def answer(self, found: Way, needed: Optional[int], metric: str) -> Dict[str, object]:
         """What the page shows of a path's answers."""
-        tight, near = found
+        tight, near, free = found
         if tight is None:
             return {"clear": True, "said": "the map has no obstacle"}
         length = self.length(tight.distance, metric, tight.cell)
+        if needed is not None and tight.distance:
+            length = self.share(tight.distance, needed, metric)
         told: Dict[str, object] = {"tightest": tight.cell, "obstacle": tight.obstacle}
         told.update(distance=tight.distance, length=label(length))
         said = f"tightest at {self.place(tight.cell)}: {length}"
         if needed is not None:
             told["clear"] = near is None
-            if near is None:
-                said += "; the robot has room"
-            else:
-                said += f"; no room for the robot, first at {self.place(near.cell)}"
-                said += f": {self.needed_length(needed, metric)}"
+            said += "; the robot has room" if near is None else "; may not fit (safe rule)"
+            unit = exact.unit_of(self.following.frame_of(self.following.newest()))
+            said += "" if free is None else f"; {exact.free_said(free, unit)}"
         return {**told, "said": said}
 
     # ---- a robot's radius

@@ -19,6 +19,7 @@ UNDO = (
     " rectangles from here"
 )
 LEAVING = ("collect", "checkpoint")  # commands that leave the draft and the versions' maps
+OFF_THE_MAP = (1, 12)  # refusals
 FOREIGN = "The last rectangle was drawn on another page, or before this one was loaded"
 
 
@@ -33,6 +34,27 @@ def drawing(draft: Draft, name: str, sides: Sequence[int], page: str) -> Command
         draft.drew(name, sides, done.place, page)
         changed = f"{counted(done.changed, 'cell')} of the draft {name}ed"
         return f"{changed}, place {done.place} of the log."
+
+    return call
+
+
+def drawing_again(draft: Draft, page: str) -> Command:
+    """Draws what was lost again, in the same order. What lies off the map stays lost, and the first
+    other refusal ends it."""
+
+    def call(client: clearmap.Client) -> str:
+        lost, drawn, why = draft.are_lost, 0, ""
+        for it in lost:
+            draw = clearmap.Client.paint if it.command == "paint" else clearmap.Client.clear
+            x0, y0, x1, y1 = it.rect
+            try:
+                draft.drew_again(it, draw(client, x0, y0, x1, y1).place, page)
+                drawn += 1
+            except clearmap.Refused as refusal:
+                why = f" {in_words(refusal)}"
+                if refusal.number not in OFF_THE_MAP:
+                    break
+        return f"{drawn} of {counted(len(lost), 'lost rectangle')} drawn again.{why}"
 
     return call
 
@@ -98,6 +120,8 @@ class Changing:
         name, draft = str(body.get("command")), self.following.draft
         if name in ("paint", "clear"):
             return drawing(draft, name, rectangle_of(body.get("rect")), page_of(body))
+        if name == "redraw":
+            return drawing_again(draft, page_of(body))
         if name == "undo":
             return undoing(self.following, place_of(body))
         if name not in commands(draft):

@@ -2,7 +2,8 @@
 """Shows the map of a running `clearmap serve` as a page in the browser: obstacles over a map of
 distances, which follows the newest version.
 
-    clearmap-view --port 7400 [--web 7480] [--map map.yaml] [--radius 0.22] [--read-only]
+    clearmap-view --port 7400 [--web 7480] [--map map.yaml] [--radius 0.22]
+        [--footprint '0.3,0.2 -0.3,0.2 -0.3,-0.2 0.3,-0.2'] [--read-only]
 
 Needs aiohttp and numpy (Debian's python3-aiohttp and python3-numpy), and libclearmap or the program
 clearmap. It listens only on loopback. Nothing here is proved.
@@ -13,7 +14,7 @@ import pathlib
 import shutil
 import socket
 import sys
-from typing import Callable, Optional
+from typing import Callable, List, Optional, Tuple
 
 HERE = pathlib.Path(__file__).resolve().parent
 TOP = HERE.parent.parent
@@ -55,6 +56,17 @@ def radius(word: str) -> str:
     return word
 
 
+def footprint(word: str) -> List[Tuple[str, str]]:
+    """A robot's outline, as it is written."""
+    try:
+        points = ros.outline(word)
+        for point in points:
+            ros.exact(point[0]), ros.exact(point[1])
+    except ros.RosError as fault:
+        raise argparse.ArgumentTypeError(str(fault)) from None
+    return [(str(x), str(y)) for x, y in points]
+
+
 def listening(port: int) -> socket.socket:
     """A socket that listens on the page's own port."""
     try:
@@ -77,6 +89,10 @@ def parser() -> argparse.ArgumentParser:
     words.add_argument("--map", metavar="YAML", help=yaml)
     robot = "the robot's radius that the page starts with, in metres with --map and else in cells"
     words.add_argument("--radius", type=radius, help=robot)
+    outline = "the robot's convex outline around its centre, 'x,y x,y ..', in metres with --map (x"
+    outline += " forward, y to the left) and else in cells (y downwards); the page sets it down on"
+    outline += " the map. Without it the robot is a disc of its radius"
+    words.add_argument("--footprint", type=footprint, metavar="POINTS", help=outline)
     words.add_argument("--read-only", action="store_true", help="the page can't change the map")
     return words
 
@@ -87,10 +103,13 @@ def serve(options: argparse.Namespace) -> None:
 
     from clearmap.runs import no_library
     from following import Wanted
+    from outlines import shape
     from site_of_map import Site
     from yaml_map import read_yaml_map
 
     known = read_yaml_map(options.map) if options.map else None
+    if options.footprint:
+        shape(options.footprint, known.frame if known else None)  # a fault ends the program
     lacking, dist = no_library(), program()
     if lacking and dist is None:
         raise ros.RosError(f"{lacking}; and there is no program clearmap on the path")
@@ -99,7 +118,7 @@ def serve(options: argparse.Namespace) -> None:
         if lacking:
             print(f"clearmap-view: each picture takes a run of {dist}: {lacking}", file=sys.stderr)
         words = options.port, dist, not lacking, known, options.radius or "", options.read_only
-        site = Site(own, Wanted(*words))
+        site = Site(own, Wanted(*words, options.footprint or ()))
         print(f"VIEW http://127.0.0.1:{own}/", flush=True)
         web.run_app(
             site.application(), sock=listener, print=None, access_log=None, shutdown_timeout=1

@@ -161,6 +161,13 @@ class Draft:
             self._has_ended = self._has_ended or has_ended
             self._lose(has_ended)
 
+    def drew_again(self, lost: Drawn, place: int, page: str) -> None:
+        """A page drew a lost rectangle again, which was accepted."""
+        with self._lock:
+            self._take(place)
+            self._drawn.append(Drawn(lost.command, lost.rect, place, page))
+            self._lost = [it for it in self._lost if it is not lost]
+
     def forget_lost(self) -> None:
         """The lost rectangles aren't shown any more."""
         with self._lock:
@@ -187,6 +194,12 @@ class Draft:
         """The last rectangle from here that wasn't published from here."""
         with self._lock:
             return self._drawn[-1] if self._drawn else None
+
+    @property
+    def are_lost(self) -> List[Drawn]:
+        """The rectangles that are lost, or may be, in the order in which they were drawn."""
+        with self._lock:
+            return list(self._lost)
 
     @property
     def version(self) -> Optional[int]:

@@ -1,14 +1,17 @@
 """Follows the newest version of a server: what each page shows, and what it is sent."""
 import asyncio
 import secrets
+import sys
 import time
-from typing import Callable, Dict, List, NamedTuple, Optional, Sequence, Tuple, TypeVar, Union
+from typing import Callable, Dict, List, NamedTuple, Optional, Sequence, Set, Tuple, TypeVar, Union
 
+import changes
 import clearmap
 import clearmap_ros as ros
 import picture
 import tables
 from draft import Draft
+from outlines import corners
 from shown import Copy, Shown, clock
 from watched import AFTER_A_QUESTION, PATIENCE, Watched
 from yaml_map import YamlMap
@@ -29,6 +32,7 @@ class Wanted(NamedTuple):
     map: Optional[YamlMap] = None
     radius: str = ""
     read_only: bool = False
+    footprint: Sequence[Tuple[str, str]] = ()  # as --radius in metres with a map, else in cells
 
 
 class NothingShown(Exception):
@@ -44,10 +48,12 @@ class Following:
         self.draft = Draft()
         self.watched = Watched(wanted.port, self.draft.lost)
         self.shown: List[Shown] = []  # the newest, and the one before it
+        self.changed: Optional[Dict[str, object]] = None
         self.pinned = (0, 0)
         self.serial, self.seen = 0, clock()
         self.fault = f"The server at port {wanted.port} is being asked."
         self.turn, self.listeners = 0, 0
+        self.printed: Set[str] = set()
         self.news = asyncio.Condition()
         self.looking = asyncio.Lock()
 
@@ -76,13 +82,29 @@ class Following:
         told.update(width=shown.width, height=shown.height, edge=shown.edge)
         told["resolution"] = float(frame.resolution) if frame else None
         told["origin"] = [float(frame.origin_x), float(frame.origin_y)] if frame else None
+        told["changes"] = self.changed
+        told["footprint"] = corners(self.outline(frame), frame)
         in_its_unit = frame is not None or known is None
         told["radius"] = self.wanted.radius if in_its_unit else ""
         if known is not None and frame is None:
-            sizes = f"has {known.frame.width} by {known.frame.height} cells"
-            sizes += f", and the served map {shown.width} by {shown.height}"
-            told["notice"] = f"The yaml's image {sizes}: no metres are shown."
+            told["notice"] = self.other_size(shown, known)
         return told
+
+    def outline(self, frame: Optional[ros.Frame]) -> Sequence[Tuple[str, str]]:
+        """The robot's outline: none if it is in metres, and the map isn't."""
+        return () if frame is None and self.wanted.map is not None else self.wanted.footprint
+
+    def other_size(self, shown: Shown, known: YamlMap) -> str:
+        """What is said of a served map whose size the yaml's image doesn't have."""
+        sizes = f"has {known.frame.width} by {known.frame.height} cells"
+        sizes += f", and the served map {shown.width} by {shown.height}"
+        return f"The yaml's image {sizes}: no metres are shown."
+
+    def warn(self, said: str) -> None:
+        """Prints for whoever started the program what the page says, each text once."""
+        if said not in self.printed:
+            self.printed.add(said)
+            print(f"clearmap-view: {said}", file=sys.stderr, flush=True)
 
     async def tell(self, fault: str) -> None:
         """Tells each page what has changed."""
@@ -148,6 +170,8 @@ class Following:
             refused = isinstance(fault.__cause__, ConnectionRefusedError)
             why = "nobody listens there" if refused else fault
             await self.tell_fault(f"{why}. It is tried again.")
+            if refused:
+                self.warn(self.fault)
 
     async def tell_fault(self, why: str) -> None:
         """Tells each page why the server can't be asked."""
@@ -186,7 +210,12 @@ class Following:
         await asyncio.to_thread(self.compare, copy)
         self.serial += 1
         made = await asyncio.to_thread(Shown, self.serial, copy, self.wanted.in_process)
+        before = self.shown[0] if self.shown else None
+        self.changed = await asyncio.to_thread(changes.counts, before, made)
         self.shown = [made, *self.shown[:1]]
+        known = self.wanted.map
+        if known is not None and self.frame_of(made) is None:
+            self.warn(self.other_size(made, known))
         await self.tell("")
 
     def compare(self, copy: Copy) -> None:

@@ -94,7 +94,7 @@ class Screenshots(tests.InBrowser):
         self.walk(OUT)
         self.zoom(132, 96)
         self.to(150, 150).perform()
-        self.until(lambda: "no room" in self.text("path") and "obstacle at" in self.text("point"))
+        self.until(lambda: "may not fit" in self.text("path") and "obstacle at" in self.text("point"))
         self.save("tight")
 
     def test_draft(self):

@@ -32,6 +32,7 @@ class Shown:
     def __init__(self, serial: int, copy: Copy, here: bool) -> None:
         self.serial, self.copy = serial, copy
         self.version, self.edge = copy.version, copy.edge
+        self.came = time.strftime("%H:%M:%S")
         self.height, self.width = copy.bits.shape
         self.area = clearmap.Map(copy.bits, copy.edge) if here else None
         self.pictures: Dict[str, "asyncio.Task[picture.Picture]"] = {}

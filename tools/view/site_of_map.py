@@ -7,6 +7,7 @@ from typing import AsyncIterator, Awaitable, Callable
 
 from aiohttp import web
 
+import changes
 import clearmap
 from clearmap.runs import TableError
 from picture import SIDE, Picture
@@ -14,6 +15,7 @@ from asking import Asking
 from bodies import BadRequest
 from changing import Changing
 from following import Following, NothingShown, Wanted
+from robot import Robot
 from watched import in_words
 
 PAGE = pathlib.Path(__file__).resolve().parent / "page"
@@ -47,7 +49,7 @@ class Site:
     def application(self) -> web.Application:
         """The routes; the guard sees each request before them."""
         site = web.Application(middlewares=[self.guard])
-        asking = Asking(self.following)
+        asking, robot = Asking(self.following), Robot(self.following)
         parts = "|".join(sorted(path.name for path in PAGE.iterdir() if path.suffix in TYPES))
         numbers = "/".join(f"{{{name}:\\d{{1,6}}}}" for name in ("level", "column", "row"))
         site.router.add_get("/", self.index)
@@ -55,8 +57,10 @@ class Site:
         site.router.add_get("/events", self.events)
         site.router.add_get(f"/picture/{METRIC}", self.picture)
         site.router.add_get(f"/piece/{{serial:\\d{{1,9}}}}/{METRIC}/{numbers}", self.piece)
+        site.router.add_get("/changed/{serial:\\d{1,9}}", self.changed)
         site.router.add_get("/at", asking.at)
         site.router.add_get("/room", asking.room)
+        site.router.add_get("/robot", robot.at)
         site.router.add_post("/path", asking.path)
         site.router.add_post("/change", self.changing.change)
         site.router.add_post("/forget", self.changing.forget)
@@ -172,6 +176,15 @@ class Site:
             if shown.serial == serial and task is not None and task.done():
                 return task.result()
         raise BadRequest("no such picture is kept", 404)
+
+    async def changed(self, request: web.Request) -> web.Response:
+        """Which cells of the newest version aren't as in the one that was shown before."""
+        following = self.following
+        serial = int(request.match_info["serial"])
+        if following.changed is None or following.shown[0].serial != serial:
+            raise BadRequest("there is no version before it", 404)
+        bits = [shown.copy.bits for shown in reversed(following.shown)]
+        return web.json_response(await asyncio.to_thread(changes.told, *bits))
 
     async def piece(self, request: web.Request) -> web.Response:
         """A piece of a picture."""

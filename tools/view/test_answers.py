@@ -67,11 +67,12 @@ class Answers(InBrowser):
         self.mode("path")
         for cell in ((5, 3), (5, 0)):
             self.to(*cell).click().perform()
-        self.until(lambda: self.text("path").endswith("the robot has room"))
+        self.until(lambda: "; the robot has room" in self.text("path"))
         way = self.driver.find_element(By.ID, "path")
         self.assertEqual(way.get_attribute("class"), "clear")
         self.draw("paint", (5, 2))
-        self.until(lambda: self.text("path").endswith("the robot has room" + UNCOUNTED))
+        self.until(lambda: self.text("path").endswith(UNCOUNTED))
+        self.assertIn("; the robot has room", self.text("path"))
         self.assertEqual(way.get_attribute("class"), "")
         self.mode("look")
         self.to(4, 2).perform()
@@ -79,8 +80,8 @@ class Answers(InBrowser):
         said = "cell 5, 2: 3.16 cells from the obstacle at 2, 1"
         self.until(lambda: self.text("point") == said + UNCOUNTED)
         self.press("publish")
-        said = "no room for the robot, first at cell 5, 3: 1.74 cells needed, middle to middle"
-        self.until(lambda: self.text("path").endswith(said))
+        said = "tightest at cell 5, 2: in an obstacle; may not fit (safe rule)"
+        self.until(lambda: self.text("path").startswith(said))
         self.to(5, 2).perform()
         self.until(lambda: self.text("point") == "cell 5, 2: in an obstacle")
 
@@ -111,7 +112,7 @@ class Answers(InBrowser):
         )  # fmt: skip
 
     def test_what_a_robot_needs(self):
-        """The scale's marker says how far a cell has to be, as a path without room does."""
+        """The scale's marker says how far a cell has to be, as a path does."""
         folder = pathlib.Path(self.enterContext(tempfile.TemporaryDirectory()))
         image, yaml = corner(folder)
         pathlib.Path(yaml).write_text(YAML.replace("0.5\n", "0.05\n", 1))
@@ -122,7 +123,8 @@ class Answers(InBrowser):
         self.assertEqual(marker.get_attribute("title"), needed)
         self.mode("path")
         self.to(5, 3).click().perform()
-        self.until(lambda: self.text("path").endswith(needed))
+        said = ": 0.250 of 0.292 m; may not fit (safe rule)"
+        self.until(lambda: said in self.text("path"))
         field = self.driver.find_element(By.ID, "radius")
         field.clear()
         field.send_keys("\n")
@@ -133,7 +135,7 @@ class Answers(InBrowser):
         self.open(view=["--radius", "1.5"])
         self.mode("path")
         self.to(5, 3).click().perform()
-        self.until(lambda: self.text("path").endswith("the robot has room"))
+        self.until(lambda: "; the robot has room" in self.text("path"))
         field = self.driver.find_element(By.ID, "radius")
         said = "a radius is a number from 0 on, as 0.22, and '0,22' is none"
         why = "The scale ends at the farthest cell (3.6 cells): "
@@ -148,7 +150,7 @@ class Answers(InBrowser):
             self.until(lambda: self.text("end") == end)
             self.assertEqual((self.text("unread"), self.shown("unread")), (unread, bool(unread)))
             self.assertEqual(field.get_attribute("aria-invalid"), str(bool(unread)).lower())
-            self.until(lambda: self.text("path").endswith(way))
+            self.until(lambda: way in self.text("path"))
 
     def test_off_the_map(self):
         """Nothing is read out there, and nothing moves."""

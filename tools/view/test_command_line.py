@@ -6,6 +6,7 @@ import socket
 import subprocess
 import sys
 import tempfile
+import time
 import unittest
 
 from testing import HERE, PATIENCE, POST, YAML, Viewed
@@ -50,6 +51,34 @@ class CommandLine(unittest.TestCase):
         served = Served(POST, port=port)
         self.addCleanup(served.end)
         self.assertEqual(next(states)["version"], 0)
+
+    def printed(self, port, until, *words):
+        """What is said on standard error by the time that `until` holds of a state, and some looks
+        later."""
+        viewed = Viewed(port, *words, errors=subprocess.PIPE)
+        states = viewed.events()
+        while not until(next(states)):
+            pass
+        time.sleep(1)
+        states.close()
+        viewed.process.terminate()
+        return viewed.process.communicate(timeout=PATIENCE)[1]
+
+    def test_what_is_printed(self):
+        """A port without a server, and a map of another size: what the page says, once."""
+        with socket.create_server(("127.0.0.1", 0)) as listener:
+            port = listener.getsockname()[1]
+        said = self.printed(port, lambda state: "can't be asked" in state["fault"])
+        why = "can't be asked: nobody listens there. It is tried again."
+        self.assertEqual(said, f"clearmap-view: The server at port {port} {why}\n")
+        folder = pathlib.Path(self.enterContext(tempfile.TemporaryDirectory()))
+        (folder / "map.yaml").write_text(YAML)
+        (folder / "map.pgm").write_bytes(b"P5\n2 1\n255\n\xfe\xfe")
+        with Served(POST) as served:
+            yaml = str(folder / "map.yaml")
+            said = self.printed(served.port, lambda state: "notice" in state, "--map", yaml)
+        sizes = "The yaml's image has 2 by 1 cells, and the served map 6 by 4"
+        self.assertEqual(said, f"clearmap-view: {sizes}: no metres are shown.\n")
 
 
 if __name__ == "__main__":

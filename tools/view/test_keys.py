@@ -58,6 +58,8 @@ class Keyboard(InBrowser):
         self.assertEqual((outline(), self.text("said")), ("none", ""))
         self.focus()
         self.assertEqual(outline(), "solid")
+        frame = "return getComputedStyle(document.getElementById('map'), '::after').borderTopStyle"
+        self.assertEqual(self.driver.execute_script(frame), "solid")
         self.until(lambda: self.text("said").startswith("Shift and an arrow aim at a cell"))
 
     def test_aiming(self):
@@ -107,7 +109,7 @@ class Keyboard(InBrowser):
         self.aim(KEYS.ARROW_RIGHT, KEYS.ARROW_RIGHT, KEYS.ARROW_RIGHT)
         self.press_key(" ")
         self.until(lambda: self.text("long") == "2 points, 3.00 cells long")
-        self.until(lambda: self.text("path").startswith("tightest at cell 2, 3: 2.00 cells"))
+        self.until(lambda: self.text("path").startswith("tightest at cell 2, 3: 2.00 of"))
         self.press_key(KEYS.BACKSPACE)
         self.until(lambda: self.text("long") == "1 point, 0.00 cells long")
 

@@ -17,9 +17,9 @@ except ImportError:
     Image = None
 
 WIDTH, HEIGHT = 60, 40
-OBSTACLE, UNKNOWN, BEYOND = (16, 18, 24), (124, 128, 138), (228, 230, 234)
+OBSTACLE, UNKNOWN = (16, 18, 24), (124, 128, 138)
 HATCH = (38, 40, 47)
-NEAREST, FARTHEST = (41, 52, 128), (250, 246, 179)
+BEYOND = (249, 246, 179)  # the colour of the scale's end
 CONTOUR, CONTOUR_EDGE = (255, 255, 255), (10, 16, 24)
 NO_ROOM = (215, 25, 28)
 
@@ -152,10 +152,10 @@ class Look(InBrowser):
         """It lies between the cells where CLEAROF says that there is room, and those where not."""
         self.show(house(), "--radius", "1")  # (2 + sqrt 2)^2 is 11.7: four cells from a wall
         shot = self.shot()
-        self.assertEqual(self.pixel(shot, 4, 20, (0.02, 0.4)), CONTOUR)
-        left = [tuple(it) for it in shot[self.inside(2, 20, 4, 21)].reshape(-1, 3)]
-        self.assertNotIn(CONTOUR, left)
-        self.assertIn(CONTOUR_EDGE, left)
+        found = lambda *sides: [tuple(it) for it in shot[self.inside(*sides)].reshape(-1, 3)]
+        self.assertIn(CONTOUR, found(4, 20, 5, 21))
+        self.assertNotIn(CONTOUR, found(2, 20, 4, 21))
+        self.assertIn(CONTOUR_EDGE, found(3, 20, 5, 21))
         self.driver.find_element(By.ID, "radius").clear()
         self.driver.find_element(By.ID, "radius").send_keys("\n")
         self.until(lambda: not self.driver.find_element(By.ID, "needed").is_displayed())
@@ -175,7 +175,7 @@ class Look(InBrowser):
         field = self.driver.find_element(By.ID, "radius")
         field.clear()
         field.send_keys("1.5\n")  # (3 + sqrt 2)^2 is 19.5
-        self.until(lambda: "no room" in self.text("path"))
+        self.until(lambda: "may not fit" in self.text("path"))
         shot = self.shot()
         tight = [x for x in range(11, 50) if self.is_red(self.pixel(shot, x, 20))]
         self.assertEqual(tight, [29, 30, 31])  # up to 17 from the door's end in row 24
@@ -220,6 +220,17 @@ class Look(InBrowser):
             self.assertLess(lightness(dark[place]), 30, name)
         self.assertEqual(self.pixel(dark, 0, 20), (0, 0, 0))
 
+    def test_the_widest_places(self):
+        """They have the colour of the scale's end, as the legend says, in both themes."""
+        self.show(house(), "--radius", "1")
+        swatch = self.driver.find_element(By.ID, "far")
+        for scheme in ("light", "dark"):
+            self.media("prefers-color-scheme", scheme)
+            shot = self.shot()
+            self.assertEqual(self.pixel(shot, 15, 20, (0.5, 0.4)), BEYOND, scheme)
+            said = swatch.value_of_css_property("background-color")
+            self.assertEqual(said, "rgba(249, 246, 179, 1)", scheme)
+
     def test_narrow(self):
         """Under 700 pixels the panel is below the map, which is as wide as the window."""
         self.show(house())
@@ -236,7 +247,7 @@ class Look(InBrowser):
         self.show(house())
         for place in ((0, 0), (799, 0), (0, 599), (799, 599), (400, 300)):
             call = f"it.boxAt({list(place)}, 150, {{ width: 800, height: 600 }})"
-            box = self.seen("marks.js", call)
+            box = self.seen("labels.js", call)
             inside = 44 <= box["x"] <= 650 and 50 <= box["y"] <= 600 - 24 - 22
             self.assertTrue(inside, (place, box))
 

@@ -9,6 +9,7 @@ import unittest
 
 from testing import POST, By, InBrowser, Viewing
 
+import clearmap
 import watched
 from served import Served
 
@@ -146,6 +147,45 @@ class Lost(InBrowser):
         self.until(lambda: self.text("draft").startswith("Nothing changed from here."))
         self.assertEqual((self.white(4, 2), self.shown("gone")), ([0, 0], False))
         self.assertTrue(self.shown("another"))
+        self.assertFalse(self.shown("redraw"))
+
+    def lose(self, *cells, image=POST):
+        """Paints cells, clears the last one, and loses all of it; another server has this map."""
+        self.open()
+        for name, cell in [*(("paint", cell) for cell in cells), ("clear", cells[-1])]:
+            self.mode(name)
+            self.to(*cell).click().perform()
+            self.until(lambda: self.text("said").startswith("1 cell of the draft"))
+            self.until(lambda: name in self.text("said"))
+        self.until(lambda: self.button("publish").text == f"Publish {len(cells) + 1} changes")
+        self.served.end()
+        self.until(lambda: "lost with the server" in self.text("draft"))
+        self.assertFalse(self.button("redraw").is_enabled())
+        self.restart(image)
+        self.until(lambda: self.button("redraw").is_enabled())
+        self.press("redraw")
+
+    def test_what_was_lost_is_drawn_again(self):
+        """By one click, in the same order, and it can be undone as what was drawn here."""
+        self.lose((4, 2), (5, 3), (5, 2))
+        self.until(lambda: self.text("said") == "4 of 4 lost rectangles drawn again.")
+        self.until(lambda: self.button("publish").text == "Publish 4 changes")
+        self.assertEqual((self.shown("redraw"), self.shown("gone")), (False, False))
+        self.driver.find_element(By.ID, "undo").click()
+        self.until(lambda: self.button("publish").text == "Publish 3 changes")
+        self.press("publish")
+        self.until(lambda: self.text("version") == "version 1")
+        with clearmap.Client(self.served.port) as other, other.pin() as pinned:
+            self.assertEqual(pinned.dump(), POST[:-14] + b"000011\n000001\n")
+
+    def test_what_lies_off_the_next_map(self):
+        """It stays lost, and the others are drawn."""
+        self.lose((4, 2), (0, 0), (1, 1), image=b"P1\n3 2\n000\n000\n")
+        said = "3 of 4 lost rectangles drawn again. Refused: that isn't wholly on the map"
+        self.until(lambda: self.text("said").startswith(said))
+        self.until(lambda: self.button("publish").text == "Publish 3 changes")
+        self.assertTrue(self.text("draft").startswith("1 rectangle from here was lost"))
+        self.assertTrue(self.shown("redraw"))
 
 
 if __name__ == "__main__":

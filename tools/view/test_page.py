@@ -64,7 +64,7 @@ class Page(InBrowser):
         self.open(b"P1\n6 4\n000000\n000000\n000000\n000000\n")
         for name in ("chess", "city", "euclid2"):
             Select(self.driver.find_element(By.ID, "metric")).select_by_value(name)
-            self.until(lambda: self.colour(5, 3) == [228, 230, 234, 255])
+            self.until(lambda: self.colour(5, 3) == [249, 246, 179, 255])
         self.to(5, 3).perform()
         self.until(lambda: self.text("point") == "cell 5, 3: the map has no obstacle")
         self.mode("path")
@@ -142,7 +142,7 @@ class Page(InBrowser):
         self.to(5, 3).click().perform()
         self.until(lambda: self.name("path") == "clear")
         self.to(2, 1).click().perform()
-        self.until(lambda: "in an obstacle; no room for the robot" in self.text("path"))
+        self.until(lambda: "in an obstacle; may not fit (safe rule); exactly: it hits" in self.text("path"))
         self.press_key(webdriver.Keys.BACKSPACE)
         self.until(lambda: self.name("path") == "clear")
 

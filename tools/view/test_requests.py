@@ -87,10 +87,28 @@ class Requests(Viewing):
         self.assertEqual((told["clear"], told["tight"]), (False, [[[1, 0], [3, 0]]]))
         told = self.path(viewed, "city", [[0, 0], [5, 0], [5, 3], [0, 3], [0, 1]], "0.5")
         self.assertEqual(told["tight"], [[[1, 0], [3, 0]], [[2, 3]], [[0, 1]]])  # 3 steps
-        self.assertIn("no room for the robot, first at cell 1, 0", told["said"])
+        said = "tightest at cell 2, 0: 1 of 3 steps; may not fit (safe rule)"
+        self.assertEqual(told["said"], said)
         told = self.path(viewed, "chess", [[0, 1], [5, 1]], "0")
         self.assertEqual((told["distance"], told["tight"]), (0, [[[2, 1]]]))
-        self.assertIn("tightest at cell 2, 1: in an obstacle; no room", told["said"])
+        self.assertIn("tightest at cell 2, 1: in an obstacle; may not fit (safe rule)", told["said"])
+
+    def test_exact_room(self):
+        """From middle to middle of the points, which the safe rule leaves a cell for; straight."""
+        viewed, _ = self.view()
+        for metric, radius, points, said in (
+            ("euclid2", "0.25", [[0, 2], [5, 2]], "exactly 0.25 cells free"),
+            ("euclid2", "0.5", [[0, 2], [5, 2]], "exactly: it hits"),
+            ("euclid2", "0.25", [[0, 3], [5, 1]], "exactly 0.21 cells free"),
+            ("euclid2", "0.25", [[4, 0]], "exactly 1.33 cells free"),
+            ("euclid2", "", [[4, 0]], ""),
+            ("city", "0.25", [[4, 0]], ""),
+        ):
+            told = self.path(viewed, metric, points, radius)["said"]
+            if self.in_process and said:
+                self.assertTrue(told.endswith(f"; {said}"), told)
+            else:
+                self.assertNotIn("exactly", told)
 
     def test_room(self):
         """What a robot's radius asks of a cell is what CLEAROF is asked."""
@@ -181,11 +199,19 @@ class Requests(Viewing):
             self.assertEqual(told, ["house", 0.5, [-1.0, -2.0], "0.3"])
             said = "cell 5, 3 (1.750 m, -1.750 m): 3.61 cells, 1.802 m from the obstacle at 2, 1"
             self.assertEqual(self.at(viewed, "euclid2", 5, 3)["said"], said)
-            for radius, clear in (("0.75", True), ("0.8", False)):  # (1.6 + sqrt 2)^2 is 9.1
+            for radius, clear, said, free in (
+                ("0.75", True, "1.500 of 1.500 m; the robot has room", "exactly 0.500 m free"),
+                # (1.6 + sqrt 2)^2 is 9.1, and the root of 10 half metres 1.581.., rounded up
+                ("0.8", False, "1.500 of 1.582 m; may not fit (safe rule)", "exactly 0.450 m free"),
+                ("1.2496", False, "1.500 of 2.000 m; may not fit (safe rule)",
+                 "exactly less than 0.001 m free"),
+                ("1.25", False, "1.500 of 2.000 m; may not fit (safe rule)", "exactly: it hits"),
+            ):  # fmt: skip
                 told = self.path(viewed, "euclid2", [[5, 1]], radius)
                 self.assertEqual((told["clear"], told["distance"]), (clear, 9))
-            # the root of 10 half metres is 1.581.., rounded up
-            self.assertTrue(told["said"].endswith(": 1.582 m needed, middle to middle"))
+                said = f"tightest at cell 5, 1 (1.750 m, -0.750 m): {said}"
+                said += f"; {free}" if self.in_process else ""
+                self.assertEqual(told["said"], said)
             self.assertEqual(told["long"], "1 point, 0.00 m long")
             told = self.path(viewed, "city", [[0, 0], [3, 0], [3, 3], [0, 0]])
             self.assertEqual(told["long"], "4 points, 5.12 m long")

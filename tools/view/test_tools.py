@@ -234,7 +234,7 @@ class Narrow(InBrowser):
     def test_the_tools_over_the_map(self):
         """None covers another one, in a window of any width."""
         self.open()
-        for width in (360, 400, 699, 701, 899, 901, 1400):
+        for width in (360, 400, 699, 701, 949, 951, 1400):
             self.resize(width)
             area = self.boxes("#map")[0]
             for box in self.boxes("#modes, #zoom"):

@@ -45,7 +45,7 @@ PATIENCE = 30  # seconds for what a busy machine takes its time for
 class Viewed:
     """A clearmap-view of a port, with a page's port that the system picks."""
 
-    def __init__(self, port, *words, library=True):
+    def __init__(self, port, *words, library=True, errors=None):
         environment = dict(os.environ)
         if not library:
             environment["CLEARMAP_LIBRARY"] = "/no/such/library"
@@ -58,7 +58,7 @@ class Viewed:
             "0",
             *words,
         ]
-        errors = None if library else subprocess.DEVNULL
+        errors = errors if library else subprocess.DEVNULL
         self.process = subprocess.Popen(
             words, stdout=subprocess.PIPE, stderr=errors, text=True, env=environment
         )

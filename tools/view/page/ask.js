@@ -27,8 +27,11 @@ function post(path, body) {
 const words = (named) => new URLSearchParams(named).toString();
 
 export const askPicture = (metric) => answer(`picture/${metric}`);
+export const askChanged = (serial) => answer(`changed/${serial}`);
 export const askAt = (metric, { x, y }) => answer(`at?${words({ metric, x, y })}`);
 export const askRoom = (metric, radius, unit) => answer(`room?${words({ metric, radius, unit })}`);
+export const askRobot = ({ cell: { x, y }, theta }, radius, unit) =>
+  answer(`robot?${words({ x, y, theta: theta.toFixed(6), radius, unit })}`);
 export const askPath = (metric, cells, radius, unit) =>
   post("path", { metric, radius, unit, points: cells.map(({ x, y }) => [x, y]) });
 export const change = (command, of, sure) => post("change", { page, command, ...of, sure });

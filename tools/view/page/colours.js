@@ -12,8 +12,8 @@ const LISTED = 2 ** 16; // numbers whose colours are worked out before they are 
 const FADED = 0.55; // how far the scale fades where many cells lie in a pixel
 
 const THEMES = {
-  light: { obstacle: [16, 18, 24], unknown: [124, 128, 138], beyond: [228, 230, 234] },
-  dark: { obstacle: [0, 0, 0], unknown: [98, 102, 112], beyond: [70, 76, 88] },
+  light: { obstacle: [16, 18, 24], unknown: [124, 128, 138], pale: [228, 230, 234] },
+  dark: { obstacle: [0, 0, 0], unknown: [98, 102, 112], pale: [70, 76, 88] },
 };
 export const dark = matchMedia("(prefers-color-scheme: dark)");
 export const theme = () => THEMES[dark.matches ? "dark" : "light"];
@@ -34,9 +34,9 @@ export const fading = (pixels) => Math.min(Math.max(Math.log2(1 / pixels) / 2, 0
 
 /** The scale's colours, from near to its end. */
 export function scaleColours(faded) {
-  const { beyond } = theme();
+  const { pale } = theme();
   const steps = Array.from({ length: STEPS }, (_, k) => colourAt((k + 0.5) / STEPS));
-  return steps.map((colour) => mix(colour, beyond, faded));
+  return steps.map((colour) => mix(colour, pale, faded));
 }
 
 /** A colour as a pixel of an image's data, opaque, in a signed number of 32 bits. */
@@ -45,11 +45,11 @@ export const packed = ([red, green, blue]) => (255 << 24) | (blue << 16) | (gree
 /** How numbers of a picture become colours: of distances up to `end`, in cells or steps. */
 export class Scale {
   constructor({ end, square, needed, contour, faded }) {
-    const { obstacle, unknown, beyond } = theme();
+    const { obstacle, unknown } = theme();
     Object.assign(this, { end, square, needed, contour, faded });
     this.hatch = [packed(unknown), packed(mix(unknown, obstacle, 0.8))];
-    this.beyond = packed(beyond);
     this.steps = Int32Array.from(scaleColours(faded), packed);
+    this.beyond = this.steps.at(-1); // so that the widest places don't look like pits
     this.known = new Int32Array(Math.min((square ? end * end : end) + 2, LISTED));
     this.known.set([packed(obstacle), this.hatch[0]]);
     for (let number = 2; number < this.known.length; number += 1)

@@ -1,4 +1,5 @@
 // The keys: they move the map, choose what the pointer does, and aim at a cell and press it.
+import { isPhone } from "./hints.js";
 import { say } from "./panel.js";
 import { choose, modes } from "./press.js";
 
@@ -66,7 +67,7 @@ class Aim {
 /** Says once what the keys do, when somebody goes to the canvas by them. */
 function hint(canvas) {
   const focused = () => {
-    if (!canvas.matches(":focus-visible")) return;
+    if (!canvas.matches(":focus-visible") || isPhone()) return;
     canvas.removeEventListener("focus", focused);
     say(HINT);
   };

@@ -82,9 +82,8 @@ export function drawLegend(picture, room, scale, position, resolution) {
   const parts = [0, 0.5, 1].map((part) => told(part * scale.end, picture.metric, resolution));
   by("ticks").replaceChildren(...parts.map(spanOf));
   by("end").textContent = `The scale ends ${endSaid(picture, room, position, resolution)}.`;
-  const { obstacle, beyond } = theme();
-  by("black").style.background = css(obstacle);
-  by("far").style.background = css(beyond);
+  by("black").style.background = css(theme().obstacle);
+  by("far").style.background = css(scaleColours(scale.faded).at(-1));
   by("farther").hidden = farthest(picture) < scale.end && picture.most !== null;
   by("hatched").hidden = !picture.hasUnknown;
   by("contour").hidden = !scale.contour;

@@ -1,5 +1,7 @@
 // The part of the page's address after #, which keeps what is seen: a link to it shows the same.
 
+import { say } from "./panel.js";
+
 const points = (text) =>
   text.split(";").map((pair) => pair.split(",").map(Number)).map(([x, y]) => ({ x, y }));
 const whole = ({ x, y }) => Number.isInteger(x) && Number.isInteger(y);
@@ -37,4 +39,16 @@ export function read(hash, { width, height, unit }) {
   const inside = ({ x, y }) => x >= 0 && y >= 0 && x < width && y < height;
   if (way.every((cell) => whole(cell) && inside(cell))) found.points = way;
   return found;
+}
+
+/** Copies the address by a button, once it is the one of what is seen. */
+export function followLink(keep) {
+  document.getElementById("link").addEventListener("click", async () => {
+    keep();
+    await new Promise((settle) => setTimeout(settle, 250));
+    const write = navigator.clipboard.writeText(location.href);
+    const copied = await write.then(() => true, () => false);
+    const what = "it keeps the view and the path.";
+    say(copied ? `The link is copied: ${what}` : `Copy the page's address: ${what}`);
+  });
 }

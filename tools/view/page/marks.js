@@ -1,18 +1,14 @@
 // What is drawn over the picture: rectangles of the draft, the path, and what is pointed at.
 import { NO_ROOM } from "./colours.js";
+import { label, lengthSaid } from "./labels.js";
 import { edged, partsSeen } from "./lines.js";
-import { BELOW, LEFT } from "./rulers.js";
+import { asDragged } from "./points.js";
 
 const DARK = "#12151c";
 const LIGHT = "#ffffff";
-const INK = "rgba(18, 21, 28, 0.9)"; // of labels
 const DRAWN = { paint: "#7b1fa2", clear: "#006a5f" };
 const DASHES = [7, 5];
-const FONT = "600 13px system-ui, sans-serif";
-const HIGH = 22; // pixels of a label
 const AIM = 6; // pixels from the middle of an aim to its frame, at least
-const WITHIN = { left: LEFT + 6, top: 56, right: 6, below: BELOW + 6 }; // where labels stand
-const NARROW = { width: 700, below: BELOW + 54 }; // a window that has tools below, too
 
 function dot(context, [x, y], radius, colour, edge) {
   context.beginPath();
@@ -21,40 +17,6 @@ function dot(context, [x, y], radius, colour, edge) {
   context.fill();
   context.stroke();
 }
-
-/** Where a box of text stands next to a place: inside the window, and on none of its rulers. */
-export function boxAt([x, y], width, sight) {
-  const within = (at, least, most) => Math.max(Math.min(at, most), least);
-  const below = sight.width < NARROW.width ? NARROW.below : WITHIN.below;
-  return {
-    x: within(x + 12, WITHIN.left, sight.width - width - WITHIN.right),
-    y: within(y - 30, WITHIN.top, sight.height - HIGH - below),
-  };
-}
-
-/** A box of this width, moved off one that stands already. */
-function besides(box, width, other) {
-  const apart = !other || box.x + width < other.x || other.x + other.width < box.x;
-  if (apart || Math.abs(box.y - other.y) > HIGH) return box;
-  return { x: box.x, y: other.y + (other.y > 2 * WITHIN.top ? -1 : 1) * (HIGH + 3) };
-}
-
-/** Writes a label next to a place, and off another one; its box is returned. */
-function label(context, sight, place, text, { colour = INK, other } = {}) {
-  if (!text || off(sight, place)) return null;
-  context.font = FONT;
-  const width = context.measureText(text).width + 14;
-  const box = besides(boxAt(place, width, sight), width, other);
-  context.fillStyle = colour;
-  context.beginPath();
-  context.roundRect(box.x, box.y, width, HIGH, 4);
-  context.fill();
-  context.fillStyle = LIGHT;
-  context.fillText(text, box.x + 7, box.y + 15.5);
-  return { ...box, width };
-}
-
-const off = (sight, [x, y]) => x < 0 || y < 0 || x > sight.width || y > sight.height;
 
 /** A rectangle that was drawn; a lost one is dashed, and nothing fills it. */
 function rectangle(context, sight, { rect: [x0, y0, x1, y1], command }, isLost = false) {
@@ -70,8 +32,8 @@ function rectangle(context, sight, { rect: [x0, y0, x1, y1], command }, isLost =
   context.setLineDash([]);
 }
 
-/** A path: red just where the robot has no room. The box of its label is returned. */
-function drawPath(context, sight, middle, path, uncounted) {
+/** A path: red just where the robot may not fit. The box of its label is returned. */
+function drawPath(context, sight, middle, path, version) {
   edged(context, partsSeen(path.corners ?? [], sight), LIGHT, DARK, 2.5);
   const without = path.tight ?? (path.clear === false ? [path.corners] : []);
   const parts = without.flatMap((cells) => partsSeen(cells, sight));
@@ -83,7 +45,7 @@ function drawPath(context, sight, middle, path, uncounted) {
   const colour = path.clear === false ? NO_ROOM : DARK;
   dot(context, cell, 5.5, colour, LIGHT);
   const inRed = path.clear === false ? { colour: NO_ROOM } : {};
-  return label(context, sight, cell, path.length + uncounted, inRed);
+  return label(context, sight, cell, lengthSaid(sight, path.length, version), inRed);
 }
 
 /** A frame around the cell that is aimed at by keys. */
@@ -93,22 +55,26 @@ function drawAim(context, [x, y], half) {
   edged(context, [corners], LIGHT, DARK, 2);
 }
 
-function drawPointed(context, sight, middle, { cell, obstacle, length }, uncounted, other) {
-  if (!obstacle) return;
+function drawPointed(context, sight, middle, { cell, obstacle, length }, version, other) {
+  if (!obstacle) return null;
   const ends = [middle([cell.x, cell.y]), middle(obstacle)];
   edged(context, [ends], DARK, LIGHT, 2);
   dot(context, ends[1], 4.5, "#ffc233", DARK);
-  label(context, sight, ends[0], length + uncounted, { other });
+  return label(context, sight, ends[0], lengthSaid(sight, length, version), { other });
 }
 
-/** Draws what lies over the picture. Where there is a draft, labels say what they are of. */
-export function drawMarks(context, sight, { drafts, lost, dragged, path, pointed }) {
+/** Draws what lies over the picture. Where there is a draft, labels say what they are of. The box
+ * of the last label is returned. */
+export function drawMarks(context, sight, page) {
+  const { drafts, lost, dragged, pointed } = page;
+  const path = asDragged(page.path, page.moving);
   const middle = ([x, y]) => sight.pixel(x + 0.5, y + 0.5);
-  const of = ({ version }) => (drafts.length ? ` in version ${version}` : "");
+  const of = ({ version }) => (drafts.length ? version : undefined);
   for (const drawn of lost) rectangle(context, sight, drawn, true);
   for (const drawn of dragged ? [...drafts, dragged] : drafts) rectangle(context, sight, drawn);
   const other = drawPath(context, sight, middle, path, of(path));
   if (pointed?.byKeys)
     drawAim(context, middle([pointed.cell.x, pointed.cell.y]), Math.max(sight.scale / 2, AIM));
-  if (pointed) drawPointed(context, sight, middle, pointed, of(pointed), other);
+  if (!pointed) return other;
+  return drawPointed(context, sight, middle, pointed, of(pointed), other) ?? other;
 }

@@ -1,9 +1,9 @@
 // The panel next to the map: what is known of the server and of the draft, and the toast.
+import { hint } from "./hints.js";
 import { saidOfRuns } from "./runs.js";
 import { tellNew, tellNoView, tellOld } from "./strip.js";
 
 const by = (id) => document.getElementById(id);
-const NO_POINTS = "No points yet: press P, and click on the map.";
 const SHOWN_FOR = { news: 6000, refusal: 12000 }; // milliseconds
 
 let timer = 0;
@@ -34,7 +34,7 @@ export function tellLost(picture, seconds) {
 
 /** Which buttons do something: those of a picture, and those that change a server's map. */
 function enable(hasPicture, hasServer) {
-  for (const button of document.querySelectorAll("#modes button, #zoom button, #link"))
+  for (const button of document.querySelectorAll("#modes button, #zoom button, #link, #save"))
     button.disabled = !hasPicture || (button.classList.contains("changes") && !hasServer);
   for (const button of document.querySelectorAll("[data-command]")) button.disabled = !hasServer;
 }
@@ -43,16 +43,17 @@ function tellDraft({ drawn, lost, undo, said }, hasServer) {
   const count = drawn.length;
   const publish = document.querySelector("[data-command=publish]");
   const changes = count === 1 ? "1 change" : `${count} changes`;
+  publish.classList.toggle("first", count > 0);
   publish.textContent = count ? `Publish ${changes}` : "Publish";
   by("draft").textContent = said;
   by("undo").disabled = !undo || !hasServer;
   by("undo").dataset.place = drawn.at(-1)?.place;
   by("forget-lost").hidden = by("forget-lost").disabled = lost.length === 0;
-  by("gone").hidden = lost.length === 0;
+  by("gone").hidden = by("redraw").hidden = lost.length === 0;
 }
 
 /** Words that may be none: then nothing is shown. */
-function put(id, text) {
+export function put(id, text) {
   by(id).textContent = text;
   by(id).hidden = !text;
 }
@@ -91,8 +92,9 @@ export function tellPointed(text) {
 export function tellPath({ points, said, clear, long }, of, uncounted) {
   const shown = by("path");
   const known = said !== undefined && clear !== undefined;
-  shown.textContent = said === undefined ? NO_POINTS : said + of;
+  shown.textContent = said === undefined ? hint("path") : said + of;
   shown.className = !known || (clear && uncounted) ? "" : clear ? "clear" : "near";
   by("long").textContent = long ?? "";
+  by("how").textContent = points.length ? hint("points") : "";
   by("forget").disabled = points.length === 0;
 }

@@ -22,7 +22,9 @@ export function choose(name) {
 
 /** A press of the pointer or of Enter: it does what the mode was when it began, until it is
  * released or dropped. `tell` has what is called: `clicked` with a cell, `dragged` and `drawn` with
- * a rectangle's command and sides. */
+ * a rectangle's command and sides; of a point of the path that the press began at, `moving` and
+ * `moved` with its number and a cell, and `erased` with its number; of a robot `turns` with a cell
+ * and a place, and `stands` with a cell and whether it was turned. */
 export class Press {
   constructor(tell) {
     Object.assign(this, { tell, now: null });
@@ -43,6 +45,16 @@ export class Press {
     return DRAWS.includes(this.now?.does);
   }
 
+  /** Whether it began at a point of the path. */
+  get holdsPoint() {
+    return this.now?.point >= 0;
+  }
+
+  /** Whether it turns a robot. */
+  get turns() {
+    return this.now?.does === "robot" && Boolean(this.now.cell);
+  }
+
   get drawn() {
     const { does, cell, last } = this.now;
     return { command: does, rect: rectOf(cell, last) };
@@ -54,10 +66,32 @@ export class Press {
     this.tell.dragged(this.drawn);
   }
 
+  /** The point goes to another cell. */
+  takePoint(cell) {
+    Object.assign(this.now, { last: cell, moved: true });
+    this.tell.moving(this.now.point, cell);
+  }
+
+  /** The robot turns towards a place. */
+  turn(place) {
+    this.now.moved = true;
+    this.tell.turns(this.now.cell, place);
+  }
+
+  /** The point is taken away, and the press ends. */
+  erasePoint() {
+    const { point } = this.now;
+    this.drop();
+    this.tell.erased(point);
+  }
+
   /** Does what the press is for. */
   release() {
-    const { cell, does, moved } = this.now ?? {};
+    const { cell, does, moved, point, last, erases } = this.now ?? {};
     if (cell && this.draws) this.tell.drawn(this.drawn);
+    else if (this.holdsPoint && erases && !moved) return this.erasePoint();
+    else if (this.holdsPoint && moved) this.tell.moved(point, last);
+    else if (cell && does === "robot") this.tell.stands(cell, moved);
     else if (cell && does === "path" && !moved) this.tell.clicked(cell);
     this.drop();
   }

@@ -75,6 +75,11 @@ export class Sight {
     return px >= left && py >= top && px <= this.width - right && py <= this.height - bottom;
   }
 
+  /** The place in cells under a pixel. */
+  place(px, py) {
+    return [px / this.scale + this.left, py / this.scale + this.top];
+  }
+
   /** The cell under a pixel; null outside the map. */
   cell(px, py) {
     const x = Math.floor(px / this.scale + this.left);

@@ -1,19 +1,25 @@
 // The page: it follows the versions of a server, and does what pointer, keys and buttons say.
 import { askPicture, follow } from "./ask.js";
+import { Changes } from "./changes.js";
 import { dark, fading, Scale } from "./colours.js";
 import { followButtons, give, undo } from "./commands.js";
+import { showHints } from "./hints.js";
 import { followKeys } from "./keys.js";
 import { drawLegend, endOf, firstRadius, roomOf } from "./legend.js";
-import { read, written } from "./link.js";
+import { followLink, read, written } from "./link.js";
 import { drawMarks } from "./marks.js";
 import { say, tellLost, tellState, unitOf, wait } from "./panel.js";
 import { Picture } from "./pieces.js";
+import { followPlace, showUnit } from "./places.js";
 import { followPointer } from "./pointer.js";
-import { choose, isDrawing, Press } from "./press.js";
+import { pointAt, withMoved, without } from "./points.js";
+import { choose, isDrawing, mode, Press } from "./press.js";
 import { Questions } from "./questions.js";
 import { drawPicture } from "./raster.js";
 import { drawRulers, Frame } from "./rulers.js";
+import { Robot } from "./robot.js";
 import { isAnotherRun, newsOfRun } from "./runs.js";
+import { followSave } from "./save.js";
 import { Sight } from "./sight.js";
 
 const by = (id) => document.getElementById(id);
@@ -21,12 +27,15 @@ const FINEST = 3; // pixels of a robot's radius at which the contour is drawn
 const sight = new Sight();
 const page = {
   state: {}, unit: "", picture: null, room: { needed: null, radius: null }, frame: null,
-  linked: false, pointed: null, path: { points: [] }, drafts: [], lost: [], dragged: null,
+  linked: false, pointed: null, path: { points: [] }, drafts: [], lost: [],
+  dragged: null, moving: null,
   get metric() { return by("metric").value; },
   get radius() { return by("radius").value.trim(); },
   get position() { return Number(by("position").value); },
 };
 const questions = new Questions(page, () => redraw("marks"));
+const changes = new Changes(() => redraw("marks"));
+const robot = new Robot(page, () => redraw("marks"));
 
 // ---- drawing
 
@@ -45,7 +54,8 @@ function draw() {
   const context = by("marks").getContext("2d");
   context.setTransform(devicePixelRatio, 0, 0, devicePixelRatio, 0, 0);
   context.clearRect(0, 0, sight.width, sight.height);
-  drawMarks(context, sight, page);
+  changes.draw(context, sight, page.picture);
+  robot.draw(context, sight, drawMarks(context, sight, page));
   drawRulers(context, sight, page.frame, page.picture.edge);
 }
 
@@ -118,6 +128,7 @@ function fitTo({ width, height }) {
   if (other) sight.fit();
   if (other) press.drop(); // it began on another map
   if (other && page.picture) page.path = { points: [] };
+  if (other) robot.lift();
   if (!page.linked) takeLink();
 }
 
@@ -128,6 +139,7 @@ function put(picture, needed) {
   redraw();
   if (page.pointed) questions.point();
   questions.way();
+  if (robot.shown) robot.ask();
   if (needed.of !== asked()) fieldsChanged();
 }
 
@@ -145,6 +157,7 @@ function takeLink() {
 /** The fields as the link has them, or else as the command line does. */
 function fillFields({ radius, resolution, width, height }) {
   page.unit = unitOf({ resolution });
+  showUnit(by("place"), page.unit);
   const found = read(location.hash, { width, height, unit: page.unit });
   by("radius").value = found.radius ?? (radius || firstRadius(resolution));
   if (found.position >= 2 && found.position <= 21) by("position").value = found.position;
@@ -171,7 +184,9 @@ function take(state) {
   page.drafts = state.draft.drawn;
   page.lost = state.draft.lost;
   tellState(state, page.picture);
+  changes.take(state);
   questions.tell();
+  if (robot.shown) robot.ask();
   if (state.fault) stopDrawing();
   if (!state.fault) showNewest();
   redraw("marks");
@@ -192,6 +207,21 @@ function walk(points) {
   keep();
 }
 
+/** Shows a cell in the middle, and aims at it. */
+function goTo(cell) {
+  sight.show([cell.x + 0.5, cell.y + 0.5], sight.scale);
+  tell.pointed(cell, true);
+  seen();
+}
+
+/** Takes the point away that is pointed at, where the pointer is for paths. */
+function erase() {
+  const cell = page.pointed?.cell;
+  if (!cell || mode() !== "path") return;
+  const found = tell.point(sight.pixel(cell.x + 0.5, cell.y + 0.5));
+  if (found >= 0) walk(without(page.path.points, found));
+}
+
 function seen() {
   redraw();
   keep();
@@ -202,28 +232,34 @@ async function fieldsChanged() {
   if (needed.of !== asked() || page.metric !== page.picture?.metric) return;
   page.room = needed;
   questions.way();
+  if (robot.shown) robot.ask();
   seen();
-}
-
-async function copyLink() {
-  keep();
-  await new Promise((settle) => setTimeout(settle, 250));
-  const copied = await navigator.clipboard.writeText(location.href).then(() => true, () => false);
-  const what = "it keeps the view and the path.";
-  say(copied ? `The link is copied: ${what}` : `Copy the page's address: ${what}`);
 }
 
 const press = new Press({
   clicked: (cell) => walk([...page.path.points, cell]),
   dragged(rectangle) {
-    page.dragged = rectangle;
+    Object.assign(page, { dragged: rectangle, moving: null });
+    if (!rectangle) robot.end(false);
     redraw("marks");
   },
+  moving(point, cell) {
+    page.moving = { point, cell };
+    redraw("marks");
+  },
+  moved: (point, cell) => walk(withMoved(page.path.points, point, cell)),
+  turns: (cell, place) => robot.turn(cell, place),
+  stands(cell, isTurned) {
+    if (isTurned) robot.end(true);
+    else robot.put(cell);
+  },
+  erased: (point) => walk(without(page.path.points, point)),
   drawn: ({ command, rect }) => give(command, { rect }),
 });
 const tell = {
   moved: seen,
   cell: () => page.pointed?.cell ?? null,
+  point: (place, kind) => pointAt(page.path.points, sight, place, kind),
   pointed(cell, byKeys = false) {
     const { pointed } = page;
     const same = cell?.x === pointed?.cell.x && cell?.y === pointed?.cell.y;
@@ -235,13 +271,19 @@ const tell = {
 };
 followPointer(by("marks"), sight, press, tell);
 const shorter = () => walk(page.path.points.slice(0, -1));
-followKeys(by("marks"), sight, press, tell, { Backspace: shorter, Undo: undo });
+followKeys(by("marks"), sight, press, tell, { Backspace: shorter, Delete: erase, Undo: undo });
+followPlace(page, sight, goTo);
 by("metric").addEventListener("change", () => { showNewest(); keep(); });
 by("radius").addEventListener("change", fieldsChanged);
 by("position").addEventListener("input", seen);
+by("show-changes").addEventListener("change", () => changes.take(page.state));
+by("lift").addEventListener("click", () => robot.lift());
 by("forget").addEventListener("click", () => walk([]));
-by("link").addEventListener("click", copyLink);
+followLink(keep);
+followSave(page);
 followButtons();
+showHints();
+questions.tellWay();
 dark.addEventListener("change", () => redraw());
 new ResizeObserver(resize).observe(by("marks"));
 window.clearmapView = { pixel: (x, y) => sight.pixel(x, y) }; // where a cell is, for tests
