@@ -107,8 +107,6 @@ class Screenshots(tests.InBrowser):
         dragged = self.to(192, 24).click_and_hold()
         self.to(203, 53, dragged).release().perform()
         self.until(lambda: self.button("publish").text == "Publish 2 changes")
-        panel = "document.getElementById('panel').scrollTo(0, 1000)"
-        self.driver.execute_script(panel)
         self.save("draft")
 
     def test_far(self):

@@ -21,7 +21,7 @@ class Servers(InBrowser):
         self.served.end()
         self.until(lambda: "can't be asked" in self.text("server"))
         commands = self.driver.find_elements(By.CSS_SELECTOR, "[data-command]")
-        self.assertEqual([it.is_enabled() for it in commands], [False] * 4)
+        self.assertEqual([it.is_enabled() for it in commands], [False] * 5)
         for name, live in (("look", True), ("path", True), ("paint", False), ("clear", False)):
             button = self.driver.find_element(By.CSS_SELECTOR, f"[data-mode={name}]")
             self.assertEqual(button.is_enabled(), live, name)

@@ -72,7 +72,7 @@ export class Robot {
   tell(answer) {
     const { drafts } = this.page;
     this.answer = answer;
-    by("robots").hidden = !answer;
+    by("robots").hidden = by("lift").disabled = !answer;
     const of = answer?.version !== undefined && drafts.length
       ? `, in version ${answer.version}; the draft isn't counted` : "";
     by("robot").textContent = answer ? answer.said + of : "";
