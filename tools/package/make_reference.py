@@ -50,7 +50,9 @@ def words(text):
 
 
 C_CALL = re.compile(
-    r"^(?:CLEARMAP_CHECKED\s+|static inline )?(\w[\w\s\*]*?\*?clearmap_\w+\([^;{]*\))(?:;| \{)", re.M
+    r"^(?:CLEARMAP_CHECKED\s+|static inline )?"
+    r"(\w[\w\s\*]*?\*?clearmap_\w+\([^;{]*\))(?:;| \{)",
+    re.M,
 )
 C_TYPE = re.compile(r"^(?:typedef struct|enum) clearmap_\w+ \{.*?^\}[^;]*;", re.M | re.S)
 COMMENT = re.compile(r"^/\*(?P<said>(?:(?!\*/).)*)\*/\n", re.M | re.S)
@@ -184,7 +186,8 @@ def python_part():
 
 def page():
     """The whole page."""
-    return f"{HEAD}\n## Calls for C\n{c_part()}\n## Classes for C++\n{cpp_part()}\n## Python\n{python_part()}"
+    parts = ("Calls for C", c_part()), ("Classes for C++", cpp_part()), ("Python", python_part())
+    return HEAD + "".join(f"\n## {name}\n{text}" for name, text in parts)
 
 
 def main():
