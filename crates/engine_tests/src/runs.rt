@@ -52,7 +52,7 @@ static TOLD: [(&[&str], &str, &str, u8); 22] = [
     (
         &["clearmap"],
         "",
-        "error: 'clearmap' requires a subcommand but one was not provided\n  [subcommands: dist, steps, serve, ask, help]\n\nUsage: clearmap <COMMAND>\n\nFor more information, try '--help'.\n",
+        "error: 'clearmap' requires a subcommand but one was not provided\n  [subcommands: dist, serve, ask, steps, help]\n\nUsage: clearmap <COMMAND>\n\nFor more information, try '--help'.\n",
         2,
     ),
     (
