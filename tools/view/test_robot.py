@@ -199,6 +199,27 @@ class OnThePage(InBrowser):
         self.driver.find_element(By.ID, "lift").click()
         self.until(lambda: not self.driver.find_element(By.ID, "robots").is_displayed())
 
+    def test_no_answer_is_of_another_pose(self):
+        """While the answer for a new pose is on its way, nothing of the one before is drawn."""
+        self.open()
+        told = self.driver.execute_async_script(
+            """const [done] = arguments;
+            import("/robot.js").then(async ({ Robot }) => {
+              const page = { radius: "1", unit: "cells", drafts: [], state: {} };
+              const [robot, fetched] = [new Robot(page, () => {}), window.fetch];
+              const hit = { hits: true, length: "it hits", said: "it hits", version: 0 };
+              window.fetch = async () => new Response(JSON.stringify(hit));
+              robot.put({ x: 1, y: 1 });
+              await new Promise((settle) => setTimeout(settle, 200));
+              const first = robot.told?.length;
+              window.fetch = () => new Promise(() => {});
+              robot.put({ x: 3, y: 1 });
+              window.fetch = fetched;
+              done([first, robot.told]);
+            });"""
+        )
+        self.assertEqual(told, ["it hits", None])
+
     def test_a_disc(self):
         self.open(view=["--radius", "0.5"])
         ActionChains(self.driver).send_keys("r").perform()

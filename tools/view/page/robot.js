@@ -20,7 +20,12 @@ export function placed(outline, { cell, theta }) {
 export class Robot {
   constructor(page, redraw) {
     Object.assign(this, { page, redraw, pose: null, turning: null, answer: null });
-    Object.assign(this, { asking: false, stale: false });
+    Object.assign(this, { asking: false, stale: false, known: false });
+  }
+
+  /** What is known of the robot as it is shown: nothing of an earlier pose, radius or version. */
+  get told() {
+    return this.known ? this.answer : null;
   }
 
   get shown() {
@@ -53,7 +58,7 @@ export class Robot {
   }
 
   async ask() {
-    this.stale = true;
+    Object.assign(this, { stale: true, known: false });
     if (!this.shown) this.tell(null);
     this.redraw();
     if (this.asking) return;
@@ -64,6 +69,7 @@ export class Robot {
       const fault = ({ message }) => ({ said: message, length: "" });
       const told = await askRobot(this.shown, radius, unit).catch(fault);
       if (this.shown) this.tell(told);
+      this.known = !this.stale;
       this.redraw();
     }
     this.asking = false;
@@ -83,12 +89,12 @@ export class Robot {
   draw(context, sight, other) {
     const pose = this.shown;
     if (!pose) return;
-    const colour = this.answer?.hits ? NO_ROOM : DARK;
+    const colour = this.told?.hits ? NO_ROOM : DARK;
     const { footprint } = this.page.state;
     const middle = sight.pixel(pose.cell.x + 0.5, pose.cell.y + 0.5);
     if (footprint?.length) this.drawOutline(context, sight, placed(footprint, pose), colour);
     else drawDisc(context, middle, this.page.room.radius * sight.scale, colour);
-    const { length, version, hits } = this.answer ?? {};
+    const { length, version, hits } = this.told ?? {};
     const of = this.page.drafts.length ? version : undefined;
     const text = lengthSaid(sight, length, of);
     label(context, sight, middle, text, hits ? { colour: NO_ROOM, other } : { other });
