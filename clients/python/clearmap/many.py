@@ -51,14 +51,20 @@ class Nears(NamedTuple):
 # ---- columns and rows
 
 
+def refuse_mask(name: str, given: object) -> None:
+    """TypeError for a masked array, whose mask would be left out."""
+    if isinstance(given, numpy().ma.MaskedArray):
+        what = "give the numbers that count, as by compressed()"
+        raise TypeError(f"{name} is a masked array: {what}")
+
+
 def numbers_of(name: str, given: object) -> Any:
     """An array of whole numbers. TypeError for anything else: no number is rounded, and none of a
     mask taken."""
     np = numpy()
     numbers = given if type(given) is np.ndarray else np.asarray(given)
     kind = numbers.dtype.kind
-    if isinstance(given, np.ma.MaskedArray):
-        raise TypeError(f"{name} is a masked array: give the numbers that count, as by compressed()")
+    refuse_mask(name, given)
     if kind in "iu":
         return numbers
     if not numbers.size and kind == "f":  # as of an empty list

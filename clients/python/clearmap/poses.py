@@ -8,6 +8,7 @@ from typing import Any, List, Sequence, Tuple
 
 from .held import Held
 from .library import BENT, check, library, numpy, quick
+from .many import refuse_mask
 from .polygons import STEPS, UNIT, Corner, hull, turned
 
 PIECE = 1 << 13  # poses of a call
@@ -45,8 +46,7 @@ def reals(*named: Tuple[str, object]) -> List[Any]:
     np = numpy()
     arrays = []
     for name, given in named:
-        if isinstance(given, np.ma.MaskedArray):
-            raise TypeError(f"{name} is a masked array: give the numbers that count, as compressed()")
+        refuse_mask(name, given)
         numbers = np.asarray(given)
         if numbers.dtype.kind not in "biuf":
             raise TypeError(f"{name} has the dtype {numbers.dtype}, where numbers are wanted")
