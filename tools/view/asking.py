@@ -67,6 +67,16 @@ def root_above(number: int) -> Fraction:
     return below if below * below == number else below + Fraction(1, 10**9)
 
 
+def cells_below(distance: int, metric: str) -> Fraction:
+    """A distance in cells or steps, rounded down."""
+    return ros.root_below(distance) if metric == "euclid2" else Fraction(distance)
+
+
+def cells_above(distance: int, metric: str) -> Fraction:
+    """The same, rounded up."""
+    return root_above(distance) if metric == "euclid2" else Fraction(distance)
+
+
 def label(length: str) -> str:
     """A length as it stands on the map."""
     return "unknown" if length == UNKNOWN else length
@@ -88,33 +98,27 @@ class Asking:
         if distance == 0:
             return UNKNOWN if self.is_unknown(cell) else "in an obstacle"
         frame = self.following.frame_of(self.following.newest())
-        if metric == "euclid2":
-            words, cells = f"{math.sqrt(distance):.2f} cells", ros.root_below(distance)
-        else:
-            words, cells = counted(distance, "step"), Fraction(distance)
+        is_straight = metric == "euclid2"
+        words = f"{math.sqrt(distance):.2f} cells" if is_straight else counted(distance, "step")
         if frame is None:
             return words
-        return f"{words}, {math.floor(1000 * cells * frame.resolution) / 1000:.3f} m"
+        unit = exact.unit_of(frame)
+        return f"{words}, {unit.told(unit.below(cells_below(distance, metric)))} {unit.name}"
 
     def needed_length(self, needed: int, metric: str) -> str:
         """How far CLEAROF wants a cell to be, rounded up."""
         frame = self.following.frame_of(self.following.newest())
-        cells = root_above(needed) if metric == "euclid2" else Fraction(needed)
-        if frame is not None:
-            length = f"{math.ceil(1000 * cells * frame.resolution) / 1000:.3f} m"
-        elif metric == "euclid2":
-            length = f"{math.ceil(100 * cells) / 100:.2f} cells"
-        else:
+        unit = exact.unit_of(frame, metric)
+        length = f"{unit.told(unit.above(cells_above(needed, metric)))} {unit.name}"
+        if frame is None and metric != "euclid2":
             length = counted(needed, "step")
         return f"{length} needed, middle to middle"
 
     def share(self, distance: int, needed: int, metric: str) -> str:
         """A distance of the needed one: rounded down, and that up, unless it is enough."""
         unit = exact.unit_of(self.following.frame_of(self.following.newest()), metric)
-        if metric == "euclid2":
-            there, wanted = unit.below(ros.root_below(distance)), unit.above(root_above(needed))
-        else:
-            there, wanted = unit.below(Fraction(distance)), unit.above(Fraction(needed))
+        there = unit.below(cells_below(distance, metric))
+        wanted = unit.above(cells_above(needed, metric))
         if distance >= needed:
             wanted = min(wanted, there)
         return f"{unit.told(there)} of {unit.told(wanted)} {unit.name}"
